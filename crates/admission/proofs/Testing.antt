@@ -1,10 +1,10 @@
 -- The tests of a change decide whether it may follow.
-use Rattle.std.proofs.Common.{◌≡◌, ◌<◌, ◌≤◌, ◌↔◌, ℕ, ◌+◌, Bool, true, false, List, [], length, get_or, map, refl, sym, ◌∙◌, ap, arith}
+use Rattle.std.proofs.Common.{◌≡◌, ◌<◌, ◌≤◌, ◌↔◌, ℕ, ◌+◌, Bool, true, false, List, [], length, get_or, refl, sym, ◌∙◌, ap, arith}
 use Rattle.std.proofs.Common.{Option, Some, None}
 use Rattle.std.specs.Prelude.{bytes_eq, ◌&&◌, not, nat_le, filter, option_map, is_some, IsTrue}
 use Rattle.std.specs.List.{list_all}
 use Rattle.std.proofs.lemmas.Bool.{true≢false, and_parts, le-leb, leb-true, not-true, and_from}
-use Rattle.std.proofs.lemmas.List.{get_or-map, get_or_read, length-map}
+use Rattle.std.proofs.lemmas.List.{get_or_read, length-map}
 use Rattle.std.proofs.lemmas.Slice.Eq.{bytes_eq-Decides}
 use Rattle.model.specs.Stream.{Octets}
 use Rattle.model.specs.Names.{is_group_name}
@@ -106,7 +106,7 @@ some_by (Some a) n is none = absurd (cc)
 
 pub filed_by_test : (host : Octets) (S : Spool) (f : Filing) (here : List Octets) (serial : ℕ) → cause Carried f.text ≡ None
     → here ≡ filter (is_here S) (groups_of f.text) → serial ≡ length S + 1
-    → here ≡ f.groups → 0 < length f.groups → f.moment < moment_limit → MayHaveId host S serial (id f.text) → MayFile host S f
+    → here ≡ f.envelope.groups → 0 < length f.envelope.groups → f.envelope.moment < moment_limit → MayHaveId host S serial (id f.text) → MayFile host S f
 filed_by_test host S f here serial carried here_are count same some early may = record {
   carried = carried;
   filed = sym same ∙ here_are;
@@ -122,23 +122,15 @@ id_of_filed host S f serial count may = record { new = may.new; own = λ own. ma
 
 -- ---- names in the same order
 
-module _ {B : Type 0} (names : List Octets) (others : List B) (now : B → Octets) (i : ℕ) (d : B) (x : Octets) (differ : Bool)
-    (low : i < length names) (size : length names ≡ length others) (is : x ≡ get_or names i x)
-    (test : differ ≡ not (bytes_eq x (now (get_or others i d)))) where
-  other_at : (e : Octets) → get_or (map now others) i e ≡ now (get_or others i d)
-  other_at e = get_or-map now others i d e (omega arith)
+-- the name at a place, in two lists
+module _ (names others : List Octets) (i : ℕ) (x y : Octets) (same : Bool) (low : i < length names) (size : length names ≡ length others)
+    (is : x ≡ get_or names i x) (other : y ≡ get_or others i y) (test : same ≡ bytes_eq x y) where
+  pub other_names : same ≡ false → names ≡ others → ⊥
+  other_names differ equal =
+      let one : x ≡ y = get_or_read names i x low is y ∙ ap (λ (os : List Octets). get_or os i y) equal ∙ sym other in
+      true≢false (sym ((bytes_eq-Decides x y).1 one) ∙ sym test ∙ differ)
 
-  pub other_names : differ ≡ true → names ≡ map now others → ⊥
-  other_names differs same =
-      let one : x ≡ now (get_or others i d) = is ∙ ap (λ (os : List Octets). get_or os i x) same ∙ other_at x in
-      true≢false (sym differs ∙ test ∙ ap not ((bytes_eq-Decides x (now (get_or others i d))).1 one))
-
-  pub same_name : differ ≡ false → get_or names i [] ≡ get_or (map now others) i []
+  pub same_name : same ≡ true → get_or names i [] ≡ get_or others i []
   same_name equal =
-      let one : x ≡ now (get_or others i d) =
-      (bytes_eq-Decides x (now (get_or others i d))).0 (not-false (bytes_eq x (now (get_or others i d))) (sym test ∙ equal)) in
-      sym (get_or_read names i x low is []) ∙ one ∙ sym (other_at [])
-    where
-      not-false : (b : Bool) → not b ≡ false → b ≡ true
-      not-false true same = refl
-      not-false false same = absurd (true≢false same)
+      sym (get_or_read names i x low is []) ∙ (bytes_eq-Decides x y).0 (sym test ∙ equal)
+      ∙ get_or_read others i y (omega (arith, size, low)) other []

@@ -1,6 +1,6 @@
 //! Whether an article may be filed.
 
-ghost use Rattle.std.specs.Prelude.{◌≡◌, ◌+◌, ◌↔◌, IsTrue, None, filter, length, map, IfOk};
+ghost use Rattle.std.specs.Prelude.{◌≡◌, ◌+◌, ◌↔◌, IsTrue, None, filter, length, IfOk};
 ghost use Rattle.model.specs.Article as model_article;
 ghost use Rattle.model.specs.Article.{Carried, cause};
 ghost use Rattle.model.specs.Lawful.{MayFile};
@@ -11,7 +11,7 @@ ghost use Rattle.admission.specs.Fields.{MayHaveId};
 
 use article::{Article, made_id};
 use index::Index;
-use model::{Moment, Text};
+use model::{Envelope, Text};
 use names::is_of_host;
 use std::alloc::{AllocError, Global};
 
@@ -46,21 +46,21 @@ fn may_have_id(
 }
 
 /// Whether these are the same names in the same order.
-fn are_same(names: &[Text], others: &[&[u8]]) -> bool
-    ensures { IsTrue result ↔ (names.now ≡ map (λ other. other.now) others.now) }
+fn are_same(names: &[Text], others: &[Text]) -> bool
+    ensures { IsTrue result ↔ (names.now ≡ others.now) }
 {
     if names.len() != others.len() {
         return false;
     }
     for i in 0..names.len() {
-        if names[i].as_slice() != others[i] {
+        if !names[i].is(&others[i]) {
             return false;
         }
     }
     true
 }
 
-/// Whether a carried article that has no cause for refusal may be filed in these groups; `here` are those of its own
+/// Whether a carried article that has no cause for refusal may be filed with this envelope; `here` are those of its own
 /// groups that exist. Refused only for want of memory.
 pub fn may_file(
     alloc: Global,
@@ -69,15 +69,16 @@ pub fn may_file(
     serial: u64,
     article: &Article<'_>,
     here: &[Text],
-    groups: &[&[u8]],
-    moment: Moment,
+    envelope: &Envelope,
 ) -> Result<bool, AllocError>
     requires { cause Carried article.now ≡ None }
     ensures { IfOk result (λ may. (S : Spool) → Indexes S index.now
         → here.now ≡ filter (spool.is_here S) (model_article.groups_of article.now) → serial ≡ length S + 1
-        → (IsTrue may ↔ MayFile host.now S (record { text = article.now; groups = map (λ g. g.now) groups.now; moment = moment }))) }
+        → (IsTrue may ↔ MayFile host.now S (record { text = article.now; envelope = envelope.now }))) }
 {
-    let _seconds = moment.seconds();
+    let groups = envelope.groups.as_slice();
+    // its clauses state that the moment is before the year 10000
+    let _seconds = envelope.moment.seconds();
     if groups.is_empty() {
         return Ok(false);
     }

@@ -8,7 +8,7 @@ ghost use Rattle.model.specs.declared.change.Change.TheVariants as change;
 
 use article::Article;
 use lookups::LookUps;
-use model::{Moment, Text};
+use model::Envelope;
 
 /// Why an article was not filed.
 #[derive(Clone, Copy, Debug, Drop, PartialEq, Eq)]
@@ -30,17 +30,12 @@ pub trait ChangeSpool: LookUps {
     /// Relates two values: the second is the first with this change added as the last one.
     ghost adds: { Self → Self → ChangeView → Type 0 };
 
-    /// Files an article in these groups, at the given moment. Its change must be one that may follow.
+    /// Files an article with this envelope. Its change must be one that may follow.
     /// Refused as `Full` exactly if there is no room, and otherwise only as `Memory`; a refusal changes nothing.
-    fn file(
-        &mut self,
-        article: &Article<'_>,
-        groups: &[Text],
-        moment: Moment,
-    ) -> Result<(), FilingError>
+    fn file(&mut self, article: &Article<'_>, envelope: &Envelope) -> Result<(), FilingError>
         requires { IsLawful (Self.host_of self.old)
-            (Self.changes self.old ++ change.Article (record { text = article.now; groups = groups.now; moment = moment }) ∷ []) }
-        ensures { let its = change.Article (record { text = article.now; groups = groups.now; moment = moment }) in MatchResult result
+            (Self.changes self.old ++ change.Article (record { text = article.now; envelope = envelope.now }) ∷ []) }
+        ensures { let its = change.Article (record { text = article.now; envelope = envelope.now }) in MatchResult result
             (λ done. (lacks_room self.old its ≡ false) × adds self.old self.new its)
             (λ error. (((error ≡ FilingError.Memory) × (lacks_room self.old its ≡ false))
             ⊎ ((error ≡ FilingError.Full) × (lacks_room self.old its ≡ true))) × (self.new ≡ self.old)) };

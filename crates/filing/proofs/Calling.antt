@@ -7,8 +7,8 @@ use Rattle.std.proofs.lemmas.List.Sums.{sum_by-append}
 use Rattle.std.proofs.lemmas.Bool.{cases_eq}
 use Rattle.model.specs.Stream.{Octets}
 use Rattle.model.specs.Files.{File, HasRoom, IsFile, IsFileSystem, entry, files_in, free_blocks, size, table}
-use Rattle.model.specs.Room.{blocks_taken}
-use Rattle.model.specs.SpoolFiles.{FileCall, Create, Append, after_call, after_calls}
+use Rattle.model.specs.Asked.{blocks_taken}
+use Rattle.model.specs.FileCalls.{FileCall, Create, Append, after_call, after_calls}
 use Rattle.model.proofs.Asking.{files_grow_by_blocks}
 use Rattle.model.proofs.Inodes.{appends_to_one, creates_one}
 use Rattle.model.proofs.Owning.{content_size}

@@ -8,8 +8,8 @@ use Rattle.std.proofs.lemmas.List.Sums.{sum_by-append, sum_by-cons}
 use Rattle.std.proofs.lemmas.Option.{same_Some, slice_get-get_or}
 use Rattle.model.specs.Stream.{Octets}
 use Rattle.model.specs.Files.{File, HasRoom, IsFileSystem, free_blocks, table}
-use Rattle.model.specs.Room.{blocks_taken}
-use Rattle.model.specs.SpoolFiles.{FileCall, Append}
+use Rattle.model.specs.Asked.{blocks_taken}
+use Rattle.model.specs.FileCalls.{FileCall, Append}
 use Rattle.fs.specs.Calls.{IsFileAt}
 use Rattle.fs.specs.Touches.{Touches, touched_by_growth}
 use Rattle.fs_inodes.proofs.Grown.{one_name}

@@ -4,9 +4,9 @@ use Rattle.std.specs.Prelude.{Option, Some, None, option_map, IsPermutation}
 use Rattle.std.specs.List.{sum_by}
 use Rattle.model.specs.Stream.{Octets}
 use Rattle.model.specs.Files.{File, HasRoom, IsFileSystem, files_in, free_blocks, table}
-use Rattle.model.specs.Room.{blocks_taken}
-pub use Rattle.model.specs.Room.{blocks_for_more}
-use Rattle.model.specs.SpoolFiles.{FileCall, Create, Append, after_calls, making_calls}
+use Rattle.model.specs.Asked.{blocks_taken}
+pub use Rattle.model.specs.Asked.{blocks_for_more}
+use Rattle.model.specs.FileCalls.{FileCall, Create, Append, after_calls, making_calls}
 use Rattle.fs.specs.Calls.{IsFileAt}
 use Rattle.fs.specs.Growing.{KeepsMarks}
 use Rattle.fs.specs.Touches.{touched_by_growth}

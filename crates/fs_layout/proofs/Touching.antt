@@ -7,7 +7,8 @@ use Rattle.std.proofs.lemmas.List.{get_or-set_other}
 use Rattle.std.proofs.lemmas.List.Elements.{Contains-append_left, Contains-append_right, Contains-push_cases}
 use Rattle.std.proofs.lemmas.List.FromFn.{length-map-range_with_len, get_or-map-range_with_len}
 use Rattle.model.specs.Stream.{Octets}
-use Rattle.model.specs.Room.{content_blocks, pointers_put}
+use Rattle.model.specs.Asked.{pointers_put}
+use Rattle.model.specs.Room.{content_blocks}
 use Rattle.fs_layout.specs.Blocks.{PutsRecord}
 use Rattle.fs_layout.specs.Touches.{SameBut, Touches, TouchesInode, TouchesData, inode_block, slot_block, double_of, table_of}
 use Rattle.fs_layout.specs.Touches.{blocks_reached, touched_by_cut, touched_by_growth}

@@ -3,7 +3,8 @@ use Rattle.std.specs.Prelude.{◌≡◌, ◌≢◌, ◌⊎◌, ◌<◌, ◌≤�
 use Rattle.std.specs.List.{Contains}
 use Rattle.model.specs.Stream.{Octets}
 use Rattle.model.specs.Files.{double_pointer, entry_of, indirect_pointer, inode_of}
-use Rattle.model.specs.Room.{blocks_appended, content_blocks, pointers_put}
+use Rattle.model.specs.Asked.{blocks_appended, pointers_put}
+use Rattle.model.specs.Room.{content_blocks}
 
 -- no block changes except the two of the bitmap and these
 abbrev pub SameBut : List ℕ → List Octets → List Octets → Type 0

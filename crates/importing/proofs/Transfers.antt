@@ -12,14 +12,13 @@ use Rattle.model.specs.Article.{is_blank_field, is_named, lacks_field, long_caus
 use Rattle.model.specs.Calendar.{moment_limit}
 use Rattle.model.specs.Lawful.{MayFile}
 use Rattle.model.specs.Names.{is_of_host}
-use Rattle.model.specs.Spool.{NewsArticle, Spool, by_id, is_here}
+use Rattle.model.specs.Spool.{NewsArticle, Spool, by_id, filing_of, is_here}
 use Rattle.model.specs.Stream.{Octets}
 use Rattle.model.proofs.Ids.{field_counted, no_cause}
 use Rattle.model.proofs.Fronts.{first_none, none_mapped}
 use Rattle.change_spool.specs.declared.FilingError.{FilingError}
 use Rattle.change_spool.specs.declared.FilingError.TheVariants as file
 use Rattle.posting_commands.proofs.Telling.{transfer_filed}
-use Rattle.importing.specs.Filing.{filing}
 
 -- ---- an article that was carried has a message-id
 
@@ -89,7 +88,7 @@ is_accepted S text own groups carried is new are some =
 pub may_file : (host : Octets) (S : Spool) (text own : Octets) (groups : List Octets) (moment : ℕ) → cause Carried text ≡ None
     → own_id text ≡ Some own → is_of_host host own ≡ false → by_id S own ≡ None → groups ≡ groups_here S text → 0 < length groups
     → moment < moment_limit
-    → MayFile host S (filing text groups moment)
+    → MayFile host S (filing_of text groups moment)
 may_file host S text own groups moment carried is foreign new are some early =
     let same = own_is text own is in
     record {

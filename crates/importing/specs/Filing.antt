@@ -3,10 +3,9 @@ use Rattle.std.specs.Prelude.{◌≡◌, ℕ, ◌+◌, List, Some, None, length,
 use Rattle.model.specs.Answer as answers
 use Rattle.model.specs.Article.{Carried, cause, id}
 use Rattle.model.specs.Names.{is_of_host}
-use Rattle.model.specs.Spool.{NewsArticle}
+use Rattle.model.specs.Spool.{NewsArticle, filing_of}
 use Rattle.model.specs.Stream.{Octets}
 use Rattle.model.specs.declared.change.Change.TheVariants.{Article}
-use Rattle.model.specs.declared.change.Filing.{Filing}
 use Rattle.spool.specs.Refusals.{is_full_for}
 use Rattle.spool.specs.View.{Adds, SpoolView}
 use Rattle.importing.specs.declared.outcome.TextOutcome.{TextOutcome}
@@ -24,20 +23,16 @@ has_own_id s text = is_of_host s.host (id text) ≡ true
 abbrev pub IsOffered : SpoolView → Octets → Type 0
 IsOffered s text = is_of_host s.host (id text) ≡ false
 
--- what is filed of a text, in these groups, at a moment
-abbrev pub filing : Octets → List Octets → ℕ → Filing
-filing text groups moment = record { text = text; groups = groups; moment = moment }
-
 -- when each outcome occurs, and the spool afterwards
 abbrev pub Becomes : SpoolView → SpoolView → Octets → ℕ → TextOutcome → Type 0
 Becomes old new text moment (Filed serial) =
     IsOffered old text × (serial ≡ length old.changes + 1)
     × ((groups : List Octets) × (transferred old text ≡ answers.accepted groups)
-    × (is_full_for old (Article (filing text groups moment)) ≡ false) × Adds old new (Article (filing text groups moment)))
+    × (is_full_for old (Article (filing_of text groups moment)) ≡ false) × Adds old new (Article (filing_of text groups moment)))
 Becomes old new text moment Full =
     IsOffered old text
     × ((groups : List Octets) × (transferred old text ≡ answers.accepted groups)
-    × (is_full_for old (Article (filing text groups moment)) ≡ true))
+    × (is_full_for old (Article (filing_of text groups moment)) ≡ true))
     × (new ≡ old)
 Becomes old new text moment Here = IsOffered old text × ((a : NewsArticle) × (transferred old text ≡ answers.id_here a)) × (new ≡ old)
 Becomes old new text moment NoGroup = IsOffered old text × (transferred old text ≡ answers.no_group_here) × (new ≡ old)

@@ -9,7 +9,7 @@ use crate::{TextOutcome, TextRefusal};
 use article::{Article, Origin, ReadError};
 use change_spool::FilingError;
 use lookups::{LookUps, find_group, find_id};
-use model::{Moment, Text};
+use model::{Envelope, Moment, Names, Text};
 use names::is_of_host;
 use spool::Spool;
 use std::alloc::{AllocError, Global};
@@ -87,7 +87,11 @@ fn file_new(
     }
     // its clauses state that the moment is before its limit
     let _seconds = moment.seconds();
-    match spool.add_article(article, &groups, moment) {
+    let envelope = Envelope {
+        groups: Names::new(groups),
+        moment,
+    };
+    match spool.add_article(article, &envelope) {
         Ok(serial) => Ok(TextOutcome::Filed(serial)),
         Err(FilingError::Full) => Ok(TextOutcome::Full),
         Err(FilingError::Memory) => Err(AllocError),

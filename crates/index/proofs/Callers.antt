@@ -17,9 +17,10 @@ use Rattle.model.specs.Layout.{Holds}
 use Rattle.model.specs.Lawful.{MayFile}
 use Rattle.model.specs.Names.{is_group_name}
 use Rattle.model.specs.Spool.{Spool, NewsGroup, articles, expiries, group_named, groups, is_here, is_name}
-use Rattle.model.specs.SpoolFiles.{article_file, expiry_file, files_by_kind, files_of, group_files, overview_file, overview_name}
+use Rattle.model.specs.FileKinds.{article_file, expiry_file, files_by_kind, group_files}
+use Rattle.model.specs.SpoolFiles.{files_of, overview_file, overview_name}
 use Rattle.model.specs.declared.change.Filing.{Filing}
-use Rattle.model.proofs.ByKind.{files_kinds}
+use Rattle.model.proofs.ByKind.{overview_there}
 use Rattle.model.proofs.HoldsOne.{carried_cause}
 use Rattle.model.proofs.Ids.{no_cause}
 use Rattle.model.proofs.Joined.{bytes_swap, map_twice}
@@ -61,44 +62,17 @@ fewer p (n ∷ names) = by_test (p n) (fewer p names) where
   by_test false rest = omega arith
 
 -- what `push_article` asks for, by `MayFile`
-pub few_groups : (host : Octets) (S : Spool) (f : Filing) → MayFile host S f → length f.groups ≤ 16
+pub few_groups : (host : Octets) (S : Spool) (f : Filing) → MayFile host S f → length f.envelope.groups ≤ 16
 few_groups host S f may =
     let names = groups_of f.text in
     let good = and_parts (nat_le (length names) 16 && list_all is_group_name names) (are_distinct names)
     (no_cause Carried f.text (carried_cause f.text may.carried)).good_groups in
     let few : length names ≤ 16 =
     leb-true (length names) 16 (and_parts (nat_le (length names) 16) (list_all is_group_name names) good.0).0 in
-    let count : length f.groups ≡ length (filter (is_here S) names) = ap (λ (l : List Octets). length l) may.filed in
+    let count : length f.envelope.groups ≡ length (filter (is_here S) names) = ap (λ (l : List Octets). length l) may.filed in
     omega (arith, few, count, fewer (is_here S) names)
 
 -- ---- overviews that blocks hold
-
--- the overview of a group is a file of the spool
-file_of : Spool → NewsGroup → File
-file_of S g = record { name = overview_name g.name; content = overview_file S g.name }
-
-abbrev among_groups : (S : Spool) (gs : List NewsGroup) (k : ℕ) (g : NewsGroup) → Type 0
-among_groups S gs k g = Contains (flat_map (group_files S) gs) (record { name = overview_name g.name; content = overview_file S g.name })
-
-in_groups : (S : Spool) (gs : List NewsGroup) (k : ℕ) (g : NewsGroup) → k < length gs → get_or gs k g ≡ g → among_groups S gs k g
-in_groups S [] k g low at = absurd (omega arith)
-in_groups S (h ∷ gs) zero g low at =
-    Contains-append_left (group_files S h) (flat_map (group_files S) gs)
-    (record { name = overview_name g.name; content = overview_file S g.name })
-    (2, (omega arith), ap (λ (n : NewsGroup). record { name = overview_name n.name; content = overview_file S n.name }) at)
-in_groups S (h ∷ gs) (suc k) g low at =
-    Contains-append_right (group_files S h) (flat_map (group_files S) gs)
-    (record { name = overview_name g.name; content = overview_file S g.name })
-    (in_groups S gs k g (omega arith) at)
-
-overview_there : (S : Spool) (g : NewsGroup) → Contains (groups S) g
-    → Contains (files_of S) (record { name = overview_name g.name; content = overview_file S g.name })
-unfolding files_by_kind
-overview_there S g among =
-    let f : File = record { name = overview_name g.name; content = overview_file S g.name } in
-    Contains-permutation (files_by_kind S) (files_of S) f (IsPermutation-sym (files_of S) (files_by_kind S) (files_kinds S))
-    (Contains-append_left (flat_map (group_files S) (groups S)) (map article_file (articles S) ++ map expiry_file (expiries S)) f
-    (in_groups S (groups S) among.0 g among.1 among.2))
 
 -- a file that is held has the octets of an inode
 record IsHeld (inodes : ℕ) (blocks : List Octets) (f : File) : Type 0 where

@@ -16,13 +16,14 @@ use Rattle.model.specs.Indexed.{GroupIndex, ends_from, group_index, line_start, 
 use Rattle.model.specs.Lawful.{IsLawful, MayExpire, MayFile, MayMake}
 use Rattle.model.specs.Spool.{Spool, Entry, entries_from, entries, NewsArticle, NewsGroup, article_filed, articles, by_id, filed_in}
 use Rattle.model.specs.Spool.{group_made, group_named, groups, has_id, is_here, is_name, news_article, news_group}
-use Rattle.model.specs.SpoolFiles.{next_line, overview_file, overview_lines, overview_of}
+use Rattle.model.specs.FileCalls.{next_line}
+use Rattle.model.specs.SpoolFiles.{overview_file, overview_lines, overview_of}
 use Rattle.model.specs.declared.change.Change.{Change}
 use Rattle.model.specs.declared.change.Change.TheVariants.{Group, Article, Expire}
 use Rattle.model.specs.declared.change.Expiry.{Expiry}
 use Rattle.model.specs.declared.change.Filing.{Filing}
 use Rattle.model.specs.declared.change.NewGroup.{NewGroup}
-use Rattle.model.proofs.Growing.{entries_push}
+use Rattle.model.proofs.Growing.{entries_more, filter_distinct, groups_more}
 use Rattle.model.proofs.HoldsOne.{carried_cause}
 use Rattle.model.proofs.Ids.{no_cause}
 use Rattle.model.proofs.Indexing.{articles_grow, empty_index, expiries_grow, groups_grow}
@@ -44,7 +45,7 @@ none_indexed x notes groups' ids = record {
 
 -- ---- how many
 
-entries_count : (n : ℕ) (S : Spool) → length (entries_from n S) ≡ length S
+pub entries_count : (n : ℕ) (S : Spool) → length (entries_from n S) ≡ length S
 entries_count n [] = refl
 entries_count n (c ∷ S) = ap suc (entries_count (suc n) S)
 
@@ -63,28 +64,18 @@ new_serial S x notes count same is counted = let all : length notes ≡ length S
 
 -- ---- one change more
 
-more_entries : (S : Spool) (c : Change) → entries (S ++ c ∷ []) ≡ entries S ++ record { serial = length S + 1; change = c } ∷ []
-unfolding entries
-more_entries S c = entries_push 1 S c
-
 notes_more : (S : Spool) (x : IndexView) (c : Change) → Indexes S x
     → x.notes ++ kept (record { serial = length S + 1; change = c }) ∷ [] ≡ map kept (entries (S ++ c ∷ []))
 notes_more S x c is =
     let e : Entry = record { serial = length S + 1; change = c } in
     ap (λ ns. ns ++ kept e ∷ []) is.notes_are
     ∙ sym (map_push kept (entries S) e)
-    ∙ ap (map kept) (sym (more_entries S c))
-
-groups_of_more : (S : Spool) (c : Change)
-    → groups (S ++ c ∷ []) ≡ groups S ++ filter_map group_made (record { serial = length S + 1; change = c } ∷ [])
-unfolding groups
-groups_of_more S c = ap (filter_map group_made) (more_entries S c)
-    ∙ filter_map-append group_made (entries S) (record { serial = length S + 1; change = c } ∷ [])
+    ∙ ap (map kept) (sym (entries_more S c))
 
 articles_of_more : (S : Spool) (c : Change)
     → articles (S ++ c ∷ []) ≡ articles S ++ filter_map article_filed (record { serial = length S + 1; change = c } ∷ [])
 unfolding articles
-articles_of_more S c = ap (filter_map article_filed) (more_entries S c)
+articles_of_more S c = ap (filter_map article_filed) (entries_more S c)
     ∙ filter_map-append article_filed (entries S) (record { serial = length S + 1; change = c } ∷ [])
 
 -- no article more
@@ -137,7 +128,7 @@ group_indexed host S x y created new note lawful may is notes note_is groups' ne
       ∙ sym (groups_grow.its_own host S created g lawful may refl))
       ∙ ap (λ (gs : List GroupIndex). gs ++ group_index R g ∷ []) (is.groups_are
       ∙ sym (groups_apart S created may.new))
-      ∙ sym (map_push (group_index R) (groups S) g) ∙ ap (map (group_index R)) (sym (groups_of_more S c));
+      ∙ sym (map_push (group_index R) (groups S) g) ∙ ap (map (group_index R)) (sym (groups_more S c));
   ids_are = λ wanted.
       ap (λ (es : List (Octets × ℕ)). value_of es wanted) ids ∙ is.ids_are wanted
       ∙ ap (option_map (λ (a : NewsArticle). a.serial)) (sym (ids_same S c wanted refl));
@@ -165,7 +156,7 @@ expiry_indexed host S x y expiry note may is notes note_is groups' ids = record 
       (groups S)
       ∙ map_same (λ (g : NewsGroup). cond (bytes_eq expiry.group g.name) (with_expiry S expiry.number (group_index S g)) (group_index S g))
       (group_index R) (groups S) (λ g. sym (expiries_grow host S expiry g may))
-      ∙ ap (map (group_index R)) (sym (groups_of_more S c ∙ append-nil (groups S)));
+      ∙ ap (map (group_index R)) (sym (groups_more S c ∙ append-nil (groups S)));
   ids_are = λ wanted.
       ap (λ (es : List (Octets × ℕ)). value_of es wanted) ids ∙ is.ids_are wanted
       ∙ ap (option_map (λ (a : NewsArticle). a.serial)) (sym (ids_same S c wanted refl));
@@ -178,31 +169,7 @@ expiry_indexed host S x y expiry note may is notes note_is groups' ids = record 
 
 -- ---- an article more
 
-filter_lacks : (p : Octets → Bool) (x : Octets) (names : List Octets) → list_any (bytes_eq x) names ≡ false
-    → list_any (bytes_eq x) (filter p names) ≡ false
-filter_lacks p x [] none = refl
-filter_lacks p x (y ∷ names) none =
-    let parts = or_parts (bytes_eq x y) (list_any (bytes_eq x) names) none in
-    by_test (p y) parts.0 (filter_lacks p x names parts.1)
-  where
-    by_test : (b : Bool) → bytes_eq x y ≡ false → list_any (bytes_eq x) (filter p names) ≡ false
-        → list_any (bytes_eq x) (cond b (y ∷ filter p names) (filter p names)) ≡ false
-    by_test true other rest = or_from (bytes_eq x y) (list_any (bytes_eq x) (filter p names)) other rest
-    by_test false other rest = rest
-
-filter_distinct : (p : Octets → Bool) (names : List Octets) → are_distinct names ≡ true → are_distinct (filter p names) ≡ true
-unfolding are_distinct
-filter_distinct p [] distinct = refl
-filter_distinct p (x ∷ names) distinct =
-    let parts = and_parts (not (list_any (bytes_eq x) names)) (are_distinct names) distinct in
-    by_test (p x) (filter_lacks p x names (not-true (list_any (bytes_eq x) names) parts.0)) (filter_distinct p names parts.1)
-  where
-    by_test : (b : Bool) → list_any (bytes_eq x) (filter p names) ≡ false → are_distinct (filter p names) ≡ true
-        → are_distinct (cond b (x ∷ filter p names) (filter p names)) ≡ true
-    by_test true none rest = ap (λ (t : Bool). not t && are_distinct (filter p names)) none ∙ rest
-    by_test false none rest = rest
-
-pub filed_distinct : (host : Octets) (S : Spool) (filing : Filing) → MayFile host S filing → are_distinct filing.groups ≡ true
+pub filed_distinct : (host : Octets) (S : Spool) (filing : Filing) → MayFile host S filing → are_distinct filing.envelope.groups ≡ true
 filed_distinct host S filing may =
     let names = groups_of filing.text in
     ap are_distinct may.filed
@@ -258,8 +225,8 @@ overview_size S g =
     let ls : List Octets = overview_lines (filed_in S g.name) in
     end_is (ends_from 0 ls) ∙ ends_total 0 ls ∙ zero-add (length (flat_map (λ l. l) ls))
 
-module _ (S : Spool) (filing : Filing) (sizes : List ℕ) (distinct : are_distinct filing.groups ≡ true)
-    (sized : AreLineSizes S filing.text filing.groups sizes) (g : NewsGroup) where
+module _ (S : Spool) (filing : Filing) (sizes : List ℕ) (distinct : are_distinct filing.envelope.groups ≡ true)
+    (sized : AreLineSizes S filing.text filing.envelope.groups sizes) (g : NewsGroup) where
   its : GroupIndex
   its = group_index S g
 
@@ -286,28 +253,28 @@ module _ (S : Spool) (filing : Filing) (sizes : List ℕ) (distinct : are_distin
       ∙ line_is name size at is
   step false false name size at apart is = ap (λ (z : Bool). cond z (with_line (length S + 1) size (group_index S g)) (group_index S g)) at
 
-  filed_front : (k : ℕ) → k ≤ length filing.groups
-      → filed_by (length S + 1) filing.groups sizes k (group_index S g) ≡ cond (list_any (is_name g.name) (take k filing.groups))
+  filed_front : (k : ℕ) → k ≤ length filing.envelope.groups
+      → filed_by (length S + 1) filing.envelope.groups sizes k (group_index S g) ≡ cond (list_any (is_name g.name) (take k filing.envelope.groups))
       (with_article S filing.text (group_index S g)) (group_index S g)
   filed_front zero low = refl
   filed_front (suc k) low =
-      let name : Octets = get_or filing.groups k [] in
+      let name : Octets = get_or filing.envelope.groups k [] in
       let next : suc k ≡ k + 1 = omega arith in
-      let more : list_any (is_name g.name) (take (suc k) filing.groups)
-      ≡ (list_any (is_name g.name) (take k filing.groups) || bytes_eq name g.name) =
-      ap (λ (n : ℕ). list_any (is_name g.name) (take n filing.groups)) next
-      ∙ list_any_more (is_name g.name) filing.groups k [] (omega arith) in
+      let more : list_any (is_name g.name) (take (suc k) filing.envelope.groups)
+      ≡ (list_any (is_name g.name) (take k filing.envelope.groups) || bytes_eq name g.name) =
+      ap (λ (n : ℕ). list_any (is_name g.name) (take n filing.envelope.groups)) next
+      ∙ list_any_more (is_name g.name) filing.envelope.groups k [] (omega arith) in
       ap (filed_once (length S + 1) name (get_or sizes k 0)) (filed_front k (omega arith))
-      ∙ step (list_any (is_name g.name) (take k filing.groups)) (bytes_eq name g.name) name (get_or sizes k 0) refl
-      (λ at. once filing.groups k g.name distinct (omega arith) at) (sized k (omega arith))
+      ∙ step (list_any (is_name g.name) (take k filing.envelope.groups)) (bytes_eq name g.name) name (get_or sizes k 0) refl
+      (λ at. once filing.envelope.groups k g.name distinct (omega arith) at) (sized k (omega arith))
       ∙ ap (λ (b : Bool). cond b (with_article S filing.text (group_index S g)) (group_index S g)) (sym more)
 
-  filed_all : filed_by (length S + 1) filing.groups sizes (length filing.groups) (group_index S g)
+  filed_all : filed_by (length S + 1) filing.envelope.groups sizes (length filing.envelope.groups) (group_index S g)
       ≡ group_index (S ++ Article filing ∷ []) g
   filed_all =
-      filed_front (length filing.groups) (omega arith)
+      filed_front (length filing.envelope.groups) (omega arith)
       ∙ ap (λ (names : List Octets). cond (list_any (is_name g.name) names) (with_article S filing.text (group_index S g))
-      (group_index S g)) (take_all (length filing.groups) filing.groups (omega arith))
+      (group_index S g)) (take_all (length filing.envelope.groups) filing.envelope.groups (omega arith))
       ∙ sym (articles_grow S filing g)
 
 -- the id that is new
@@ -328,19 +295,19 @@ same_key q key is = (bytes_eq-Decides key q).1 (sym ((bytes_eq-Decides q key).0 
 pub article_indexed : (host : Octets) (S : Spool) (x y : IndexView) (filing : Filing) (key : Octets) (sizes : List ℕ) (note : Note)
     (serial : ℕ) → MayFile host S filing → Indexes S x
     → y.notes ≡ x.notes ++ note ∷ [] → note ≡ kept (record { serial = length S + 1; change = Article filing })
-    → AreLineSizes S filing.text filing.groups sizes → serial ≡ length S + 1
-    → y.groups ≡ map (filed_by serial filing.groups sizes (length filing.groups)) x.groups
+    → AreLineSizes S filing.text filing.envelope.groups sizes → serial ≡ length S + 1
+    → y.groups ≡ map (filed_by serial filing.envelope.groups sizes (length filing.envelope.groups)) x.groups
     → key ≡ id filing.text → ((q : Octets) → value_of y.ids q ≡ cond (bytes_eq q key) (Some serial) (value_of x.ids q))
     → Indexes (S ++ Article filing ∷ []) y
 article_indexed host S x y filing key sizes note serial may is notes note_is sized serial_is groups' key_is ids = record {
   notes_are = notes ∙ ap (λ (n : Note). x.notes ++ n ∷ []) note_is ∙ notes_more S x c is;
   groups_are =
-      groups' ∙ ap (λ (n : ℕ). map (filed_by n filing.groups sizes (length filing.groups)) x.groups) serial_is
-      ∙ ap (map (filed_by (length S + 1) filing.groups sizes (length filing.groups))) is.groups_are
-      ∙ map_twice (filed_by (length S + 1) filing.groups sizes (length filing.groups)) (group_index S) (groups S)
-      ∙ map_same (λ (g : NewsGroup). filed_by (length S + 1) filing.groups sizes (length filing.groups) (group_index S g)) (group_index R)
+      groups' ∙ ap (λ (n : ℕ). map (filed_by n filing.envelope.groups sizes (length filing.envelope.groups)) x.groups) serial_is
+      ∙ ap (map (filed_by (length S + 1) filing.envelope.groups sizes (length filing.envelope.groups))) is.groups_are
+      ∙ map_twice (filed_by (length S + 1) filing.envelope.groups sizes (length filing.envelope.groups)) (group_index S) (groups S)
+      ∙ map_same (λ (g : NewsGroup). filed_by (length S + 1) filing.envelope.groups sizes (length filing.envelope.groups) (group_index S g)) (group_index R)
       (groups S) (λ g. filed_all S filing sizes (filed_distinct host S filing may) sized g)
-      ∙ ap (map (group_index R)) (sym (groups_of_more S c ∙ append-nil (groups S)));
+      ∙ ap (map (group_index R)) (sym (groups_more S c ∙ append-nil (groups S)));
   ids_are = λ q.
       ids q ∙ ap (λ (k : Octets). cond (bytes_eq q k) (Some serial) (value_of x.ids q)) key_is
       ∙ ap (λ (n : ℕ). cond (bytes_eq q (id filing.text)) (Some n) (value_of x.ids q)) serial_is

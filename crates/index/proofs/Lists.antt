@@ -5,6 +5,7 @@ use Rattle.std.specs.Prelude.{filter, max, ◌&&◌, ◌||◌}
 use Rattle.std.specs.List.{list_any}
 use Rattle.std.proofs.lemmas.List.{map_push, take_more}
 use Rattle.model.specs.Spool.{greatest}
+use Rattle.model.proofs.Indexing.{greatest_more}
 
 -- ---- whether one passes
 
@@ -26,19 +27,11 @@ any_filtered {X} t p (x ∷ xs) = by_test (p x) (any_filtered t p xs) where
 
 -- ---- the greatest
 
-greatest_push : (ns : List ℕ) (n : ℕ) → greatest (ns ++ n ∷ []) ≡ max (greatest ns) n
-greatest_push [] n = swap n where
-  swap : (m : ℕ) → max m 0 ≡ max 0 m
-  swap m = omega arith
-greatest_push (m ∷ ns) n = ap (max m) (greatest_push ns n) ∙ joined m (greatest ns) n where
-  joined : (a b c : ℕ) → max a (max b c) ≡ max (max a b) c
-  joined a b c = omega arith
-
 pub greatest_step : {X : Type 0} (f : X → ℕ) (xs : List X) (i : ℕ) (x : X) (last : ℕ) → i < length xs → x ≡ get_or xs i x
     → last ≡ greatest (map f (take i xs)) → max last (f x) ≡ greatest (map f (take (i + 1) xs))
 greatest_step f xs i x last low is before =
     ap (λ (n : ℕ). max n (f x)) before
     ∙ ap (max (greatest (map f (take i xs)))) (ap f is)
-    ∙ sym (greatest_push (map f (take i xs)) (f (get_or xs i x)))
+    ∙ sym (greatest_more (map f (take i xs)) (f (get_or xs i x)))
     ∙ ap greatest (sym (map_push f (take i xs) (get_or xs i x)))
     ∙ ap (λ ys. greatest (map f ys)) (sym (take_more xs i x low))

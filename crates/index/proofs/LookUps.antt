@@ -13,6 +13,7 @@ use Rattle.model.specs.Spool.{Spool, entries_from, entries, NewsExpiry, NewsArti
 use Rattle.model.specs.Spool.{expiries_of, expiry_made, filed_in, group_named, groups, is_here, is_name, low, numbered, serial_of}
 use Rattle.model.specs.declared.change.Change.TheVariants.{Group, Article, Expire}
 use Rattle.model.proofs.Growing.{named_front, new_has_nothing}
+use Rattle.model.proofs.Indexing.{new_has_expired}
 use Rattle.model.proofs.Joined.{bytes_differ}
 use Rattle.model.proofs.Rising.{expiries_rise}
 use Rattle.index_groups.specs.Finding.{Rise, filed_at}
@@ -150,32 +151,12 @@ number_not_found host S name n lawful is =
 
 -- ---- expiries
 
-nothing_expired : (host : Octets) (before cs : Spool) (n : ℕ) (name : Octets) → IsLawfulAfter host before cs
-    → group_named (before ++ cs) name ≡ None
-    → filter (λ (e : NewsExpiry). is_name name e.group) (filter_map expiry_made (entries_from n cs)) ≡ []
-nothing_expired host before [] n name lawful none = refl
-nothing_expired host before (Group created ∷ cs) n name lawful none =
-    nothing_expired host (before ++ Group created ∷ []) cs (suc n) name lawful.1 (rw append_assoc none)
-nothing_expired host before (Article filing ∷ cs) n name lawful none =
-    nothing_expired host (before ++ Article filing ∷ []) cs (suc n) name lawful.1 (rw append_assoc none)
-nothing_expired host before (Expire expiry ∷ cs) n name lawful none =
-    let absent : is_here before name ≡ false =
-    ap (λ (o : Option NewsGroup). is_some o) (named_front before (Expire expiry ∷ cs) name none) in
-    let other : bytes_eq expiry.group name ≡ false =
-    bytes_differ expiry.group name (λ same. true≢false (sym lawful.0.here ∙ ap (is_here before) same ∙ absent)) in
-    let rest = nothing_expired host (before ++ Expire expiry ∷ []) cs (suc n) name lawful.1 (rw append_assoc none) in
-    cond-false (bytes_eq expiry.group name) _ _ other ∙ rest
-
-none_expired : (host : Octets) (S : Spool) (name : Octets) → IsLawful host S → group_named S name ≡ None → expiries_of S name ≡ []
-unfolding expiries_of expiries entries
-none_expired host S name lawful none = nothing_expired host [] S 1 name lawful none
-
 pub expiry_not_found : (host : Octets) (S : Spool) (name : Octets) (n : ℕ) → IsLawful host S
     → None ≡ option_map (group_index S) (group_named S name) → 0 ≡ expired_at S name n
 unfolding expired_at
 expiry_not_found host S name n lawful is =
     ap (λ (es : List NewsExpiry). serial_of (find (λ (e : NewsExpiry). nat_le n e.number) es))
-    (sym (none_expired host S name lawful (not_here S name is)))
+    (sym (new_has_expired host S name lawful (not_here S name is)))
 
 pub expiry_found : (host : Octets) (S : Spool) (name : Octets) (i : GroupIndex) (n serial : ℕ) → IsLawful host S
     → Some i ≡ option_map (group_index S) (group_named S name)

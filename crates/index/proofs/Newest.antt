@@ -31,6 +31,7 @@ use Rattle.index_groups.proofs.Searching.{filter_mapped}
 use Rattle.index_groups.proofs.Lists.{any_mapped}
 use Rattle.index.specs.Finding.{is_still_in}
 use Rattle.index.specs.View.{IndexView, Indexes}
+use Rattle.index.proofs.Growing.{entries_count}
 use Rattle.index.proofs.Serials.{in_none, in_one, still_nowhere}
 
 -- ---- whether one passes
@@ -392,14 +393,10 @@ pub old_lines : (S : Spool) (w : Octets) (from : ℤ) (n : ℕ)
     → ((serial : ℕ) → serial ≤ n → IfSome (article_with S serial) (λ a. is_since from a.moment ≡ false)) → lines_up_to S w from n ≡ []
 old_lines S w from n older = no_lines S w from n (λ serial low. old_line S w from serial (older serial low))
 
-entries_size : (n : ℕ) (S : Spool) → length (entries_from n S) ≡ length S
-entries_size n [] = refl
-entries_size n (c ∷ cs) = ap suc (entries_size (suc n) cs)
-
 pub all_lines : (S : Spool) (w : Octets) (from : ℤ) → lines_up_to S w from (length S) ≡ new_lines S w from (articles S)
 unfolding articles entries
 all_lines S w from = ap (λ es. new_lines S w from (filter_map article_filed es))
-    (take_all (length S) (entries S) (let size = entries_size 1 S in omega (arith, size)))
+    (take_all (length S) (entries S) (let size = entries_count 1 S in omega (arith, size)))
 
 -- an article that is in no group that the wildmat matches has no line
 pub left_out : (S : Spool) (w : Octets) (from : ℤ) (n : ℕ) → list_any (wildmat_matches w) (groups_now S n) ≡ false

@@ -12,5 +12,5 @@ abbrev pub kept : Entry → Note
 kept e = kept_of e.change where
   kept_of : Change → Note
   kept_of (Group g) = note.Group
-  kept_of (Article f) = note.Article (id f.text) (length f.text) f.groups f.moment
+  kept_of (Article f) = note.Article (id f.text) (length f.text) f.envelope.groups f.envelope.moment
   kept_of (Expire e) = note.Expiry e.group e.number

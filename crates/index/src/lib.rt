@@ -23,7 +23,7 @@ mod views;
 
 use index_groups::{Group, Keys, expire_one, place_of, push_lines, reserve_lines};
 use latest::push_latest;
-use model::{Moment, Names, Status, Text};
+use model::{Envelope, Moment, Status, Text};
 pub use note::Note;
 use std::alloc::{AllocError, Global};
 use std::marker::Model;
@@ -175,37 +175,37 @@ impl Index {
         &mut self,
         id: &[u8],
         size: u64,
-        filed: Names,
-        moment: Moment,
+        envelope: Envelope,
         sizes: &[u64],
     ) -> Result<(), AllocError>
-        requires few { length filed ≤ 16 }
-        requires sizes { length sizes.now ≡ length filed }
+        requires few { length envelope.groups ≤ 16 }
+        requires sizes { length sizes.now ≡ length envelope.groups }
         requires small { All (λ n. n < 2 ^ 32) sizes.now }
         requires fits { EndBelow (2 ^ 32) self.old.groups }
         ensures ok { OnOk result ((host : Octets) (S : Spool) (text : Octets)
-            → MayFile host S (record { text = text; groups = filed; moment = moment }) → id.now ≡ article.id text → size ≡ length text
-            → AreLineSizes S text filed sizes.now → Indexes S self.old
-            → Indexes (S ++ Change.Article (record { text = text; groups = filed; moment = moment }) ∷ []) self.new) }
+            → MayFile host S (record { text = text; envelope = envelope }) → id.now ≡ article.id text → size ≡ length text
+            → AreLineSizes S text envelope.groups sizes.now → Indexes S self.old
+            → Indexes (S ++ Change.Article (record { text = text; envelope = envelope }) ∷ []) self.new) }
         ensures err { OnErr result (self.new ≡ self.old) }
     {
+        let Envelope { groups, moment, .. } = envelope;
         let serial = self.notes.len() as u64 + 1;
         let own_id = Text::new(Vec::from_slice(self.alloc, id)?);
         self.notes.reserve(1)?;
         self.latest.reserve(1)?;
-        reserve_lines(&mut self.groups, &self.places, filed.as_slice())?;
+        reserve_lines(&mut self.groups, &self.places, groups.as_slice())?;
         self.ids.insert(id, serial)?;
         push_lines(
             &mut self.groups,
             &self.places,
             serial,
-            filed.as_slice(),
+            groups.as_slice(),
             sizes,
         );
         let note = Note::Article {
             id: own_id,
             size,
-            groups: filed,
+            groups,
             moment,
         };
         push_latest(&mut self.latest, &note);

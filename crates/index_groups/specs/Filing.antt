@@ -4,7 +4,7 @@ use Rattle.std.specs.Prelude.{slice_index_or, Some, bytes_eq, vec_len, vec_capac
 use Rattle.model.specs.Stream.{Octets}
 use Rattle.model.specs.Indexed.{GroupIndex, line_start, value_of}
 use Rattle.model.specs.Spool.{Spool}
-use Rattle.model.specs.SpoolFiles.{next_line}
+use Rattle.model.specs.FileCalls.{next_line}
 use Rattle.index_groups.specs.declared.group.Group.{Group}
 
 -- where the last line ends

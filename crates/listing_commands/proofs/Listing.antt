@@ -10,6 +10,7 @@ use Rattle.model.specs.Lawful.{IsLawful}
 use Rattle.model.specs.Replies.{block}
 use Rattle.model.specs.Spool.{Spool, Listed, NewsGroup, greatest, groups, last_naming, last_naming_one, listed}
 use Rattle.model.specs.Stream.{Octets, dot_line, line, stuffed_line}
+use Rattle.model.proofs.Indexing.{greatest_more}
 use Rattle.model.proofs.Joined.{front_more}
 use Rattle.lookups.specs.Held.{Known, all_known, known}
 use Rattle.lookups.proofs.Absent.{greatest_last, last_of_groups}
@@ -43,10 +44,6 @@ pub stuffed_group : (show : Show) (l : Listed) → stuffed_line (line (shown_as 
 stuffed_group show l = ap stuffed_line (named show l) ∙ stuffed_front l.group.name (rest_of show l) (rest_plain show l)
 
 -- ---- one group more
-
-greatest_more : (ns : List ℕ) (n : ℕ) → greatest (ns ++ n ∷ []) ≡ max (greatest ns) n
-greatest_more [] n = omega arith
-greatest_more (m ∷ ns) n = ap (max m) (greatest_more ns n) ∙ omega arith
 
 module _ (pick : Pick) (ks : List Known) (n : ℕ) (k : Known) (is : slice_get ks n ≡ Some k) where
   one : picked pick (take (n + 1) ks) ≡ picked pick (take n ks) ++ cond (is_picked pick k.listed.group) (k ∷ []) []

@@ -5,7 +5,7 @@ use Rattle.std.specs.List.{enumerate_from}
 use Rattle.model.specs.Stream.{Octets, line, stuffed}
 use Rattle.model.specs.Article.{header, body, overview_line}
 use Rattle.model.specs.Spool.{Spool, NewsGroup, NewsArticle, Listed, article_filed, as_it_is, entries, filed_in, gone_at, groups, high}
-use Rattle.model.specs.Spool.{is_gone, last_naming, low}
+use Rattle.model.specs.Spool.{filing_of, is_gone, last_naming, low, news_article}
 use Rattle.model.specs.declared.command.Part.{Part}
 use Rattle.model.specs.declared.command.Part.TheVariants as part
 use Rattle.lookups.specs.declared.GroupView.{GroupView}
@@ -69,14 +69,9 @@ filed_between S g from to = enumerate_from from (take (to + 1 - from) (drop (fro
 abbrev pub overviews_between : Spool → Octets → ℕ → ℕ → Octets
 overviews_between S g from to = flat_map (λ p. line (overview_line p.0 p.1.text)) (filed_between S g from to)
 
--- an article by its serial, if there is one
+-- an article by its serial, if there is one; else one that says nothing
 abbrev pub article_of : Spool → ℕ → NewsArticle
-article_of S n = record {
-  serial = n;
-  text = text_of S n;
-  groups = unwrap_or (option_map (λ a. a.groups) (article_with S n)) [];
-  moment = unwrap_or (option_map (λ a. a.moment) (article_with S n)) 0;
-}
+article_of S n = record (unwrap_or (article_with S n) (news_article n (filing_of [] [] 0))) { serial = n; text = text_of S n }
 
 -- these are the numbers of the group, and the last serial that names it
 pub record IsCounts (S : Spool) (g : Octets) (counts : Counts) : Type 0 where

@@ -13,14 +13,18 @@ use Rattle.model.specs.Names.{is_group_name, is_group_octet, is_dotted}
 use Rattle.model.specs.Article.{Carried, are_distinct, cause, groups_of}
 use Rattle.model.specs.Spool.{Spool, entries_from, NewsArticle, NewsGroup, group_made, is_name, filed_in, group_named, groups, entries}
 use Rattle.model.specs.Spool.{is_here, news_article, news_group, status_octet}
-use Rattle.model.specs.Records.{group_record, article_record, expiry_record}
+use Rattle.model.specs.Records.{group_record, article_record, expiry_record, largest_record}
 use Rattle.model.specs.SpoolFiles.{numbers_name, overview_name, number_record, number_records, numbers_of, numbers_file, overview_file}
-use Rattle.model.specs.SpoolFiles.{overview_lines, change_file, next_line, next_record, FileCall, Create, Append, filing_calls, files_of}
-use Rattle.model.specs.SpoolFiles.{making_calls}
+use Rattle.model.specs.FileCalls.{next_line, next_record, FileCall, Create, Append, filing_calls}
+use Rattle.model.specs.SpoolFiles.{overview_lines, change_file, files_of}
+use Rattle.model.specs.FileCalls.{making_calls}
 use Rattle.model.specs.Files.{indirect_for}
-use Rattle.model.specs.Room.{blocks_appended, blocks_asked, blocks_changed, blocks_filed, blocks_for, blocks_for_more, blocks_fresh}
-use Rattle.model.specs.Room.{blocks_taken, content_blocks, extends_large, files_made, free_blocks_beside, free_inodes_beside}
-use Rattle.model.specs.Room.{has_all_groups, is_full_for, is_large, largest_file, octets_asked, pointers_put}
+use Rattle.model.specs.Asked.{blocks_appended, blocks_changed, blocks_filed, blocks_for_more, blocks_fresh}
+use Rattle.model.specs.Room.{blocks_asked, blocks_for}
+use Rattle.model.specs.Asked.{blocks_taken}
+use Rattle.model.specs.Room.{content_blocks, extends_large, files_made, free_blocks_beside, free_inodes_beside}
+use Rattle.model.specs.Asked.{pointers_put}
+use Rattle.model.specs.Room.{has_all_groups, is_full_for, is_large, largest_file, octets_asked}
 use Rattle.model.specs.Lawful.{MayFile, IsLawfulAfter, IsLawful}
 use Rattle.model.specs.Laws.Room.{ChangesAskFew, FilesGrowByBlocks, NotFullHasRoom}
 use Rattle.model.specs.declared.change.Change.TheVariants.{Group, Article, Expire}
@@ -130,7 +134,7 @@ record AreFew (names : List Octets) : Type 0 where
   count : length names ≤ 16
   named : list_all is_group_name names ≡ true
 
-few_groups : (host : Octets) (S : Spool) (f : Filing) → MayFile host S f → AreFew f.groups
+few_groups : (host : Octets) (S : Spool) (f : Filing) → MayFile host S f → AreFew f.envelope.groups
 few_groups host S f may =
     let names = groups_of f.text in
     let good = (no_cause Carried f.text (carried_cause f.text may.carried)).good_groups in
@@ -284,19 +288,19 @@ changes_ask_few host S (Group created) few lawful may =
 changes_ask_few host S (Article filing) few lawful may =
     let its = change_file (record { serial = length S + 1; change = Article filing }) in
     let groups_few = few_groups host S filing may in
-    let size : length its.content ≤ 262821 =
+    let size : length its.content ≤ largest_record =
     omega (
       arith,
       article_size (news_article (length S + 1) filing),
-      names_size filing.groups groups_few.named,
+      names_size filing.envelope.groups groups_few.named,
       groups_few.count,
       carried_size filing.text may.carried,
     ) in
     record {
       blocks = omega (
         arith,
-        making_taken its.name its.content (flat_map (filing_calls S filing.text) filing.groups),
-        filing_taken S filing.text few may.carried filing.groups,
+        making_taken its.name its.content (flat_map (filing_calls S filing.text) filing.envelope.groups),
+        filing_taken S filing.text few may.carried filing.envelope.groups,
         groups_few.count,
         size,
       );
@@ -306,7 +310,7 @@ changes_ask_few host S (Article filing) few lawful may =
       changed = omega (
         arith,
         middle_blocks (length its.content) (omega (arith, size)),
-        all_filed S filing.text few may.carried filing.groups,
+        all_filed S filing.text few may.carried filing.envelope.groups,
         groups_few.count,
         size,
       );
@@ -360,7 +364,7 @@ not_full_room host blocks inodes S c few lawful may room =
       inodes_enough = ltb-false left (files_made c) second.0;
       sizes = λ f g same has.
           let none : extends_large S (Article f) ≡ false = ap (extends_large S) (sym same) ∙ third.0 in
-          let small = large_at S f.groups g none has in (
+          let small = large_at S f.envelope.groups g none has in (
             omega (
               arith,
               ltb-false (largest_file - octets_asked) (length (numbers_file S g)) small.0,

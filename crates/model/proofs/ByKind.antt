@@ -1,13 +1,16 @@
 -- The files of a spool by kind.
-use Rattle.std.proofs.Common.{ℕ, suc, List, [], ◌∷◌, ◌++◌, map, sym, subst}
+use Rattle.std.proofs.Common.{◌≡◌, ◌<◌, ℕ, zero, suc, List, [], ◌∷◌, ◌++◌, length, get_or, map, sym, subst, ap, arith}
 use Rattle.std.specs.Prelude.{flat_map, filter_map, IsPermutation}
+use Rattle.std.specs.List.{Contains}
 use Rattle.std.proofs.lemmas.List.{append_assoc}
-use Rattle.std.proofs.lemmas.List.Sorted.{IsPermutation-append_right, IsPermutation-cons, IsPermutation-middle, IsPermutation-refl}
+use Rattle.std.proofs.lemmas.List.Elements.{Contains-append_left, Contains-append_right}
+use Rattle.std.proofs.lemmas.List.Sorted.{Contains-permutation, IsPermutation-append_right, IsPermutation-cons, IsPermutation-middle, IsPermutation-refl}
 use Rattle.std.proofs.lemmas.List.Sorted.{IsPermutation-sym, IsPermutation-trans}
 use Rattle.model.specs.Files.{File}
 use Rattle.model.specs.Spool.{Spool, Entry, entries_from, entries, group_made, article_filed, expiry_made, groups, articles, expiries}
-use Rattle.model.specs.Spool.{news_article, news_expiry, news_group}
-use Rattle.model.specs.SpoolFiles.{article_file, entry_files, expiry_file, files_by_kind, files_of, group_files}
+use Rattle.model.specs.Spool.{NewsGroup, news_article, news_expiry, news_group}
+use Rattle.model.specs.FileKinds.{article_file, expiry_file, files_by_kind, group_files}
+use Rattle.model.specs.SpoolFiles.{entry_files, files_of, overview_file, overview_name}
 use Rattle.model.specs.Laws.SpoolFiles.{FilesAreByKind}
 use Rattle.model.specs.declared.change.Change.TheVariants.{Group, Article, Expire}
 
@@ -55,3 +58,28 @@ module _ (S : Spool) where
 pub files_kinds : FilesAreByKind
 unfolding files_of files_by_kind groups articles expiries entries
 files_kinds S = by_kind S 1 S
+
+-- ---- the overview of a group is one of them
+
+abbrev among_groups : (S : Spool) (gs : List NewsGroup) (g : NewsGroup) → Type 0
+among_groups S gs g = Contains (flat_map (group_files S) gs) (record { name = overview_name g.name; content = overview_file S g.name })
+
+in_groups : (S : Spool) (gs : List NewsGroup) (k : ℕ) (g : NewsGroup) → k < length gs → get_or gs k g ≡ g → among_groups S gs g
+in_groups S [] k g low at = absurd (omega arith)
+in_groups S (h ∷ gs) zero g low at =
+    Contains-append_left (group_files S h) (flat_map (group_files S) gs)
+    (record { name = overview_name g.name; content = overview_file S g.name })
+    (2, (omega arith), ap (λ (n : NewsGroup). record { name = overview_name n.name; content = overview_file S n.name }) at)
+in_groups S (h ∷ gs) (suc k) g low at =
+    Contains-append_right (group_files S h) (flat_map (group_files S) gs)
+    (record { name = overview_name g.name; content = overview_file S g.name })
+    (in_groups S gs k g (omega arith) at)
+
+pub overview_there : (S : Spool) (g : NewsGroup) → Contains (groups S) g
+    → Contains (files_of S) (record { name = overview_name g.name; content = overview_file S g.name })
+unfolding files_by_kind
+overview_there S g among =
+    let f : File = record { name = overview_name g.name; content = overview_file S g.name } in
+    Contains-permutation (files_by_kind S) (files_of S) f (IsPermutation-sym (files_of S) (files_by_kind S) (files_kinds S))
+    (Contains-append_left (flat_map (group_files S) (groups S)) (map article_file (articles S) ++ map expiry_file (expiries S)) f
+    (in_groups S (groups S) among.0 g among.1 among.2))

@@ -19,8 +19,8 @@ use Rattle.model.specs.Spool.{articles, filed_in, group_named, is_here, news_art
 use Rattle.model.specs.Records.{last_digits}
 use Rattle.model.specs.SpoolFiles.{group_name, numbers_name, overview_name, article_name, expiry_name, number_record, number_records}
 use Rattle.model.specs.SpoolFiles.{overview_lines, overview_of, numbers_of, overview_file, numbers_file, change_file, entry_files, files_of}
-use Rattle.model.specs.SpoolFiles.{FileCall, appended, after_call, after_calls, next_line, next_record, filing_calls, making_calls}
-use Rattle.model.specs.SpoolFiles.{change_calls}
+use Rattle.model.specs.FileCalls.{FileCall, appended, after_call, after_calls, next_line, next_record, filing_calls, making_calls}
+use Rattle.model.specs.FileCalls.{change_calls}
 use Rattle.model.specs.Lawful.{IsLawfulAfter, IsLawful}
 use Rattle.model.specs.Laws.SpoolFiles.{FilesGrow, SpoolsGrow}
 use Rattle.model.specs.declared.change.Change.{Change}
@@ -44,6 +44,16 @@ entries_push n (d ∷ S) c =
     let serial : length S + suc n ≡ suc (length S) + n = omega arith in
     ap (λ es. record { serial = n; change = d } ∷ es) (entries_push (suc n) S c
     ∙ ap (λ (m : ℕ). entries_from (suc n) S ++ record { serial = m; change = c } ∷ []) serial)
+
+pub entries_more : (S : Spool) (c : Change) → entries (S ++ c ∷ []) ≡ entries S ++ record { serial = length S + 1; change = c } ∷ []
+unfolding entries
+entries_more S c = entries_push 1 S c
+
+pub groups_more : (S : Spool) (c : Change)
+    → groups (S ++ c ∷ []) ≡ groups S ++ filter_map group_made (record { serial = length S + 1; change = c } ∷ [])
+unfolding groups
+groups_more S c = ap (filter_map group_made) (entries_more S c)
+    ∙ filter_map-append group_made (entries S) (record { serial = length S + 1; change = c } ∷ [])
 
 enumerate_push : {X : Type 0} (n : ℕ) (xs : List X) (x : X)
     → enumerate_from n (xs ++ x ∷ []) ≡ enumerate_from n xs ++ (length xs + n, x) ∷ []
@@ -119,7 +129,7 @@ numbers_push filed a =
 -- ---- what is filed in a group
 
 pub filed_article : (S : Spool) (g : Octets) (f : Filing)
-    → filed_in (S ++ Article f ∷ []) g ≡ filed_in S g ++ cond (list_any (is_name g) f.groups) (news_article (length S + 1) f ∷ []) []
+    → filed_in (S ++ Article f ∷ []) g ≡ filed_in S g ++ cond (list_any (is_name g) f.envelope.groups) (news_article (length S + 1) f ∷ []) []
 unfolding filed_in articles entries
 filed_article S g f =
     let e : Entry = record { serial = length S + 1; change = Article f } in
@@ -189,10 +199,10 @@ nothing_filed host before (Expire expiry ∷ cs) n name lawful none =
 nothing_filed host before (Article filing ∷ cs) n name lawful none =
     let absent : is_here before name ≡ false =
     ap (λ (o : Option NewsGroup). is_some o) (named_front before (Article filing ∷ cs) name none) in
-    let never : list_any (is_name name) filing.groups ≡ false = ap (list_any (is_name name)) lawful.0.filed
+    let never : list_any (is_name name) filing.envelope.groups ≡ false = ap (list_any (is_name name)) lawful.0.filed
     ∙ none_here before name absent (groups_of filing.text) in
     let rest = nothing_filed host (before ++ Article filing ∷ []) cs (suc n) name lawful.1 (rw append_assoc none) in
-    cond-false (list_any (is_name name) filing.groups) _ _ never ∙ rest
+    cond-false (list_any (is_name name) filing.envelope.groups) _ _ never ∙ rest
 
 pub new_has_nothing : (host : Octets) (S : Spool) (name : Octets) → IsLawful host S → group_named S name ≡ None → filed_in S name ≡ []
 unfolding filed_in articles entries
@@ -438,7 +448,7 @@ module _ (S : Spool) (text : Octets) where
             ∙ overview_passes h (content ++ next_line S text h) gs once
 
 -- the numbers and the overview of a group after an article
-module _ (S : Spool) (filing : Filing) (distinct : are_distinct filing.groups ≡ true) where
+module _ (S : Spool) (filing : Filing) (distinct : are_distinct filing.envelope.groups ≡ true) where
   abbrev longer : Spool
   longer = S ++ Article filing ∷ []
 
@@ -446,35 +456,35 @@ module _ (S : Spool) (filing : Filing) (distinct : are_distinct filing.groups �
   article = news_article (length S + 1) filing
 
   numbers_more : (h : Octets)
-      → numbers_file longer h ≡ numbers_file S h ++ cond (list_any (is_name h) filing.groups) (next_record S filing.text h) []
-  numbers_more h = ap numbers_of (filed_article S h filing) ∙ by_test (list_any (is_name h) filing.groups) where
+      → numbers_file longer h ≡ numbers_file S h ++ cond (list_any (is_name h) filing.envelope.groups) (next_record S filing.text h) []
+  numbers_more h = ap numbers_of (filed_article S h filing) ∙ by_test (list_any (is_name h) filing.envelope.groups) where
     by_test : (b : Bool) → numbers_of (filed_in S h ++ cond b (article ∷ []) []) ≡ numbers_of (filed_in S h) ++ cond b
         (next_record S filing.text h) []
     by_test true = numbers_push (filed_in S h) article
     by_test false = ap numbers_of (append-nil (filed_in S h)) ∙ sym (append-nil (numbers_of (filed_in S h)))
 
   overview_more : (h : Octets)
-      → overview_file longer h ≡ overview_file S h ++ cond (list_any (is_name h) filing.groups) (next_line S filing.text h) []
-  overview_more h = ap overview_of (filed_article S h filing) ∙ by_test (list_any (is_name h) filing.groups) where
+      → overview_file longer h ≡ overview_file S h ++ cond (list_any (is_name h) filing.envelope.groups) (next_line S filing.text h) []
+  overview_more h = ap overview_of (filed_article S h filing) ∙ by_test (list_any (is_name h) filing.envelope.groups) where
     by_test : (b : Bool) → overview_of (filed_in S h ++ cond b (article ∷ []) []) ≡ overview_of (filed_in S h) ++ cond b
         (next_line S filing.text h) []
     by_test true = overview_push (filed_in S h) article
     by_test false = ap overview_of (append-nil (filed_in S h)) ∙ sym (append-nil (overview_of (filed_in S h)))
 
   entry_grows : (n : ℕ) (c : Change)
-      → map (through S filing.text filing.groups) (entry_files S (record { serial = n; change = c }))
+      → map (through S filing.text filing.envelope.groups) (entry_files S (record { serial = n; change = c }))
       ≡ entry_files longer (record { serial = n; change = c })
   entry_grows n (Article filing') =
-      let first = passes S filing.text filing.groups (change_file (record { serial = n; change = Article filing' })) (λ g. (refl, refl)) in
+      let first = passes S filing.text filing.envelope.groups (change_file (record { serial = n; change = Article filing' })) (λ g. (refl, refl)) in
       λ i. first i ∷ []
   entry_grows n (Expire expiry) =
-      let first = passes S filing.text filing.groups (change_file (record { serial = n; change = Expire expiry })) (λ g. (refl, refl)) in
+      let first = passes S filing.text filing.envelope.groups (change_file (record { serial = n; change = Expire expiry })) (λ g. (refl, refl)) in
       λ i. first i ∷ []
   entry_grows n (Group created) =
-      let first = passes S filing.text filing.groups (change_file (record { serial = n; change = Group created })) (λ g. (refl, refl)) in
-      let second = numbers_gain S filing.text created.name (numbers_file S created.name) filing.groups distinct
+      let first = passes S filing.text filing.envelope.groups (change_file (record { serial = n; change = Group created })) (λ g. (refl, refl)) in
+      let second = numbers_gain S filing.text created.name (numbers_file S created.name) filing.envelope.groups distinct
       ∙ ap (λ os. record { name = numbers_name created.name; content = os }) (sym (numbers_more created.name)) in
-      let third = overview_gains S filing.text created.name (overview_file S created.name) filing.groups distinct
+      let third = overview_gains S filing.text created.name (overview_file S created.name) filing.envelope.groups distinct
       ∙ ap (λ os. record { name = overview_name created.name; content = os }) (sym (overview_more created.name)) in
       λ i. first i ∷ second i ∷ third i ∷ []
 
@@ -483,18 +493,18 @@ module _ (S : Spool) (filing : Filing) (distinct : are_distinct filing.groups �
   article_grows lack =
       let its = change_file (record { serial = length S + 1; change = Article filing }) in
       let creation = making_calls its.name its.content in
-      let own = passes S filing.text filing.groups its (λ g. (refl, refl)) in
-      let old : map (through S filing.text filing.groups) (files_of S) ≡ flat_map (entry_files longer) (entries S) =
-      ap (map (through S filing.text filing.groups)) (files_by_change S)
-      ∙ map_joined (through S filing.text filing.groups) (entry_files S) (entries S)
-      ∙ entries_same (λ e. map (through S filing.text filing.groups) (entry_files S e)) (entry_files longer) entry_grows (entries S) in
+      let own = passes S filing.text filing.envelope.groups its (λ g. (refl, refl)) in
+      let old : map (through S filing.text filing.envelope.groups) (files_of S) ≡ flat_map (entry_files longer) (entries S) =
+      ap (map (through S filing.text filing.envelope.groups)) (files_by_change S)
+      ∙ map_joined (through S filing.text filing.envelope.groups) (entry_files S) (entries S)
+      ∙ entries_same (λ e. map (through S filing.text filing.envelope.groups) (entry_files S e)) (entry_files longer) entry_grows (entries S) in
       with_change S (Article filing)
       ∙ ap (λ fs. fs ++ its ∷ []) (sym old)
-      ∙ ap (λ (f : File). map (through S filing.text filing.groups) (files_of S) ++ f ∷ []) (sym own)
-      ∙ sym (map_push (through S filing.text filing.groups) (files_of S) its)
-      ∙ ap (map (through S filing.text filing.groups)) (sym (made S its.name its.content (λ g. (refl, refl)) lack))
-      ∙ sym (filings S filing.text filing.groups (after_calls (files_of S) creation))
-      ∙ sym (calls_after (files_of S) creation (flat_map (filing_calls S filing.text) filing.groups))
+      ∙ ap (λ (f : File). map (through S filing.text filing.envelope.groups) (files_of S) ++ f ∷ []) (sym own)
+      ∙ sym (map_push (through S filing.text filing.envelope.groups) (files_of S) its)
+      ∙ ap (map (through S filing.text filing.envelope.groups)) (sym (made S its.name its.content (λ g. (refl, refl)) lack))
+      ∙ sym (filings S filing.text filing.envelope.groups (after_calls (files_of S) creation))
+      ∙ sym (calls_after (files_of S) creation (flat_map (filing_calls S filing.text) filing.envelope.groups))
 
 -- ---- distinct groups
 
@@ -569,7 +579,7 @@ files_grow host S (Group created) small lawful may =
     } ∷ []) (sym (made S its.name its.content (λ g. (refl, refl)) (lack_new S created.name may.new)))
 files_grow host S (Article filing) small lawful may =
     let names = groups_of filing.text in
-    let distinct : are_distinct filing.groups ≡ true = ap are_distinct may.filed
+    let distinct : are_distinct filing.envelope.groups ≡ true = ap are_distinct may.filed
     ∙ filter_distinct (is_here S) names (and_parts (nat_le (length names) 16 && list_all is_group_name names) (are_distinct names)
     (no_cause Carried filing.text (carried_cause filing.text may.carried)).good_groups).1 in
     article_grows S filing distinct (lacks_article (length S + 1) 1 S (omega arith) small)

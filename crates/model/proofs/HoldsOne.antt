@@ -14,9 +14,10 @@ use Rattle.model.specs.Stream.{Octets}
 use Rattle.model.specs.Article.{Carried, cause, cause_but_long, header, is_short}
 use Rattle.model.specs.Files.{File, table, file_at}
 use Rattle.model.specs.Spool.{Spool, Entry, entries_from, entries, NewsArticle, article_filed, articles, filed_in, is_name, news_article}
-use Rattle.model.specs.Spool.{news_expiry, news_group, status_octet}
+use Rattle.model.specs.Spool.{filing_of, news_expiry, news_group, status_octet}
 use Rattle.model.specs.Records.{group_record, article_record, expiry_record}
-use Rattle.model.specs.SpoolFiles.{HasRoomInFile, change_file, entry_files, files_of, index_files}
+use Rattle.model.specs.FileKinds.{HasRoomInFile}
+use Rattle.model.specs.SpoolFiles.{change_file, entry_files, files_of, index_files}
 use Rattle.model.specs.Lawful.{MayFollow, IsLawfulAfter}
 use Rattle.model.specs.Laws.SpoolFiles.{BlocksHoldOne, ChangesAreFew, EmptyHoldsNone}
 use Rattle.model.specs.declared.cause.Cause.{Cause}
@@ -119,20 +120,20 @@ same_change n m (Group created) (Group created') fits fits' is =
     )
 same_change n m (Article filing) (Article filing') fits fits' is =
     let contents : article_record (news_article n filing) ≡ article_record (news_article m filing') = ap (λ (f : File). f.content) is in
-    let listed = flat_map (λ g. length g ∷ g) filing.groups ++ filing.text in
-    let listed' = flat_map (λ g. length g ∷ g) filing'.groups ++ filing'.text in
+    let listed = flat_map (λ g. length g ∷ g) filing.envelope.groups ++ filing.text in
+    let listed' = flat_map (λ g. length g ∷ g) filing'.envelope.groups ++ filing'.text in
     let grouped : little_bytes 8 n ++
-    (little_bytes 8 filing.moment ++ (little_bytes 4 (length filing.text) ++ (length filing.groups ∷ listed)))
+    (little_bytes 8 filing.envelope.moment ++ (little_bytes 4 (length filing.text) ++ (length filing.envelope.groups ∷ listed)))
     ≡ little_bytes 8 m ++
-    (little_bytes 8 filing'.moment ++ (little_bytes 4 (length filing'.text) ++ (length filing'.groups ∷ listed'))) =
+    (little_bytes 8 filing'.envelope.moment ++ (little_bytes 4 (length filing'.text) ++ (length filing'.envelope.groups ∷ listed'))) =
     simp append_assoc at contents in
     let serials = little_split 8 n m _ _ fits.0 fits'.0 grouped in
-    let moments = little_split 8 filing.moment filing'.moment _ _ fits.1 fits'.1 serials.1 in
+    let moments = little_split 8 filing.envelope.moment filing'.envelope.moment _ _ fits.1 fits'.1 serials.1 in
     let lengths = little_split 4 (length filing.text) (length filing'.text) _ _ fits.2 fits'.2 moments.1 in
-    let counts : length filing.groups ≡ length filing'.groups = let same = lengths.1 in cc in
+    let counts : length filing.envelope.groups ≡ length filing'.envelope.groups = let same = lengths.1 in cc in
     let lists : listed ≡ listed' = let same = lengths.1 in cc in
-    let names = counted_lists filing.groups filing'.groups filing.text filing'.text counts lists in
-    (serials.0, λ i. Article (record { text = names.1 i; groups = names.0 i; moment = moments.0 i }))
+    let names = counted_lists filing.envelope.groups filing'.envelope.groups filing.text filing'.text counts lists in
+    (serials.0, λ i. Article (filing_of (names.1 i) (names.0 i) (moments.0 i)))
 same_change n m (Expire expiry) (Expire expiry') fits fits' is =
     let contents : expiry_record (news_expiry n expiry) ≡ expiry_record (news_expiry m expiry') = ap (λ (f : File). f.content) is in
     let rest = length expiry.group ∷ expiry.group in

@@ -1,21 +1,21 @@
 -- The index of a spool with one more change.
 use Rattle.std.proofs.Common.{◌≡◌, ◌≤◌, ℕ, zero, suc, ◌+◌, ◌-◌, List, [], ◌∷◌, ◌++◌, length, get_or, map, take, drop, refl, sym, ◌∙◌, ap}
 use Rattle.std.proofs.Common.{arith, Bool, true, false, cond, length-append}
-use Rattle.std.specs.Prelude.{filter, filter_map, flat_map, bytes_eq, is_some, slice_get, zip, Option, Some, None}
+use Rattle.std.specs.Prelude.{filter, filter_map, flat_map, bytes_eq, is_some, max, slice_get, zip, Option, Some, None}
 use Rattle.std.specs.List.{list_any}
 use Rattle.std.proofs.lemmas.Bool.{cond-true, cond-false, true≢false}
 use Rattle.std.proofs.lemmas.List.{append-nil, append_assoc, map_push, take_at, drop-drop, drop_at}
 use Rattle.std.proofs.lemmas.List.Elements.{filter-append}
 use Rattle.std.proofs.lemmas.Option.{same_Some}
 use Rattle.std.proofs.lemmas.Slice.Eq.{bytes_eq-Decides}
-use Rattle.std.proofs.Math.Nat.{le-max_left, le-max_right}
 use Rattle.model.specs.Stream.{Octets}
 use Rattle.model.specs.Indexed.{ends_from, group_index, GroupIndex, line_start, new_index, note_of, with_article, with_expiry}
 use Rattle.model.specs.Lawful.{MayFollow, IsLawfulAfter, IsLawful}
 use Rattle.model.specs.Spool.{Spool, Entry, entries_from, entries, NewsExpiry, NewsArticle, NewsGroup, expiries_of, filed_in, greatest}
 use Rattle.model.specs.Spool.{is_here, is_name, last_naming, last_naming_one, low, names_one, expiry_made, articles, expiries, groups}
 use Rattle.model.specs.Spool.{group_named, by_id, news_article, news_expiry}
-use Rattle.model.specs.SpoolFiles.{next_line, numbers_of, overview_lines, overview_of}
+use Rattle.model.specs.FileCalls.{next_line}
+use Rattle.model.specs.SpoolFiles.{numbers_of, overview_lines, overview_of}
 use Rattle.model.specs.Laws.Indexed.{ArticlesGrow, EmptyIndex, ExpiriesGrow, GroupsGrow, LinesStand, NotesGrow, NumbersAreWhole}
 use Rattle.model.specs.declared.change.Change.{Change}
 use Rattle.model.specs.declared.change.Change.TheVariants.{Group, Article, Expire}
@@ -110,15 +110,12 @@ ends_push start (l ∷ ls) line =
 
 -- ---- the last serial
 
+pub greatest_more : (ns : List ℕ) (n : ℕ) → greatest (ns ++ n ∷ []) ≡ max (greatest ns) n
+greatest_more [] n = omega arith
+greatest_more (m ∷ ns) n = ap (max m) (greatest_more ns n) ∙ omega arith
+
 greatest_push : (ns : List ℕ) (m : ℕ) → greatest ns ≤ m → greatest (ns ++ m ∷ []) ≡ m
-greatest_push [] m small = omega arith
-greatest_push (n ∷ ns) m small =
-    omega (
-      arith,
-      le-max_left n (greatest ns),
-      le-max_right n (greatest ns),
-      greatest_push ns m (omega (arith, le-max_right n (greatest ns))),
-    )
+greatest_push ns m small = greatest_more ns m ∙ omega (arith, small)
 
 abbrev serials_of : (Octets → Bool) → List Entry → List ℕ
 serials_of test es = map (λ (e : Entry). e.serial) (filter (λ (e : Entry). names_one test e.change) es)
@@ -194,7 +191,7 @@ size filed line = omega arith
 
 pub articles_grow : ArticlesGrow
 articles_grow S filing g =
-    by_test (list_any (is_name g.name) filing.groups) (filed_article S g.name filing) (last_push S (Article filing) (is_name g.name)) where
+    by_test (list_any (is_name g.name) filing.envelope.groups) (filed_article S g.name filing) (last_push S (Article filing) (is_name g.name)) where
       R : Spool
       R = S ++ Article filing ∷ []
 

@@ -10,7 +10,7 @@ use Rattle.std.proofs.lemmas.List.Sorted.{IsPermutation-sym, IsPermutation-to_fr
 use Rattle.std.proofs.lemmas.List.Sorted.{IsPermutation-trans, IsPermutation-map}
 use Rattle.model.specs.Stream.{Octets}
 use Rattle.model.specs.Files.{File, IsFile, IsFileSystem, name_in, content_of, entry, slot_of, file_at, files_in, table}
-use Rattle.model.specs.SpoolFiles.{appended}
+use Rattle.model.specs.FileCalls.{appended}
 use Rattle.model.specs.Laws.SpoolFiles.{CreatesOne, AppendsToOne}
 use Rattle.model.proofs.Joined.{bytes_same, bytes_differ}
 use Rattle.model.proofs.Owning.{free_kind}

@@ -12,7 +12,8 @@ use Rattle.std.proofs.lemmas.List.Sums.{sum_by-append, sum_by-cons}
 use Rattle.std.proofs.lemmas.Option.{get_or_from_slice_get, slice_get-get_or, slice_get_past}
 use Rattle.model.specs.Files.{File, files_in, table}
 use Rattle.model.specs.Spool.{Spool, Entry, entries_from, entries, group_made, groups}
-use Rattle.model.specs.SpoolFiles.{HasRoomInFile, change_file, entry_files, files_of, is_of_change, numbers_file, numbers_name}
+use Rattle.model.specs.FileKinds.{HasRoomInFile, is_of_change}
+use Rattle.model.specs.SpoolFiles.{change_file, entry_files, files_of, numbers_file, numbers_name}
 use Rattle.model.specs.SpoolFiles.{overview_file, overview_name}
 use Rattle.model.specs.Laws.SpoolFiles.{ChangesAreCounted, ChangesAreRead, FilesAreCounted, FilesMakeSpool, FrontsAreRead}
 use Rattle.model.specs.declared.change.Change.{Change}

@@ -108,7 +108,7 @@ serials_from g n [] = (tt, λ k low. absurd (omega arith))
 serials_from g n (Group created ∷ S) = let rest = serials_from g (suc n) S in
     (rest.0, λ k low. omega (arith, rest.1 k low))
 serials_from g n (Expire expiry ∷ S) = let rest = serials_from g (suc n) S in (rest.0, λ k low. omega (arith, rest.1 k low))
-serials_from g n (Article filing ∷ S) = by_test (list_any (is_name g) filing.groups) (serials_from g (suc n) S) where
+serials_from g n (Article filing ∷ S) = by_test (list_any (is_name g) filing.envelope.groups) (serials_from g (suc n) S) where
   later : List NewsArticle
   later = filter (λ a. list_any (is_name g) a.groups) (filter_map article_filed (entries_from (suc n) S))
 

@@ -7,7 +7,8 @@ use Rattle.model.specs.Stream.{Octets}
 use Rattle.model.specs.Files.{File, table}
 use Rattle.model.specs.Spool.{Spool, Entry, entries, NewsGroup, NewsExpiry, groups, group_named, filed_in, expiries_of, low, last_naming}
 use Rattle.model.specs.Spool.{by_id, news_group}
-use Rattle.model.specs.SpoolFiles.{change_file, numbers_name, overview_name, next_line, numbers_file, overview_file, overview_lines}
+use Rattle.model.specs.FileCalls.{next_line}
+use Rattle.model.specs.SpoolFiles.{change_file, numbers_name, overview_name, numbers_file, overview_file, overview_lines}
 use Rattle.model.specs.declared.change.Change.{Change}
 use Rattle.model.specs.declared.change.Change.TheVariants.{Group, Article, Expire}
 
@@ -24,7 +25,7 @@ abbrev pub note_of : Entry → Note
 note_of e = by_change e.serial e.change where
   by_change : ℕ → Change → Note
   by_change n (Group g) = GroupNote (news_group n g)
-  by_change n (Article f) = ArticleNote (length f.text) f.groups f.moment
+  by_change n (Article f) = ArticleNote (length f.text) f.envelope.groups f.envelope.moment
   by_change n (Expire e) = ExpiryNote e.group e.number
 
 -- ---- a group

@@ -19,6 +19,10 @@ abbrev pub article_record : NewsArticle → Octets
 article_record a = little_bytes 8 a.serial ++ little_bytes 8 a.moment ++ little_bytes 4 (length a.text) ++ length a.groups ∷ flat_map
     (λ g. length g ∷ g) a.groups ++ a.text
 
+-- the octets of the largest record: an article's 21 before its groups, 16 groups of 41, and a text of 262,144
+abbrev pub largest_record : ℕ
+largest_record = 262_821
+
 -- an expiry: serial, number, the group's name after its length
 abbrev pub expiry_record : NewsExpiry → Octets
 expiry_record e = little_bytes 8 e.serial ++ little_bytes 4 e.number ++ length e.group ∷ e.group

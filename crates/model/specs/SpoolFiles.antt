@@ -1,15 +1,13 @@
--- The spool in files: which files it has, and which calls on files a change makes. All of it is this project's own layout
--- (docs/FORMATS.md). Numbers are unsigned and little-endian.
-use Rattle.std.specs.Prelude.{ℕ, ◌+◌, ◌^◌, ◌<◌, Bool, ◌==◌, ◌||◌, slice_index, List, [], ◌∷◌, ◌++◌, if◌then◌else◌, map, flat_map, zip}
-use Rattle.std.specs.Prelude.{length, codes, bytes_eq}
+-- The spool in files: which files it has. All of it is this project's own layout (docs/FORMATS.md). Numbers are unsigned and
+-- little-endian.
+use Rattle.std.specs.Prelude.{ℕ, ◌+◌, List, [], ◌∷◌, ◌++◌, map, flat_map, zip, length, codes}
 use Rattle.std.specs.List.{enumerate_from}
 use Rattle.byteorder.specs.Endian.{little_bytes}
 use Rattle.model.specs.Stream.{Octets}
 use Rattle.model.specs.Article.{overview_line}
 use Rattle.model.specs.Files.{File}
 use Rattle.model.specs.Records.{last_digits, group_record, article_record, expiry_record}
-use Rattle.model.specs.Spool.{Spool, Entry, entries, NewsGroup, NewsArticle, NewsExpiry, groups, articles, expiries, filed_in, high}
-use Rattle.model.specs.Spool.{news_article, news_expiry, news_group}
+use Rattle.model.specs.Spool.{Spool, Entry, entries, NewsArticle, filed_in, news_article, news_expiry, news_group}
 use Rattle.model.specs.declared.change.Change.{Change}
 use Rattle.model.specs.declared.change.Change.TheVariants.{Group, Article, Expire}
 
@@ -87,75 +85,3 @@ entry_files S e = change_file e ∷ index_files S e.change
 -- the files of a spool, in the order in which they were made
 unfoldable pub files_of : Spool → List File
 files_of S = flat_map (entry_files S) (entries S)
-
--- the same files by kind: three of each group, one of each article, one of each expiry
-abbrev pub group_files : Spool → NewsGroup → List File
-group_files S g =
-    record { name = group_name g.name; content = group_record g }
-    ∷ record { name = numbers_name g.name; content = numbers_file S g.name }
-    ∷ record { name = overview_name g.name; content = overview_file S g.name }
-    ∷ []
-
-abbrev pub article_file : NewsArticle → File
-article_file a = record { name = article_name a.serial; content = article_record a }
-
-abbrev pub expiry_file : NewsExpiry → File
-expiry_file e = record { name = expiry_name e.serial; content = expiry_record e }
-
-unfoldable pub files_by_kind : Spool → List File
-files_by_kind S = flat_map (group_files S) (groups S) ++ (map article_file (articles S) ++ map expiry_file (expiries S))
-
--- a file of a change, by the first octet of its name: g, a or x
-abbrev pub is_of_change : File → Bool
-is_of_change file = slice_index file.name 0 == 103 || (slice_index file.name 0 == 97 || slice_index file.name 0 == 120)
-
--- the serial and the numbers of a change fit into its file
-abbrev pub HasRoomInFile : ℕ → Change → Type 0
-HasRoomInFile n (Group g) = (n < 256 ^ 8) × (g.moment < 256 ^ 8)
-HasRoomInFile n (Article f) = (n < 256 ^ 8) × (f.moment < 256 ^ 8) × (length f.text < 256 ^ 4)
-HasRoomInFile n (Expire e) = (n < 256 ^ 8) × (e.number < 256 ^ 4)
-
--- ---- what a change does to the files
-
--- a call on files: an empty file is made; octets are appended to a file
-pub data FileCall : Type 0 where
-  Create : Octets → FileCall
-  Append : Octets → Octets → FileCall
-
--- a file, with these octets appended if it has this name
-abbrev pub appended : Octets → Octets → File → File
-appended name octets file = if bytes_eq name file.name then record { name = file.name; content = file.content ++ octets } else file
-
-abbrev pub after_call : List File → FileCall → List File
-after_call files (Create name) = files ++ record { name = name; content = [] } ∷ []
-after_call files (Append name octets) = map (appended name octets) files
-
--- the files after some calls, one after the other
-abbrev pub after_calls : List File → List FileCall → List File
-after_calls files [] = files
-after_calls files (call ∷ calls) = after_calls (after_call files call) calls
-
--- the overview line of an article that gets the next number of a group, and the record of that number
-abbrev pub next_line : Spool → Octets → Octets → Octets
-next_line S text g = overview_line (high S g + 1) text
-
-abbrev pub next_record : Spool → Octets → Octets → Octets
-next_record S text g = number_record (length S + 1) (length (overview_file S g)) (next_line S text g)
-
-abbrev pub filing_calls : Spool → Octets → Octets → List FileCall
-filing_calls S text g = Append (numbers_name g) (next_record S text g) ∷ Append (overview_name g) (next_line S text g) ∷ []
-
--- the calls that make a file with these octets
-abbrev pub making_calls : Octets → Octets → List FileCall
-making_calls name octets = Create name ∷ Append name octets ∷ []
-
--- the calls that a change makes after these changes
-abbrev pub change_calls : Spool → Change → List FileCall
-change_calls S (Group g) =
-    making_calls (group_name g.name) (group_record (news_group (length S + 1) g))
-    ++ Create (numbers_name g.name) ∷ Create (overview_name g.name) ∷ []
-change_calls S (Article f) =
-    making_calls (article_name (length S + 1)) (article_record (news_article (length S + 1) f))
-    ++ flat_map (filing_calls S f.text) f.groups
-change_calls S (Expire e) =
-    making_calls (expiry_name (length S + 1)) (expiry_record (news_expiry (length S + 1) e))

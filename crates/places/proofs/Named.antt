@@ -13,7 +13,8 @@ use Rattle.model.specs.Spool.{Spool, Entry, NewsGroup, entries, entries_from, gr
 use Rattle.model.specs.SpoolFiles.{change_file, entry_files, files_of, numbers_file, numbers_name, overview_file, overview_name}
 use Rattle.model.specs.declared.change.Change.{Change}
 use Rattle.model.specs.declared.change.Change.TheVariants.{Group, Article, Expire}
-use Rattle.model.proofs.Growing.{entries_push}
+use Rattle.model.proofs.ByKind.{overview_there}
+use Rattle.model.proofs.Growing.{entries_more, groups_more}
 use Rattle.model.proofs.Inodes.{names_once}
 use Rattle.model.proofs.Joined.{joined_has, map_twice}
 use Rattle.model.proofs.Opening.{where_is}
@@ -87,19 +88,17 @@ files_from inodes files f (k ∷ places) (x ∷ xs) are have same =
     let tail = files_from inodes files f places xs are (λ y has. have y (suc has.0, omega (arith, has.1), has.2)) rest in
     λ i. head i ∷ tail i
 
--- a group comes from the change that made it, and its two files come after that change's file
+-- a group comes from the change that made it, and its numbers come after that change's file
 record IsMadeBy (S : Spool) (n : ℕ) (R : Spool) (g : NewsGroup) : Type 0 where
   entry : Entry
   here : Contains (entries_from n R) entry
   numbers : Contains (entry_files S entry) (record { name = numbers_name g.name; content = numbers_file S g.name })
-  overview : Contains (entry_files S entry) (record { name = overview_name g.name; content = overview_file S g.name })
 
 later : (S : Spool) (n : ℕ) (c : Change) (R : Spool) (g : NewsGroup) → IsMadeBy S (suc n) R g → IsMadeBy S n (c ∷ R) g
 later S n c R g made = record {
   entry = made.entry;
   here = (suc made.here.0, omega (arith, made.here.1), made.here.2);
   numbers = made.numbers;
-  overview = made.overview;
 }
 
 made_by : (S : Spool) (n : ℕ) (R : Spool) (g : NewsGroup) → Contains (filter_map group_made (entries_from n R)) g → IsMadeBy S n R g
@@ -110,7 +109,6 @@ made_by S n (Group created ∷ R) g (zero, low, is) =
       entry = record { serial = n; change = Group created };
       here = (0, omega arith, refl);
       numbers = (1, omega arith, ap (λ (q : Octets). record { name = numbers_name q; content = numbers_file S q }) named);
-      overview = (2, omega arith, ap (λ (q : Octets). record { name = overview_name q; content = overview_file S q }) named);
     }
 made_by S n (Group created ∷ R) g (suc k, low, is) =
     later S n (Group created) R g (made_by S (suc n) R g (k, omega arith, is))
@@ -129,14 +127,6 @@ has_numbers S g has =
     joined_has (entry_files S) (entries_from 1 S) made.entry (record { name = numbers_name g.name; content = numbers_file S g.name })
     made.here made.numbers
 
-has_overview : (S : Spool) (g : NewsGroup) → Contains (groups S) g
-    → Contains (files_of S) (record { name = overview_name g.name; content = overview_file S g.name })
-unfolding files_of entries groups
-has_overview S g has =
-    let made = made_by S 1 S g has in
-    joined_has (entry_files S) (entries_from 1 S) made.entry (record { name = overview_name g.name; content = overview_file S g.name })
-    made.here made.overview
-
 pub are_by_name : PlacesAreByName
 are_by_name host inodes blocks S places held named =
     let are = theirs host inodes blocks S held in
@@ -150,7 +140,7 @@ are_by_name host inodes blocks S places held named =
       overviews_are = files_from (table inodes blocks) (files_of S) (λ (g : NewsGroup). record {
         name = overview_name g.name;
         content = overview_file S g.name;
-      }) places.overviews (groups S) are (has_overview S) named.overviews_are;
+      }) places.overviews (groups S) are (overview_there S) named.overviews_are;
     }
 
 -- ---- one change more
@@ -177,16 +167,6 @@ one_more old new named places xs at x keeps same here =
     let joined = map_push (λ k. name_of new k) places at in
     let other = map_push (λ y. Some (named y)) xs x in
     joined ∙ (λ i. kept i ++ here i ∷ []) ∙ sym other
-
-pub entries_more : (S : Spool) (c : Change) → entries (S ++ c ∷ []) ≡ entries S ++ record { serial = length S + 1; change = c } ∷ []
-unfolding entries
-entries_more S c = entries_push 1 S c
-
-pub groups_more : (S : Spool) (c : Change)
-    → groups (S ++ c ∷ []) ≡ groups S ++ filter_map group_made (record { serial = length S + 1; change = c } ∷ [])
-unfolding groups
-groups_more S c = ap (filter_map group_made) (entries_more S c)
-    ∙ filter_map-append group_made (entries S) (record { serial = length S + 1; change = c } ∷ [])
 
 no_more : (S : Spool) (c : Change) → group_made (record { serial = length S + 1; change = c }) ≡ None → groups (S ++ c ∷ []) ≡ groups S
 no_more S c none = groups_more S c ∙ ap (λ gs. groups S ++ gs) (empty (record { serial = length S + 1; change = c }) none)

@@ -6,7 +6,7 @@ use Rattle.model.specs.Answer.{Outcome, accepted, article_answer, group_closed, 
 use Rattle.model.specs.Answer.{id_here, no_group_here, not_an_article, spool_outcome}
 use Rattle.model.specs.Article.{Carried, cause}
 use Rattle.model.specs.Reads.{outcome_reads}
-use Rattle.model.specs.Spool.{Spool, NewsArticle, last_naming}
+use Rattle.model.specs.Spool.{Spool, NewsArticle, filing_of, last_naming}
 use Rattle.model.specs.declared.cause.Cause.{Cause}
 use Rattle.model.specs.declared.change.Change.TheVariants.{Article}
 use Rattle.model.specs.declared.session.Session.{Session}
@@ -41,7 +41,7 @@ refused_said S x welcome refusal stored t n (accepted here) is = absurd (cc)
 
 pub accepted_said : (S : Spool) (x : Session) (welcome refusal stored : Octets) (t : ℕ) (names : List Octets) (o : Outcome)
     → outcome.Accepted names ≡ told S o
-    → answered (then_line x welcome (Some (Article (record { text = stored; groups = names; moment = t }))))
+    → answered (then_line x welcome (Some (Article (filing_of stored names t))))
     (outcome_reads S (accepted names))
     ≡ answered (article_answer (answers.awaiting x awaits.Line) welcome refusal stored t o) (outcome_reads S o)
 accepted_said S x welcome refusal stored t names not_an_article is = absurd (cc)
@@ -50,7 +50,7 @@ accepted_said S x welcome refusal stored t names no_group_here is = absurd (cc)
 accepted_said S x welcome refusal stored t names (group_closed g) is = absurd (cc)
 accepted_said S x welcome refusal stored t names (accepted here) is =
     let one : names ≡ here = cc in
-    ap (λ ns. answered (then_line x welcome (Some (Article (record { text = stored; groups = ns; moment = t })))) (outcome_reads S
+    ap (λ ns. answered (then_line x welcome (Some (Article (filing_of stored ns t)))) (outcome_reads S
     (accepted ns))) one
 
 -- ---- what comes of a carried text

@@ -12,4 +12,4 @@ text_of (stored.Carried article) = article
 text_of (stored.Posted text) = text
 
 abbrev pub change_of : Accepted → Change
-change_of a = change.Article (record { text = text_of a.text; groups = a.groups; moment = a.moment })
+change_of a = change.Article (record { text = text_of a.text; envelope = a.envelope })

@@ -1,7 +1,7 @@
 //! An article that an answer accepts.
 
 use article::{Article, Injected};
-use model::{Moment, Names};
+use model::Envelope;
 
 /// An article as it is stored.
 #[derive(Drop)]
@@ -16,7 +16,5 @@ pub enum Stored<'t> {
 #[derive(Drop)]
 pub struct Accepted<'t> {
     pub text: Stored<'t>,
-    pub groups: Names,
-    /// when it is filed
-    pub moment: Moment,
+    pub envelope: Envelope,
 }

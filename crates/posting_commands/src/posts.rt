@@ -13,7 +13,7 @@ use crate::accepted::{Accepted, Stored};
 use crate::filing::{Closed, Outcome, filing};
 use article::{Article, Origin, Reading};
 use lookups::LookUps;
-use model::{Awaits, Cause, Mark, Moment, Session};
+use model::{Awaits, Cause, Envelope, Mark, Moment, Session};
 use plain_commands::ends;
 use replies::{Answered, Reply};
 use std::alloc::{AllocError, Global};
@@ -105,8 +105,7 @@ fn taken<'t, L: LookUps>(
             let stored = article.injected(alloc, serial, spool.host(), moment)?;
             let accepted = Accepted {
                 text: Stored::Posted(stored),
-                groups,
-                moment,
+                envelope: Envelope { groups, moment },
             };
             answer(alloc, session, Reply::Received, Some(accepted), serial)
         }
@@ -156,8 +155,7 @@ fn given<'t, L: LookUps>(
         Outcome::Accepted(groups) => {
             let accepted = Accepted {
                 text: Stored::Carried(article),
-                groups,
-                moment,
+                envelope: Envelope { groups, moment },
             };
             let serial = spool.len() + 1;
             answer(alloc, session, Reply::Transferred, Some(accepted), serial)

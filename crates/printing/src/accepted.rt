@@ -37,7 +37,7 @@ fn print_change<W: Write>(
             output.write_all(&[b' ', group.status.octet(), b'\n'])?;
         }
         Change::Article(filing) => {
-            let (text, groups) = (filing.text.as_slice(), filing.groups.as_slice());
+            let (text, groups) = (filing.text.as_slice(), filing.envelope.groups.as_slice());
             print_article(alloc, serial, text, groups, output)?;
         }
         Change::Expire(expiry) => {

@@ -4,7 +4,7 @@ use Rattle.std.specs.Prelude.{flat_map}
 use Rattle.std.proofs.lemmas.List.{append_assoc}
 use Rattle.byteorder.specs.Endian.{little_bytes}
 use Rattle.model.specs.Stream.{Octets}
-use Rattle.model.specs.Spool.{NewsArticle, NewsExpiry, NewsGroup, status_octet}
+use Rattle.model.specs.Spool.{NewsArticle, NewsExpiry, NewsGroup, filing_of, news_article, status_octet}
 use Rattle.model.specs.Records.{article_record, expiry_record, group_record}
 use Rattle.model.proofs.Strings.{append_split, counted_lists, counted_split, little_split, length-little}
 
@@ -61,19 +61,21 @@ pub article_parts : (a : NewsArticle)
     → article_record a ≡ head_of a.serial a.moment (length a.text) (length a.groups) (named a.groups ++ a.text)
 article_parts a = simp append_assoc
 
-pub record ArticleIs (a : NewsArticle) (text count : ℕ) (rest : Octets) : Type 0 where
+pub record ArticleIs (a : NewsArticle) (moment text count : ℕ) (rest : Octets) : Type 0 where
+  pub moment_is : moment ≡ a.moment
   pub text_is : text ≡ length a.text
   pub count_is : count ≡ length a.groups
   pub rest_is : rest ≡ named a.groups ++ a.text
 
 pub article_is : (a : NewsArticle) (octets : Octets) (serial moment text count : ℕ) (rest : Octets) → text < 256 ^ 4
-    → length a.text < 256 ^ 4 → octets ≡ head_of serial moment text count rest → octets ≡ article_record a → ArticleIs a text count rest
-article_is a octets serial moment text count rest small short cut is =
+    → length a.text < 256 ^ 4 → moment < 256 ^ 8 → a.moment < 256 ^ 8 → octets ≡ head_of serial moment text count rest
+    → octets ≡ article_record a → ArticleIs a moment text count rest
+article_is a octets serial moment text count rest small short fits early cut is =
     let one = behind 8 serial a.serial _ _ (sym cut ∙ is ∙ article_parts a) in
-    let two = behind 8 moment a.moment _ _ one in
-    let three = little_split 4 text (length a.text) _ _ small short two in
+    let two = little_split 8 moment a.moment _ _ fits early one in
+    let three = little_split 4 text (length a.text) _ _ small short two.1 in
     let last : count ∷ rest ≡ length a.groups ∷ (named a.groups ++ a.text) = three.1 in
-    record { text_is = three.0; count_is = cc; rest_is = cc }
+    record { moment_is = two.0; text_is = three.0; count_is = cc; rest_is = cc }
 
 -- the text is what follows the names
 pub text_is : (a : NewsArticle) (names : List Octets) (rest text : Octets) → length names ≡ length a.groups
@@ -85,7 +87,7 @@ pub article_joined : (serial moment : ℕ) (text : Octets) (groups : List Octets
     → s ≡ little_bytes 8 serial → m ≡ little_bytes 8 moment → size ≡ little_bytes 4 (length text) → count ≡ length groups
     → names ≡ named groups
     → ((((s ++ m) ++ size) ++ (count ∷ [])) ++ names) ++ text
-    ≡ article_record (record { serial = serial; text = text; groups = groups; moment = moment })
+    ≡ article_record (news_article serial (filing_of text groups moment))
 article_joined serial moment text groups s m size names count serial_is moment_is size_is count_is names_are =
     ap (λ (o : Octets). o ++ text) (append_assoc ((s ++ m) ++ size) (count ∷ []) names)
     ∙ ap (λ (o : Octets). ((((o ++ m) ++ size) ++ (count ∷ names))) ++ text) serial_is

@@ -5,6 +5,9 @@ ghost use Rattle.byteorder.specs.Endian.{little_bytes};
 
 use byteorder::{ByteOrder, LittleEndian};
 
+/// The most octets of a group's name in a record, with its length.
+pub(crate) const NAME_SIZE: usize = 256;
+
 /// The first octet, and the rest.
 pub(crate) fn cut8(octets: &[u8]) -> Option<(u8, &[u8])>
     ensures { MatchOption result (length octets.now < 1) (λ p. octets.now ≡ p.0 ∷ p.1.now) }

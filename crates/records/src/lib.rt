@@ -2,13 +2,15 @@
 //! back exactly.
 #![tactic(auto)]
 
+mod articles;
 mod cutting;
+mod expiries;
+mod groups;
 mod names;
-mod reading;
-mod writing;
+mod numbers;
 
+pub use articles::{ArticleRecord, article_record, read_article};
+pub use expiries::{ExpiryRecord, expiry_record, read_expiry};
+pub use groups::{GroupRecord, group_record, read_group};
 pub use names::{FileKind, SERIAL_DIGITS, file_name, kind_of, serial_digits, serial_of};
-pub use reading::{
-    ArticleRecord, ExpiryRecord, GroupRecord, read_article, read_expiry, read_group,
-};
-pub use writing::{article_record, expiry_record, group_record, number_record};
+pub use numbers::number_record;

@@ -77,11 +77,10 @@ fn file<S: ChangeSpool>(
     requires { IsLawful (S.host_of spool.old) (S.changes spool.old ++ change_of accepted.now ∷ []) }
     ensures { IsFiled (S.lacks_room spool.old) (S.adds spool.old spool.new) (spool.new ≡ spool.old) (change_of accepted.now) result }
 {
-    let groups = accepted.groups.as_slice();
     match &accepted.text {
-        Stored::Carried(article) => spool.file(article, groups, accepted.moment),
+        Stored::Carried(article) => spool.file(article, &accepted.envelope),
         Stored::Posted(stored) => match stored.article(alloc) {
-            Ok(article) => spool.file(&article, groups, accepted.moment),
+            Ok(article) => spool.file(&article, &accepted.envelope),
             Err(_) => Err(FilingError::Memory),
         },
     }

@@ -10,7 +10,7 @@ use Rattle.model.specs.declared.change.Change.{Change}
 use Rattle.model.specs.declared.change.Change.TheVariants.{Group, Article, Expire}
 use Rattle.model.proofs.HoldsOne.{empty_none, holds_one}
 use Rattle.model.proofs.Opening.{files_counted}
-use Rattle.places.proofs.Named.{groups_more}
+use Rattle.model.proofs.Growing.{groups_more}
 use mathlib.Core.HLevel.{is_prop→PathP}
 use Rattle.std.proofs.Math.Logic.{∥∥₁_elim, ∥∥₁_prop}
 use Rattle.std.specs.Prelude.{IsTrue}

@@ -66,16 +66,16 @@ parted false false true = refl
 parted false false false = refl
 
 pub full_article : (blocks inodes : ℕ) (S : Spool) (f : Filing)
-    → is_full_for blocks inodes S (Article f) ≡ (lacks blocks inodes S 1 || list_any (one_large S) f.groups)
+    → is_full_for blocks inodes S (Article f) ≡ (lacks blocks inodes S 1 || list_any (one_large S) f.envelope.groups)
 unfolding is_full_for
 full_article blocks inodes S f =
     parted (nat_lt (Rattle.model.specs.Room.free_blocks_beside blocks inodes (files_of S)) 256)
-    (nat_lt (Rattle.model.specs.Room.free_inodes_beside inodes (files_of S)) 1) (list_any (one_large S) f.groups)
+    (nat_lt (Rattle.model.specs.Room.free_inodes_beside inodes (files_of S)) 1) (list_any (one_large S) f.envelope.groups)
 
 pub article_refused : (s : SpoolView) (c : Change) (full : Bool) → is_full_for (length s.blocks) s.inodes s.changes c ≡ full
     → article_refusal s c ≡ (if full then Some file.Full else None)
 article_refused s c full room = ap (λ (b : Bool). if b then Some file.Full else None) room
 
 -- the groups of an article that may be filed are here
-pub are_filed : (host : Octets) (S : Spool) (f : Filing) → MayFile host S f → AreHere S f.groups
+pub are_filed : (host : Octets) (S : Spool) (f : Filing) → MayFile host S f → AreHere S f.envelope.groups
 are_filed host S f may = subst (AreHere S) (sym may.filed) (are_here S (groups_of f.text))

@@ -3,7 +3,7 @@
 use crate::Spool;
 use article::Article;
 use change_spool::{ChangeSpool, FilingError};
-use model::{Moment, Text};
+use model::Envelope;
 
 impl ChangeSpool for Spool {
     ghost use Rattle.spool.specs.Refusals.{is_full_for};
@@ -13,13 +13,8 @@ impl ChangeSpool for Spool {
 
     ghost adds = { λ before after c. Adds before after c };
 
-    fn file(
-        &mut self,
-        article: &Article<'_>,
-        groups: &[Text],
-        moment: Moment,
-    ) -> Result<(), FilingError> {
-        match self.add_article(article, groups, moment) {
+    fn file(&mut self, article: &Article<'_>, envelope: &Envelope) -> Result<(), FilingError> {
+        match self.add_article(article, envelope) {
             Ok(_) => Ok(()),
             Err(error) => Err(error),
         }

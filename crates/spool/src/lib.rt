@@ -34,7 +34,7 @@ use fs::free_block_count;
 use index::Index;
 use index_groups::Group;
 use lookups::LookUps;
-use model::{Change, Moment, Status, Text};
+use model::{Change, Envelope, Moment, Status, Text};
 use names::GroupRequest;
 use places::Places;
 use room::extends_large;
@@ -295,51 +295,44 @@ impl Spool {
         Ok(())
     }
 
-    /// Whether there is no room for an article in these groups, which must exist.
-    fn is_full_for_article(&self, groups: &[Text]) -> bool
-        requires { AreHere self.now.changes groups.now }
-        ensures { (text : List ℕ) (moment : ℕ) → result ≡ is_full_for self.now
-            (changed.Article (record { text = text; groups = groups.now; moment = moment })) }
+    /// Whether there is no room for an article with this envelope, whose groups must exist.
+    fn is_full_for_article(&self, envelope: &Envelope) -> bool
+        requires { AreHere self.now.changes envelope.now.groups }
+        ensures { (text : List ℕ) → result ≡ is_full_for self.now (changed.Article (record { text = text; envelope = envelope.now })) }
     {
-        self.lacks_room(1) || extends_large(&self.index, groups)
+        self.lacks_room(1) || extends_large(&self.index, envelope.groups.as_slice())
     }
 
-    /// Files an article in these groups, and answers its serial. Its change must be one that may follow. Refused as
+    /// Files an article with this envelope, and answers its serial. Its change must be one that may follow. Refused as
     /// `Full` or `Memory`, tested in that order. A refusal changes nothing.
     pub fn add_article(
         &mut self,
         article: &Article<'_>,
-        groups: &[Text],
-        moment: Moment,
+        envelope: &Envelope,
     ) -> Result<u64, FilingError>
-        requires { MayFile self.old.host self.old.changes (record { text = article.now; groups = groups.now; moment = moment }) }
+        requires { MayFile self.old.host self.old.changes (record { text = article.now; envelope = envelope.now }) }
         ensures { Tested FilingError.Memory (article_refusal self.old (changed.Article
-            (record { text = article.now; groups = groups.now; moment = moment }))) self.old self.new result
+            (record { text = article.now; envelope = envelope.now }))) self.old self.new result
             (λ serial. (serial ≡ length self.old.changes + 1) × Adds self.old self.new (changed.Article
-            (record { text = article.now; groups = groups.now; moment = moment }))) }
+            (record { text = article.now; envelope = envelope.now }))) }
     {
-        if self.is_full_for_article(groups) {
+        if self.is_full_for_article(envelope) {
             return Err(FilingError::Full);
         }
-        match self.push_article(article, groups, moment) {
+        match self.push_article(article, envelope) {
             Ok(()) => Ok(self.len()),
             Err(_) => Err(FilingError::Memory),
         }
     }
 
-    /// Files an article that may be filed in these groups and for which there is room. Refused only for want of memory,
+    /// Files an article that may be filed with this envelope and for which there is room. Refused only for want of memory,
     /// and then nothing changes.
-    fn push_article(
-        &mut self,
-        article: &Article<'_>,
-        groups: &[Text],
-        moment: Moment,
-    ) -> Result<(), AllocError>
-        requires may { MayFile self.old.host self.old.changes (record { text = article.now; groups = groups.now; moment = moment }) }
+    fn push_article(&mut self, article: &Article<'_>, envelope: &Envelope) -> Result<(), AllocError>
+        requires may { MayFile self.old.host self.old.changes (record { text = article.now; envelope = envelope.now }) }
         requires room { is_full_for self.old (changed.Article
-            (record { text = article.now; groups = groups.now; moment = moment })) ≡ false }
+            (record { text = article.now; envelope = envelope.now })) ≡ false }
         ensures ok { OnOk result (Adds self.old self.new (changed.Article
-            (record { text = article.now; groups = groups.now; moment = moment }))) }
+            (record { text = article.now; envelope = envelope.now }))) }
         ensures err { OnErr result (self.new ≡ self.old) }
     {
         let free = grow_by_article(
@@ -350,8 +343,7 @@ impl Spool {
             &mut self.index,
             &mut self.places,
             article,
-            groups,
-            moment,
+            envelope,
         )?;
         self.free = free;
         self.free_inodes -= 1;

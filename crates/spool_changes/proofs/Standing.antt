@@ -7,7 +7,8 @@ use Rattle.model.specs.Files.{File, table}
 use Rattle.model.specs.Indexed.{FilePlaces}
 use Rattle.model.specs.Layout.{Holds}
 use Rattle.model.specs.Spool.{Spool, entries, entries_from}
-use Rattle.model.specs.SpoolFiles.{HasRoomInFile, change_file}
+use Rattle.model.specs.FileKinds.{HasRoomInFile}
+use Rattle.model.specs.SpoolFiles.{change_file}
 use Rattle.model.specs.declared.change.Change.{Change}
 use Rattle.model.proofs.HoldsOne.{changes_few, fits_lawful, holds_one, no_change, same_change}
 use Rattle.fs_layout.proofs.Tables.{length-table}

@@ -1,9 +1,9 @@
 //! Copies the contents of a change's file into a change.
 
-ghost use Rattle.std.specs.Prelude.{◌≡◌, map, IfOk};
+ghost use Rattle.std.specs.Prelude.{◌≡◌, IfOk};
 ghost use Rattle.spool_reading.specs.Said.{change_of};
 
-use model::{Change, Expiry, Filing, Names, NewGroup, Text};
+use model::{Change, Expiry, Filing, NewGroup, Text};
 use spool_reading::Said;
 use std::alloc::{AllocError, Global};
 
@@ -23,14 +23,9 @@ pub fn change_said(alloc: Global, said: &Said<'_>) -> Result<Change, AllocError>
             description: copy(alloc, description)?,
             moment: *moment,
         })),
-        Said::Article {
-            text,
-            groups,
-            moment,
-        } => Ok(Change::Article(Filing {
+        Said::Article { text, envelope } => Ok(Change::Article(Filing {
             text: copy(alloc, text)?,
-            groups: copy_names(alloc, groups)?,
-            moment: *moment,
+            envelope: envelope.copy(alloc)?,
         })),
         Said::Expiry { group, number } => Ok(Change::Expire(Expiry {
             group: copy(alloc, group)?,
@@ -44,15 +39,4 @@ fn copy(alloc: Global, octets: &[u8]) -> Result<Text, AllocError>
     ensures { IfOk result (λ text. text ≡ octets.now) }
 {
     Ok(Text::new(octets.to_vec(alloc)?))
-}
-
-/// A copy of the names. Refused only for want of memory.
-fn copy_names(alloc: Global, names: &[&[u8]]) -> Result<Names, AllocError>
-    ensures { IfOk result (λ copies. copies ≡ map (λ name. name.now) names.now) }
-{
-    let mut copies = Vec::new(alloc);
-    for name in names {
-        copies.push(copy(alloc, name)?)?;
-    }
-    Ok(Names::new(copies))
 }

@@ -16,7 +16,8 @@ use Rattle.model.specs.Room.{is_full}
 use Rattle.model.specs.Laws.Room.{HasRoomForChange}
 use Rattle.model.specs.Spool.{Spool, NewsArticle, NewsGroup, group_named, groups}
 use Rattle.model.specs.Spool.{is_here}
-use Rattle.model.specs.SpoolFiles.{Append, filing_calls, next_line, next_record, number_record, numbers_file, numbers_name, overview_file}
+use Rattle.model.specs.FileCalls.{Append, filing_calls, next_line, next_record}
+use Rattle.model.specs.SpoolFiles.{number_record, numbers_file, numbers_name, overview_file}
 use Rattle.model.specs.SpoolFiles.{overview_name}
 use Rattle.model.specs.declared.change.Change.TheVariants.{Article}
 use Rattle.model.specs.declared.change.Filing.{Filing}
@@ -50,7 +51,7 @@ filtered p (y ∷ xs) x has = by_test (p y) refl has (λ later. filtered p xs x 
   by_test true at (suc k, low, is) rest = rest (k, omega arith, is)
   by_test false at has rest = rest has
 
-pub filed_here : (host : Octets) (S : Spool) (f : Filing) (g : Octets) → MayFile host S f → Contains f.groups g → is_here S g ≡ true
+pub filed_here : (host : Octets) (S : Spool) (f : Filing) (g : Octets) → MayFile host S f → Contains f.envelope.groups g → is_here S g ≡ true
 filed_here host S f g may has = filtered (is_here S) (groups_of f.text) g (subst (λ (gs : List Octets). Contains gs g) may.filed has)
 
 -- ---- a group at its place
@@ -144,6 +145,11 @@ short_end x p text filed can name k its i is =
       overview_small can.host can.inodes can.blocks can.changes its.group can.is.held among,
     )
 
+-- the pieces of the same groups
+pub pieces_of : (inodes : List (Option File)) (S : Spool) (text : Octets) (gs names : List Octets) (ps : List Piece) → gs ≡ names
+    → ArePieces inodes S text gs ps → ArePieces inodes S text names ps
+pieces_of inodes S text gs names ps same are = subst (λ (l : List Octets). ArePieces inodes S text l ps) same are
+
 -- the line of a group by the index
 line_is : (S : Spool) (text : Octets) (g : NewsGroup) (i : GroupIndex) → i ≡ group_index S g
     → overview_line (length i.filed + 1) text ≡ next_line S text g.name
@@ -153,7 +159,7 @@ pub short_line : (x : IndexView) (p : FilePlaces) (text : Octets) (filed : List 
     (k : ℕ) (its : IsAt can.changes name k) (i : GroupIndex) (line : Octets)
     → i ≡ group_index can.changes its.group → line ≡ overview_line (length i.filed + 1) text → length line ≤ 8191
 short_line x p text filed can name k its i line is said =
-    let filing : Filing = record { text = text; groups = filed; moment = can.moment } in
+    let filing : Filing = record { text = text; envelope = record can.envelope { groups = filed } } in
     let asks = changes_ask_few can.host can.changes (Article filing)
     (changes_are_few can.host can.inodes can.blocks can.changes can.is) can.is.held.lawful can.may in
     omega (
@@ -326,14 +332,14 @@ record_size S text g =
 
 module _ (host : Octets) (inodes : ℕ) (blocks : List Octets) (S : Spool) (f : Filing) (pieces : List Piece)
     (is : IsHeld host inodes blocks S) (may : MayFile host S f) (room : is_full (length blocks) inodes S (Some (Article f)) ≡ false)
-    (are : ArePieces (table inodes blocks) S f.text f.groups pieces) where
+    (are : ArePieces (table inodes blocks) S f.text f.envelope.groups pieces) where
   rooms : HasRoomForChange (length blocks) inodes S (Article f)
   rooms = not_full_room host (length blocks) inodes S (Article f) (changes_are_few host inodes blocks S is) is.held.lawful may room
 
   lines_short : (g : Octets) → length (next_line S f.text g) ≤ 8191
   lines_short g = (changes_ask_few host S (Article f) (changes_are_few host inodes blocks S is) is.held.lawful may).lines f g refl
 
-  its_room : (g : Octets) (p : Piece) → Contains f.groups g → IsFor (table inodes blocks) S f.text g p
+  its_room : (g : Octets) (p : Piece) → Contains f.envelope.groups g → IsFor (table inodes blocks) S f.text g p
       → MayGrow inodes p.at (length p.octets.items) blocks × (length p.octets.items ≤ 8191)
   its_room g p has (ForNumbers there said) = (
     record {
@@ -356,10 +362,10 @@ module _ (host : Octets) (inodes : ℕ) (blocks : List Octets) (S : Spool) (f : 
 
   pub pieces_may_grow : MayAllGrow inodes pieces blocks
   pieces_may_grow = record {
-    each = λ k p at. let its = piece_for (table inodes blocks) S f.text f.groups pieces k p are at in
+    each = λ k p at. let its = piece_for (table inodes blocks) S f.text f.envelope.groups pieces k p are at in
         (its_room its.group p its.has its.is).0;
-    small = λ k p at. let its = piece_for (table inodes blocks) S f.text f.groups pieces k p are at in
+    small = λ k p at. let its = piece_for (table inodes blocks) S f.text f.envelope.groups pieces k p are at in
         (its_room its.group p its.has its.is).1;
-    apart = λ j k p q less first second. pieces_apart (table inodes blocks) S f.text f.groups pieces j k p q are
+    apart = λ j k p q less first second. pieces_apart (table inodes blocks) S f.text f.envelope.groups pieces j k p q are
         (filed_distinct host S f may) less first second;
   }

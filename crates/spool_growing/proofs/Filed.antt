@@ -7,10 +7,11 @@ use Rattle.model.specs.Stream.{Octets}
 use Rattle.model.specs.Files.{File, free_blocks, table}
 use Rattle.model.specs.Indexed.{FilePlaces}
 use Rattle.model.specs.Lawful.{MayFile}
-use Rattle.model.specs.Records.{article_record}
-use Rattle.model.specs.Room.{blocks_taken}
+use Rattle.model.specs.Records.{article_record, largest_record}
+use Rattle.model.specs.Asked.{blocks_taken}
 use Rattle.model.specs.Spool.{Spool, news_article}
-use Rattle.model.specs.SpoolFiles.{FileCall, Create, Append, article_name, change_calls, filing_calls, making_calls}
+use Rattle.model.specs.FileCalls.{FileCall, Create, Append, change_calls, filing_calls, making_calls}
+use Rattle.model.specs.SpoolFiles.{article_name}
 use Rattle.model.specs.declared.change.Change.{Change}
 use Rattle.model.specs.declared.change.Change.TheVariants.{Article}
 use Rattle.model.specs.declared.change.Filing.{Filing}
@@ -79,7 +80,7 @@ module _ (inodes at : ℕ) (name octets : Octets) (pieces : List Piece) (old mid
     apart = may.apart;
   }
 
-  pub still_free : length octets ≤ 262821 → length pieces ≤ 32 → 256 ≤ free_blocks old → 4 * length pieces ≤ free_blocks mid
+  pub still_free : length octets ≤ largest_record → length pieces ≤ 32 → 256 ≤ free_blocks old → 4 * length pieces ≤ free_blocks mid
   still_free short few free =
       omega (
         arith,
@@ -127,21 +128,21 @@ module _ (inodes at : ℕ) (name octets : Octets) (pieces : List Piece) (old mid
 -- the calls of an article that is filed
 article_is_filed : (inodes : ℕ) (S : Spool) (f : Filing) (at : ℕ) (octets : Octets) (pieces : List Piece) (old new : List Octets)
     → octets ≡ article_record (news_article (length S + 1) f)
-    → ArePieces (table inodes old) S f.text f.groups pieces
+    → ArePieces (table inodes old) S f.text f.envelope.groups pieces
     → FilesArticle inodes at (article_name (length S + 1)) octets pieces old new
     → Calls inodes (change_calls S (Article f)) old new
 article_is_filed inodes S f at octets pieces old new says are made =
     let name = article_name (length S + 1) in
-    let lines : Calls inodes (making_calls name octets ++ flat_map (filing_calls S f.text) f.groups) old new =
+    let lines : Calls inodes (making_calls name octets ++ flat_map (filing_calls S f.text) f.envelope.groups) old new =
     subst (λ (cs : List FileCall). Calls inodes (making_calls name octets ++ cs) old new)
-    (pieces_call (table inodes old) S f.text f.groups pieces are) made.calls in
-    subst (λ (o : Octets). Calls inodes (making_calls name o ++ flat_map (filing_calls S f.text) f.groups) old new) says lines
+    (pieces_call (table inodes old) S f.text f.envelope.groups pieces are) made.calls in
+    subst (λ (o : Octets). Calls inodes (making_calls name o ++ flat_map (filing_calls S f.text) f.envelope.groups) old new) says lines
 
 pub kept_with_article : (host : Octets) (inodes : ℕ) (v w : VolumeView) (i j : IndexView) (p q : FilePlaces) (S : Spool) (f : Filing)
     (at : ℕ) (octets : Octets) (pieces : List Piece)
     → IsKept host inodes v i p S → MayFile host S f
     → octets ≡ article_record (news_article (length S + 1) f)
-    → ArePieces (table inodes v.cache) S f.text f.groups pieces
+    → ArePieces (table inodes v.cache) S f.text f.envelope.groups pieces
     → FilesArticle inodes at (article_name (length S + 1)) octets pieces v.cache w.cache → q ≡ with_change at p
     → Indexes (S ++ Article f ∷ []) j → w.seen ≡ w.cache
     → IsKept host inodes w j q (S ++ Article f ∷ [])
@@ -167,7 +168,7 @@ pub article_grown : (inodes : ℕ) (v m w : VolumeView) (i j : IndexView) (p q :
     → ((host : Octets) (S : Spool) → MayFile host S f → IsKept host inodes v i p S → Indexes (S ++ Article f ∷ []) j)
     → ((S : Spool) → Indexes S i → serial ≡ length S + 1)
     → octets ≡ article_record (news_article serial f)
-    → ((host : Octets) (S : Spool) → IsKept host inodes v i p S → ArePieces (table inodes v.cache) S f.text f.groups pieces)
+    → ((host : Octets) (S : Spool) → IsKept host inodes v i p S → ArePieces (table inodes v.cache) S f.text f.envelope.groups pieces)
     → IsGrown inodes v w i j p q (Article f)
 article_grown inodes v m w i j p q f at serial octets pieces seen made dirties cache now places indexed serials says are =
     let made' : FilesArticle inodes at (article_name serial) octets pieces v.cache w.cache =

@@ -11,7 +11,8 @@ use Rattle.model.specs.Indexed.{FilePlaces}
 use Rattle.model.specs.Lawful.{MayMake, MayExpire}
 use Rattle.model.specs.Records.{expiry_record, group_record}
 use Rattle.model.specs.Spool.{Spool, group_named, news_expiry, news_group}
-use Rattle.model.specs.SpoolFiles.{Create, FileCall, after_calls, appended, change_calls, expiry_name, group_name, making_calls}
+use Rattle.model.specs.FileCalls.{Create, FileCall, after_calls, appended, change_calls, making_calls}
+use Rattle.model.specs.SpoolFiles.{expiry_name, group_name}
 use Rattle.model.specs.SpoolFiles.{numbers_name, overview_name}
 use Rattle.model.specs.declared.change.Change.{Change}
 use Rattle.model.specs.declared.change.Change.TheVariants.{Group, Expire}

@@ -11,7 +11,8 @@ use Rattle.model.specs.Lawful.{MayFollow}
 use Rattle.model.specs.Room.{blocks_asked, blocks_for, extends_large, files_made, free_blocks_beside, free_inodes_beside, has_all_groups}
 use Rattle.model.specs.Room.{is_full, is_full_for}
 use Rattle.model.specs.Spool.{Spool}
-use Rattle.model.specs.SpoolFiles.{change_calls, files_of}
+use Rattle.model.specs.FileCalls.{change_calls}
+use Rattle.model.specs.SpoolFiles.{files_of}
 use Rattle.model.specs.declared.change.Change.{Change}
 use Rattle.model.specs.declared.change.Change.TheVariants.{Group, Article, Expire}
 use Rattle.model.proofs.Counting.{free_is_beside}

@@ -6,10 +6,12 @@ use Rattle.std.proofs.lemmas.List.Sums.{sum_by-cons}
 use Rattle.model.specs.Stream.{Octets}
 use Rattle.model.specs.Files.{File, table}
 use Rattle.model.specs.Lawful.{MayFile}
-use Rattle.model.specs.Records.{article_record}
-use Rattle.model.specs.Room.{blocks_changed, blocks_filed, blocks_fresh, content_blocks, pointers_put}
+use Rattle.model.specs.Records.{article_record, largest_record}
+use Rattle.model.specs.Asked.{blocks_changed, blocks_filed, blocks_fresh, pointers_put}
+use Rattle.model.specs.Room.{content_blocks}
 use Rattle.model.specs.Spool.{Spool, news_article}
-use Rattle.model.specs.SpoolFiles.{next_line, next_record, numbers_file, numbers_name, overview_file, overview_name}
+use Rattle.model.specs.FileCalls.{next_line, next_record}
+use Rattle.model.specs.SpoolFiles.{numbers_file, numbers_name, overview_file, overview_name}
 use Rattle.model.specs.declared.change.Change.TheVariants.{Article}
 use Rattle.model.specs.declared.change.Filing.{Filing}
 use Rattle.model.proofs.Asking.{changes_ask_few}
@@ -32,11 +34,11 @@ few_put fresh end few = by_tests (eqb fresh 0) (nat_lt 4235264 end) (nat_lt 4096
   by_tests false false true = omega arith
   by_tests false false false = omega arith
 
-reached_by : (n : ℕ) → n ≤ 262821 → 2 + touched_by_growth 0 n ≤ content_blocks n + 6
+reached_by : (n : ℕ) → n ≤ largest_record → 2 + touched_by_growth 0 n ≤ content_blocks n + 6
 reached_by n few = omega (arith, few_put (blocks_fresh 0 n) (0 + n) (omega (arith, few)))
 
 -- a new file of this many octets
-pub few_reached : (n : ℕ) → n ≤ 262821 → 2 + touched_by_growth 0 n ≤ 71
+pub few_reached : (n : ℕ) → n ≤ largest_record → 2 + touched_by_growth 0 n ≤ 71
 few_reached n few = omega (arith, reached_by n few, few)
 
 -- ---- its numbers and lines
@@ -75,22 +77,22 @@ module _ (host : Octets) (inodes : ℕ) (blocks : List Octets) (S : Spool) (f : 
   abbrev octets_of : Octets
   octets_of = article_record (news_article (length S + 1) f)
 
-  few_changed : 2 + touched_by_growth 0 (length octets_of) + sum_by (blocks_filed S f.text) f.groups ≤ 254
+  few_changed : 2 + touched_by_growth 0 (length octets_of) + sum_by (blocks_filed S f.text) f.envelope.groups ≤ 254
   unfolding blocks_changed
   few_changed =
       let asks = changes_ask_few host S (Article f) (changes_are_few host inodes blocks S is) is.held.lawful may in
       omega (arith, asks.changed, reached_by (length octets_of) asks.made)
 
-  few_touched : (octets : Octets) (pieces : List Piece) → octets ≡ octets_of → ArePieces (table inodes blocks) S f.text f.groups pieces
+  few_touched : (octets : Octets) (pieces : List Piece) → octets ≡ octets_of → ArePieces (table inodes blocks) S f.text f.envelope.groups pieces
       → 2 + touched_by_growth 0 (length octets) + touched_by_pieces (table inodes blocks) pieces ≤ 254
   few_touched octets pieces says are =
-      let pieces_are = sym (pieces_touch (table inodes blocks) S f.text f.groups pieces are) in
+      let pieces_are = sym (pieces_touch (table inodes blocks) S f.text f.envelope.groups pieces are) in
       subst (λ (n : ℕ). 2 + touched_by_growth 0 (length octets) + n ≤ 254) pieces_are
-      (subst (λ (o : Octets). 2 + touched_by_growth 0 (length o) + sum_by (blocks_filed S f.text) f.groups ≤ 254) (sym says) few_changed)
+      (subst (λ (o : Octets). 2 + touched_by_growth 0 (length o) + sum_by (blocks_filed S f.text) f.envelope.groups ≤ 254) (sym says) few_changed)
 
   pub article_touches : (serial : ℕ) (octets : Octets) (pieces : List Piece) (seen new : List Octets)
       → seen ≡ blocks → serial ≡ length S + 1
-      → octets ≡ article_record (news_article serial f) → ArePieces (table inodes blocks) S f.text f.groups pieces
+      → octets ≡ article_record (news_article serial f) → ArePieces (table inodes blocks) S f.text f.envelope.groups pieces
       → Touches (2 + touched_by_growth 0 (length octets) + touched_by_pieces (table inodes seen) pieces) seen new
       → Touches 254 seen new
   article_touches serial octets pieces seen new same count says are touches =

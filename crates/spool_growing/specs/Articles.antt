@@ -6,8 +6,10 @@ use Rattle.model.specs.Files.{File}
 use Rattle.model.specs.Indexed.{ArePlaces, FilePlaces}
 use Rattle.model.specs.Lawful.{MayFile}
 use Rattle.model.specs.Spool.{Spool}
-use Rattle.model.specs.SpoolFiles.{next_line, next_record, numbers_file, numbers_name, overview_file, overview_name}
+use Rattle.model.specs.FileCalls.{next_line, next_record}
+use Rattle.model.specs.SpoolFiles.{numbers_file, numbers_name, overview_file, overview_name}
 use Rattle.index.specs.View.{IndexView, Indexes}
+use Rattle.model.specs.declared.change.Envelope.{Envelope}
 use Rattle.filing.specs.declared.Piece.{Piece}
 use Rattle.spool_growing.specs.Kept.{IsHeld}
 
@@ -36,11 +38,11 @@ pub record CanFile (index : IndexView) (places : FilePlaces) (text : Octets) (fi
   pub inodes : ℕ
   pub blocks : List Octets
   pub changes : Spool
-  pub moment : ℕ
+  pub envelope : Envelope
   pub is : IsHeld host inodes blocks changes
   pub indexed : Indexes changes index
   pub placed : ArePlaces inodes blocks changes places
-  pub may : MayFile host changes (record { text = text; groups = filed; moment = moment })
+  pub may : MayFile host changes (record { text = text; envelope = record envelope { groups = filed } })
 
 -- the same for one of the groups
 pub record CanFileIn (index : IndexView) (places : FilePlaces) (text g : Octets) : Type 0 where

@@ -6,7 +6,8 @@ use Rattle.model.specs.Indexed.{FilePlaces}
 use Rattle.model.specs.Lawful.{MayFollow}
 use Rattle.model.specs.Room.{is_full}
 use Rattle.model.specs.Spool.{Spool}
-use Rattle.model.specs.SpoolFiles.{FileCall, Create, group_name, making_calls, numbers_name, overview_name}
+use Rattle.model.specs.FileCalls.{FileCall, Create, making_calls}
+use Rattle.model.specs.SpoolFiles.{group_name, numbers_name, overview_name}
 use Rattle.model.specs.Stream.{Octets}
 use Rattle.model.specs.Volume.{AreDistinct}
 use Rattle.model.specs.declared.change.Change.{Change}

@@ -7,7 +7,6 @@ ghost use Rattle.model.specs.Files.{HasRoom};
 ghost use Rattle.model.specs.declared.change.Change.{Change};
 ghost use Rattle.spool_growing.specs.Growing.{IsGrown, IsReady};
 
-use crate::articles::{copy_names, record_of};
 use crate::lines::lines_of;
 use crate::staging::{file_article, make_expiry, make_group};
 use admission::id_of;
@@ -15,9 +14,9 @@ use article::Article;
 use filing::Free;
 use fs_layout::marks::lowest_free;
 use index::Index;
-use model::{Moment, Status, Text};
+use model::{Envelope, Moment, Status};
 use places::Places;
-use records::{expiry_record, group_record};
+use records::{article_record, expiry_record, group_record};
 use std::alloc::{AllocError, Global};
 use volume::{Blocks, Volume};
 
@@ -121,7 +120,7 @@ pub fn grow_by_expiry(
     Ok(seek_block(volume, inodes, next))
 }
 
-/// Files an article in these groups and answers what is free afterwards. The change must be one that may follow, and
+/// Files an article with this envelope and answers what is free afterwards. The change must be one that may follow, and
 /// there must be room for it. Refused only for want of memory, and then nothing changes.
 pub fn grow_by_article(
     alloc: Global,
@@ -131,22 +130,23 @@ pub fn grow_by_article(
     index: &mut Index,
     places: &mut Places,
     article: &Article<'_>,
-    groups: &[Text],
-    moment: Moment,
+    envelope: &Envelope,
 ) -> Result<Free, AllocError>
     requires ready { IsReady inodes volume.old index.old places.old
-        (Change.Article (record { text = article.now; groups = groups.now; moment = moment })) }
+        (Change.Article (record { text = article.now; envelope = envelope.now })) }
     requires known { IsKnown inodes free volume.old.cache }
     ensures grown { OnOk result (IsGrown inodes volume.old volume.new index.old index.new places.old places.new
-        (Change.Article (record { text = article.now; groups = groups.now; moment = moment }))) }
+        (Change.Article (record { text = article.now; envelope = envelope.now }))) }
     ensures known { IfOk result (λ next. IsKnown inodes next volume.new.cache) }
     ensures volume { OnErr result (volume.new ≡ volume.old) }
     ensures index { OnErr result (index.new ≡ index.old) }
     ensures places { OnErr result (places.new ≡ places.old) }
 {
     let serial = index.len() + 1;
-    let filed = copy_names(alloc, groups)?;
-    let octets = record_of(alloc, serial, article, groups, moment)?;
+    let text = article.text();
+    let kept = envelope.copy(alloc)?;
+    let octets = article_record(alloc, serial, envelope, text)?;
+    let groups = envelope.groups.as_slice();
     let lines = lines_of(alloc, index, places, serial, article, groups)?;
     let mut next = free;
     let Ok(at) = file_article(
@@ -165,8 +165,8 @@ pub fn grow_by_article(
         volume.drop_stage();
         return Err(AllocError);
     };
-    let size = article.text().len() as u64;
-    let Ok(()) = index.push_article(id_of(article), size, filed, moment, &lines.sizes) else {
+    let size = text.len() as u64;
+    let Ok(()) = index.push_article(id_of(article), size, kept, &lines.sizes) else {
         places.pop_change();
         volume.drop_stage();
         return Err(AllocError);

@@ -1,7 +1,6 @@
 //! Adds one more change to the files of a spool, to their places and to the index.
 #![tactic(auto)]
 
-mod articles;
 mod growing;
 mod lines;
 mod staging;

@@ -36,7 +36,7 @@ pub(crate) fn make_group<B: Blocks>(
     requires room { HasRoom inodes (B.blocks blocks.old) }
     requires rule { IsFileSystem inodes (B.blocks blocks.old) }
     requires name { length name.now ≤ 40 }
-    requires short { length «record».now ≤ 262821 }
+    requires short { length «record».now ≤ model_records.largest_record }
     requires lacks { LacksGroup inodes (B.blocks blocks.old) name.now }
     requires free { HasFree inodes 3 (B.blocks blocks.old) }
     requires known { IsKnown inodes free.old (B.blocks blocks.old) }
@@ -70,7 +70,7 @@ pub(crate) fn make_expiry<B: Blocks>(
 ) -> Result<u32, AllocError>
     requires room { HasRoom inodes (B.blocks blocks.old) }
     requires rule { IsFileSystem inodes (B.blocks blocks.old) }
-    requires short { length «record».now ≤ 262821 }
+    requires short { length «record».now ≤ model_records.largest_record }
     requires lacks { ¬ (IsThere (table inodes (B.blocks blocks.old)) (expiry_name serial)) }
     requires free { HasFree inodes 1 (B.blocks blocks.old) }
     requires known { IsKnown inodes free.old (B.blocks blocks.old) }
@@ -96,7 +96,7 @@ pub(crate) fn file_article<B: Blocks>(
 ) -> Result<u32, AllocError>
     requires room { HasRoom inodes (B.blocks blocks.old) }
     requires rule { IsFileSystem inodes (B.blocks blocks.old) }
-    requires short { length octets.now ≤ 262821 }
+    requires short { length octets.now ≤ model_records.largest_record }
     requires lacks { ¬ (IsThere (table inodes (B.blocks blocks.old)) (article_name serial)) }
     requires free { HasFree inodes 1 (B.blocks blocks.old) }
     requires grow { MayAllGrow inodes pieces.now (B.blocks blocks.old) }

@@ -15,6 +15,7 @@ use Rattle.model.specs.Spool.{Spool, NewsGroup, group_named, groups, is_here, is
 use Rattle.model.specs.SpoolFiles.{overview_file, overview_name}
 use Rattle.model.specs.declared.cause.Cause.{Cause}
 use Rattle.model.specs.declared.change.Change.TheVariants.{Article}
+use Rattle.model.specs.declared.change.Envelope.{Envelope}
 use Rattle.model.specs.declared.change.Filing.{Filing}
 use Rattle.index_groups.specs.Filing.{AreLineSizes, EndBelow, end_of}
 use Rattle.index.specs.View.{IndexView, Indexes}
@@ -96,11 +97,11 @@ pieces_by_names inodes S text gs all w g filed =
 pub article_replayed : (host : Octets) (inodes : ℕ) (blocks : List Octets) (R : Spool) (x y : IndexView) (p q : FilePlaces) (at : ℕ)
     (f : Filing) → IsFileSystem inodes blocks → IsReplayed host inodes blocks x p R
     → IsItsFile inodes blocks at (length R + 1) (Article f) → MayFile host R f
-    → AllGoOn (table inodes blocks) R f.text f.groups → Indexes (R ++ Article f ∷ []) y → q ≡ with_change at p
+    → AllGoOn (table inodes blocks) R f.text f.envelope.groups → Indexes (R ++ Article f ∷ []) y → q ≡ with_change at p
     → IsReplayed host inodes blocks y q (R ++ Article f ∷ [])
 article_replayed host inodes blocks R x y p q at f rule replayed its may all indexed placed = record {
   read = article_is_read host inodes blocks R replayed.read f rule may its.is.room
-      (its_file_there inodes blocks at (length R + 1) (Article f) its) (pieces_by_names (table inodes blocks) R f.text f.groups all);
+      (its_file_there inodes blocks at (length R + 1) (Article f) its) (pieces_by_names (table inodes blocks) R f.text f.envelope.groups all);
   indexed = indexed;
   placed =
       subst (AreNamed (table inodes blocks) (R ++ Article f ∷ [])) (sym placed)
@@ -122,14 +123,12 @@ filed_are S article names listed here filed names_are listed_are here_are same =
 pub filed_here : (S : Spool) (article : Octets) (filed : List Octets) → filed ≡ filter (is_here S) (groups_of article) → AreHere S filed
 filed_here S article filed are = subst (AreHere S) (sym are) (are_here S (groups_of article))
 
-pub may_of_text : (host : Octets) (S : Spool) (article text : Octets) (gs : List Octets) (moment : ℕ) → article ≡ text
-    → MayFile host S (record { text = article; groups = gs; moment = moment })
-    → MayFile host S (record { text = text; groups = gs; moment = moment })
-may_of_text host S article text gs moment same may =
-    subst (λ (t : Octets). MayFile host S (record { text = t; groups = gs; moment = moment })) same may
+pub may_of_text : (host : Octets) (S : Spool) (article text : Octets) (e : Envelope) → article ≡ text
+    → MayFile host S (record { text = article; envelope = e }) → MayFile host S (record { text = text; envelope = e })
+may_of_text host S article text e same may = subst (λ (t : Octets). MayFile host S (record { text = t; envelope = e })) same may
 
 pub same_groups : (host : Octets) (S : Spool) (f : Filing) (filed : List Octets) → filed ≡ filter (is_here S) (groups_of f.text)
-    → MayFile host S f → filed ≡ f.groups
+    → MayFile host S f → filed ≡ f.envelope.groups
 same_groups host S f filed are may = are ∙ sym may.filed
 
 pub all_of_text : (inodes : List (Option File)) (S : Spool) (article text : Octets) (filed gs : List Octets) → article ≡ text → filed ≡ gs

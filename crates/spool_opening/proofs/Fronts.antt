@@ -11,7 +11,9 @@ use Rattle.model.specs.Files.{IsFileSystem, table}
 use Rattle.model.specs.Layout.{Holds}
 use Rattle.model.specs.Lawful.{IsLawfulAfter, MayFollow}
 use Rattle.model.specs.Spool.{Spool, article_filed, filed_in, first, is_here, is_name, news_article}
-use Rattle.model.specs.SpoolFiles.{HasRoomInFile, next_line, next_record, numbers_file, numbers_of, overview_file, overview_of}
+use Rattle.model.specs.FileCalls.{next_line, next_record}
+use Rattle.model.specs.FileKinds.{HasRoomInFile}
+use Rattle.model.specs.SpoolFiles.{numbers_file, numbers_of, overview_file, overview_of}
 use Rattle.model.specs.declared.change.Change.{Change}
 use Rattle.model.specs.declared.change.Change.TheVariants.{Group, Article, Expire}
 use Rattle.model.specs.declared.change.Filing.{Filing}
@@ -67,13 +69,13 @@ other_grows Numbers S c g none = ap numbers_of (filed_no_more S g c none)
 other_grows Overview S c g none = ap overview_of (filed_no_more S g c none)
 
 pub article_grows : (w : Which) (S : Spool) (f : Filing) (g : Octets)
-    → file_for w (S ++ Article f ∷ []) g ≡ file_for w S g ++ cond (list_any (is_name g) f.groups) (piece_for w S f.text g) []
-article_grows Numbers S f g = ap numbers_of (filed_article S g f) ∙ by_test (list_any (is_name g) f.groups) where
+    → file_for w (S ++ Article f ∷ []) g ≡ file_for w S g ++ cond (list_any (is_name g) f.envelope.groups) (piece_for w S f.text g) []
+article_grows Numbers S f g = ap numbers_of (filed_article S g f) ∙ by_test (list_any (is_name g) f.envelope.groups) where
   by_test : (b : Bool) → numbers_of (filed_in S g ++ cond b (news_article (length S + 1) f ∷ []) [])
       ≡ numbers_file S g ++ cond b (next_record S f.text g) []
   by_test true = numbers_push (filed_in S g) (news_article (length S + 1) f)
   by_test false = ap numbers_of (append-nil (filed_in S g)) ∙ sym (append-nil (numbers_file S g))
-article_grows Overview S f g = ap overview_of (filed_article S g f) ∙ by_test (list_any (is_name g) f.groups) where
+article_grows Overview S f g = ap overview_of (filed_article S g f) ∙ by_test (list_any (is_name g) f.envelope.groups) where
   by_test : (b : Bool) → overview_of (filed_in S g ++ cond b (news_article (length S + 1) f ∷ []) [])
       ≡ overview_file S g ++ cond b (next_line S f.text g) []
   by_test true = overview_push (filed_in S g) (news_article (length S + 1) f)
@@ -83,7 +85,7 @@ article_grows Overview S f g = ap overview_of (filed_article S g f) ∙ by_test 
 grows : (w : Which) (S : Spool) (c : Change) (g : Octets) → (rest : Octets) × (file_for w (S ++ c ∷ []) g ≡ file_for w S g ++ rest)
 grows w S (Group created) g = ([], other_grows w S (Group created) g refl ∙ sym (append-nil (file_for w S g)))
 grows w S (Expire expiry) g = ([], other_grows w S (Expire expiry) g refl ∙ sym (append-nil (file_for w S g)))
-grows w S (Article filing) g = (cond (list_any (is_name g) filing.groups) (piece_for w S filing.text g) [], article_grows w S filing g)
+grows w S (Article filing) g = (cond (list_any (is_name g) filing.envelope.groups) (piece_for w S filing.text g) [], article_grows w S filing g)
 
 pub front_for : (w : Which) (S T : Spool) (g : Octets) → (rest : Octets) × (file_for w (S ++ T) g ≡ file_for w S g ++ rest)
 front_for w S [] g = ([], ap (λ (R : Spool). file_for w R g) (append-nil S) ∙ sym (append-nil (file_for w S g)))
@@ -121,7 +123,7 @@ seam front piece rest =
 -- so an article's piece stands behind those before it
 pub piece_stands : (host : Octets) (inodes : ℕ) (blocks : List Octets) (R S : Spool) (w : Which) (f : Filing) (g : Octets)
     → Holds host inodes blocks S
-    → R ++ Article f ∷ [] ≡ first S (length R + 1) → list_any (is_name g) f.groups ≡ true → is_here R g ≡ true
+    → R ++ Article f ∷ [] ≡ first S (length R + 1) → list_any (is_name g) f.envelope.groups ≡ true → is_here R g ≡ true
     → HasPiece (table inodes blocks) (name_for w g) (length (file_for w R g)) (piece_for w R f.text g)
 piece_stands host inodes blocks R S w f g held front filed here =
     let c = Article f in

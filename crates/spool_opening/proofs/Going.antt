@@ -10,7 +10,9 @@ use Rattle.model.specs.Article.{overview_line}
 use Rattle.model.specs.Files.{File, HasRoom, IsFileSystem, table}
 use Rattle.model.specs.Indexed.{group_index, value_of}
 use Rattle.model.specs.Spool.{Spool, NewsArticle, NewsGroup, filed_in, high}
-use Rattle.model.specs.SpoolFiles.{is_of_change, next_line, next_record, number_record, numbers_file, numbers_name, overview_file}
+use Rattle.model.specs.FileCalls.{next_line, next_record}
+use Rattle.model.specs.FileKinds.{is_of_change}
+use Rattle.model.specs.SpoolFiles.{number_record, numbers_file, numbers_name, overview_file}
 use Rattle.model.specs.SpoolFiles.{overview_name}
 use Rattle.model.proofs.Indexing.{numbers_size}
 use Rattle.index_groups.specs.Filing.{end_of}

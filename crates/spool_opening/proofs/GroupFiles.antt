@@ -9,7 +9,8 @@ use Rattle.model.specs.Stream.{Octets}
 use Rattle.model.specs.Files.{File}
 use Rattle.model.specs.Spool.{Spool, Entry, entries_from, entries, NewsGroup, group_made, group_named, groups, is_here, is_name}
 use Rattle.model.specs.Spool.{news_group}
-use Rattle.model.specs.SpoolFiles.{change_file, entry_files, files_of, index_files, is_of_change, numbers_name, numbers_file, overview_name}
+use Rattle.model.specs.FileKinds.{is_of_change}
+use Rattle.model.specs.SpoolFiles.{change_file, entry_files, files_of, index_files, numbers_name, numbers_file, overview_name}
 use Rattle.model.specs.SpoolFiles.{overview_file}
 use Rattle.model.specs.declared.change.Change.{Change}
 use Rattle.model.specs.declared.change.Change.TheVariants.{Group, Article, Expire}

@@ -13,15 +13,15 @@ use Rattle.model.specs.Stream.{Octets}
 use Rattle.model.specs.Files.{IsFileSystem, files_in, table}
 use Rattle.model.specs.Lawful.{IsLawful, MayFollow}
 use Rattle.model.specs.Spool.{Spool, NewsGroup, entries, group_made, group_named, groups, is_here, is_name, news_group}
-use Rattle.model.specs.SpoolFiles.{HasRoomInFile, change_file, numbers_of, overview_of}
+use Rattle.model.specs.FileKinds.{HasRoomInFile}
+use Rattle.model.specs.SpoolFiles.{change_file, numbers_of, overview_of}
 use Rattle.model.specs.declared.change.Change.{Change}
 use Rattle.model.specs.declared.change.Change.TheVariants.{Group, Article, Expire}
 use Rattle.model.specs.declared.change.Expiry.{Expiry}
 use Rattle.model.specs.declared.change.Filing.{Filing}
 use Rattle.model.specs.declared.change.NewGroup.{NewGroup}
-use Rattle.model.proofs.Growing.{new_has_nothing}
+use Rattle.model.proofs.Growing.{groups_more, new_has_nothing}
 use Rattle.model.proofs.LawfulLaws.{lawful_more}
-use Rattle.places.proofs.Named.{groups_more}
 use Rattle.spool_opening.specs.Stored.{AreRead, HasFront, HasPiece, IsFileAt, Numbers, Overview, Which, file_for, name_for, piece_for}
 use Rattle.spool_opening.proofs.Fronts.{article_grows, front_grows, other_grows}
 
@@ -84,7 +84,7 @@ module _ (host : Octets) (inodes : ℕ) (blocks : List Octets) (R : Spool) (read
   pub article_is_read : (f : Filing) → let c = Article f in IsFileSystem inodes blocks
       → MayFollow host R c → HasRoomInFile (length R + 1) c
       → Contains (files_in (table inodes blocks)) (change_file (record { serial = length R + 1; change = c }))
-      → ((w : Which) (g : Octets) → list_any (is_name g) f.groups ≡ true
+      → ((w : Which) (g : Octets) → list_any (is_name g) f.envelope.groups ≡ true
       → HasPiece (table inodes blocks) (name_for w g) (length (file_for w R g)) (piece_for w R f.text g))
       → AreRead host inodes blocks (R ++ c ∷ [])
   article_is_read f rule may room there pieces = record {
@@ -92,10 +92,10 @@ module _ (host : Octets) (inodes : ℕ) (blocks : List Octets) (R : Spool) (read
     changes = changes_more (λ n c. HasRoomInFile (n + 1) c
         × Contains (files_in (table inodes blocks)) (change_file (record { serial = n + 1; change = c }))) R
         (Article f) read.changes (room, there);
-    fronts = λ w g here. by_test w g (read.fronts w g (here_before R (Article f) g refl here)) (list_any (is_name g) f.groups) refl;
+    fronts = λ w g here. by_test w g (read.fronts w g (here_before R (Article f) g refl here)) (list_any (is_name g) f.envelope.groups) refl;
   } where
     by_test : (w : Which) (g : Octets) → HasFront (table inodes blocks) (name_for w g) (file_for w R g) → (b : Bool)
-        → list_any (is_name g) f.groups ≡ b → HasFront (table inodes blocks) (name_for w g) (file_for w (R ++ Article f ∷ []) g)
+        → list_any (is_name g) f.envelope.groups ≡ b → HasFront (table inodes blocks) (name_for w g) (file_for w (R ++ Article f ∷ []) g)
     by_test w g has true filed =
         named_same inodes blocks w g _ _ (article_grows w R f g
         ∙ ap (λ (b : Bool). file_for w R g ++ cond b (piece_for w R f.text g) []) filed)

@@ -12,7 +12,8 @@ use Rattle.model.specs.Files.{File, IsFileSystem, files_in, table}
 use Rattle.model.specs.Indexed.{FilePlaces}
 use Rattle.model.specs.Layout.{Holds}
 use Rattle.model.specs.Spool.{Spool, groups}
-use Rattle.model.specs.SpoolFiles.{change_file, files_of, is_of_change}
+use Rattle.model.specs.FileKinds.{is_of_change}
+use Rattle.model.specs.SpoolFiles.{change_file, files_of}
 use Rattle.model.proofs.HoldsOne.{no_change}
 use Rattle.model.proofs.Opening.{files_counted, files_make_spool, where_is, is_among}
 use Rattle.fs_layout.proofs.Tables.{length-table, there_once}

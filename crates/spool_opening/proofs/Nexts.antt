@@ -10,7 +10,8 @@ use Rattle.model.specs.Files.{File, table}
 use Rattle.model.specs.Indexed.{FilePlaces, value_of}
 use Rattle.model.specs.Layout.{Holds}
 use Rattle.model.specs.Spool.{Spool, NewsGroup, group_made, is_here, is_name, news_group}
-use Rattle.model.specs.SpoolFiles.{change_file, is_of_change}
+use Rattle.model.specs.FileKinds.{is_of_change}
+use Rattle.model.specs.SpoolFiles.{change_file}
 use Rattle.model.specs.declared.change.Change.{Change}
 use Rattle.model.specs.declared.change.Change.TheVariants.{Group, Article}
 use Rattle.model.specs.declared.change.Filing.{Filing}
@@ -107,10 +108,10 @@ any_of (g ∷ gs) (suc k) low = over (is_name (get_or gs k []) g) (any_of gs k (
   over false rest = rest
 
 pub all_go_on : (host : Octets) (inodes : ℕ) (blocks : List Octets) (R S : Spool) (f : Filing) → Holds host inodes blocks S
-    → IsNext host R S (Article f) → AllGoOn (table inodes blocks) R f.text f.groups
+    → IsNext host R S (Article f) → AllGoOn (table inodes blocks) R f.text f.envelope.groups
 all_go_on host inodes blocks R S f held next k w low =
-    piece_stands host inodes blocks R S w f (get_or f.groups k []) held next.front (any_of f.groups k low)
-    (filed_here R f.text f.groups next.may.filed k low)
+    piece_stands host inodes blocks R S w f (get_or f.envelope.groups k []) held next.front (any_of f.envelope.groups k low)
+    (filed_here R f.text f.envelope.groups next.may.filed k low)
 
 -- ---- one more
 

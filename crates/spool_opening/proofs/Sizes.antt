@@ -9,7 +9,8 @@ use Rattle.model.specs.Article.{overview_line}
 use Rattle.model.specs.Files.{File}
 use Rattle.model.specs.Indexed.{GroupIndex, group_index}
 use Rattle.model.specs.Spool.{Spool, NewsGroup, filed_in, group_named, is_here}
-use Rattle.model.specs.SpoolFiles.{next_line, overview_file}
+use Rattle.model.specs.FileCalls.{next_line}
+use Rattle.model.specs.SpoolFiles.{overview_file}
 use Rattle.model.proofs.HoldsOne.{high_few}
 use Rattle.index_groups.specs.Filing.{end_of}
 use Rattle.index.specs.View.{IndexView}

@@ -9,7 +9,8 @@ use Rattle.model.specs.Files.{File, HasRoom, IsFileSystem, files_in, free_inodes
 use Rattle.model.specs.Indexed.{FilePlaces, GroupIndex, group_index}
 use Rattle.model.specs.Layout.{Holds}
 use Rattle.model.specs.Spool.{Spool, entries, entries_from, group_made, group_named, groups, is_here}
-use Rattle.model.specs.SpoolFiles.{is_of_change, numbers_file, numbers_name, overview_file, overview_name}
+use Rattle.model.specs.FileKinds.{is_of_change}
+use Rattle.model.specs.SpoolFiles.{numbers_file, numbers_name, overview_file, overview_name}
 use Rattle.model.specs.declared.change.Change.TheVariants.{Group, Article, Expire}
 use Rattle.model.proofs.Counting.{free_is_beside}
 use Rattle.model.proofs.HoldsOne.{there_few}

@@ -5,7 +5,7 @@ use Rattle.model.specs.Files.{File}
 use Rattle.model.specs.Indexed.{ArePlaces, FilePlaces}
 use Rattle.model.specs.Layout.{Holds}
 use Rattle.model.specs.Spool.{Spool, is_here}
-use Rattle.model.specs.SpoolFiles.{is_of_change}
+use Rattle.model.specs.FileKinds.{is_of_change}
 use Rattle.index.specs.View.{IndexView, Indexes}
 use Rattle.spool_opening.specs.Stored.{Which, file_for, name_for}
 

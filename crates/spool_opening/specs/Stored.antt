@@ -5,7 +5,9 @@ use Rattle.model.specs.Stream.{Octets}
 use Rattle.model.specs.Files.{File, files_in, table}
 use Rattle.model.specs.Lawful.{IsLawful, MayFollow}
 use Rattle.model.specs.Spool.{Spool, first, is_here}
-use Rattle.model.specs.SpoolFiles.{HasRoomInFile, change_file, next_line, next_record, numbers_file, numbers_name, overview_file}
+use Rattle.model.specs.FileCalls.{next_line, next_record}
+use Rattle.model.specs.FileKinds.{HasRoomInFile}
+use Rattle.model.specs.SpoolFiles.{change_file, numbers_file, numbers_name, overview_file}
 use Rattle.model.specs.SpoolFiles.{overview_name}
 use Rattle.model.specs.declared.change.Change.{Change}
 pub use Rattle.fs_layout.specs.Table.{IsFileAt}

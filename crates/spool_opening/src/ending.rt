@@ -4,7 +4,8 @@ ghost use Rattle.std.specs.Prelude.{◌≡◌, ◌<◌, ◌+◌, ◌*◌, ◌↔
 ghost use Rattle.model.specs.Files.{HasRoom, IsFileSystem, files_in, table};
 ghost use Rattle.model.specs.Spool as spool;
 ghost use Rattle.model.specs.Spool.{Spool, groups};
-ghost use Rattle.model.specs.SpoolFiles.{is_of_change, numbers_file, overview_file};
+ghost use Rattle.model.specs.FileKinds.{is_of_change};
+ghost use Rattle.model.specs.SpoolFiles.{numbers_file, overview_file};
 ghost use Rattle.index.specs.View.{Indexes};
 ghost use Rattle.spool_opening.specs.Ended.{IsNameOf, IsWholeAt};
 ghost use Rattle.spool_opening.specs.Replayed.{IsBounded};

@@ -4,7 +4,7 @@ ghost use Rattle.std.specs.Prelude.{◌≡◌, ◌+◌, ◌*◌, ◌^◌, ◌<�
 ghost use Rattle.std.specs.List.{All};
 ghost use Rattle.model.specs.Article.{overview_line};
 ghost use Rattle.model.specs.Files.{HasRoom, IsFileSystem, table};
-ghost use Rattle.model.specs.SpoolFiles.{is_of_change};
+ghost use Rattle.model.specs.FileKinds.{is_of_change};
 ghost use Rattle.model.specs.Spool.{Spool};
 ghost use Rattle.index_groups.specs.Filing.{AreLineSizes, end_of};
 ghost use Rattle.index.specs.View.{Indexes};

@@ -85,21 +85,8 @@ fn replay_said<B: Blocks>(
             description,
             moment,
         } => replay_named(alloc, files, replay, at, name, status, description, moment),
-        Said::Article {
-            text,
-            groups,
-            moment,
-        } => replay_article(
-            alloc,
-            blocks,
-            inodes,
-            host,
-            files,
-            replay,
-            at,
-            text,
-            groups.as_slice(),
-            moment,
+        Said::Article { text, envelope } => replay_article(
+            alloc, blocks, inodes, host, files, replay, at, text, envelope,
         ),
         Said::Expiry { group, number } => replay_expiry(replay, at, group, number),
     }

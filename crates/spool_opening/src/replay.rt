@@ -1,6 +1,6 @@
 //! Replays the changes of a spool, each from its file.
 
-ghost use Rattle.std.specs.Prelude.{◌≡◌, ◌<◌, ◌+◌, ◌++◌, ◌∷◌, [], ℕ, List, Some, length, map, IfErr, OnOk};
+ghost use Rattle.std.specs.Prelude.{◌≡◌, ◌<◌, ◌+◌, ◌++◌, ◌∷◌, [], ℕ, List, Some, length, IfErr, OnOk};
 ghost use Rattle.model.specs.Lawful.{MayExpire, MayFile, MayMake};
 ghost use Rattle.model.specs.Spool.{Spool};
 ghost use Rattle.model.specs.declared.change.Change.{Change};
@@ -15,7 +15,7 @@ use crate::lines::line_sizes;
 use admission::{groups_here, id_of, may_expire, may_file, may_make};
 use article::{Article, Origin, ReadError};
 use index::Index;
-use model::{Moment, Names, Status};
+use model::{Envelope, Moment, Status};
 use places::Places;
 use spool_reading::{Files, ReadSpoolError};
 use std::alloc::Global;
@@ -93,8 +93,7 @@ pub fn replay_article<B: Blocks>(
     replay: &mut Replay,
     at: u32,
     text: &[u8],
-    groups: &[&[u8]],
-    moment: Moment,
+    envelope: Envelope,
 ) -> Result<(), ReadSpoolError>
     requires room { HasRoom inodes (B.blocks blocks.now) }
     requires rule { IsFileSystem inodes (B.blocks blocks.now) }
@@ -103,12 +102,12 @@ pub fn replay_article<B: Blocks>(
     requires replayed { CanReplay host.now inodes (B.blocks blocks.now) replay.old.index replay.old.places }
     ensures ok { OnOk result ((R : Spool) → IsReplayed host.now inodes (B.blocks blocks.now) replay.old.index replay.old.places R
         → IsItsFile inodes (B.blocks blocks.now) at (length R + 1)
-        (Change.Article (record { text = text.now; groups = map (λ g. g.now) groups.now; moment = moment }))
+        (Change.Article (record { text = text.now; envelope = envelope }))
         → IsReplayed host.now inodes (B.blocks blocks.now) replay.new.index replay.new.places
-        (R ++ Change.Article (record { text = text.now; groups = map (λ g. g.now) groups.now; moment = moment }) ∷ [])) }
+        (R ++ Change.Article (record { text = text.now; envelope = envelope }) ∷ [])) }
     ensures damaged { IfErr result (λ e. e ≡ ReadSpoolError.Damaged → (S : Spool) → Indexes S replay.old.index
-        → MayFile host.now S (record { text = text.now; groups = map (λ g. g.now) groups.now; moment = moment })
-        → AllGoOn (table inodes (B.blocks blocks.now)) S text.now (map (λ g. g.now) groups.now) → ⊥) }
+        → MayFile host.now S (record { text = text.now; envelope = envelope })
+        → AllGoOn (table inodes (B.blocks blocks.now)) S text.now envelope.groups → ⊥) }
 {
     let article = match Article::read(alloc, text, Origin::Carried) {
         Ok(article) => article,
@@ -128,8 +127,7 @@ pub fn replay_article<B: Blocks>(
         serial,
         &article,
         filed,
-        groups,
-        moment,
+        &envelope,
     )?;
     if !may {
         return Err(ReadSpoolError::Damaged);
@@ -150,9 +148,7 @@ pub fn replay_article<B: Blocks>(
     let id = id_of(&article);
     let size = text.len() as u64;
     let lengths = sizes.as_slice();
-    replay
-        .index
-        .push_article(id, size, Names::new(here), moment, lengths)?;
+    replay.index.push_article(id, size, envelope, lengths)?;
     replay.places.push_change(at)?;
     Ok(())
 }

@@ -1,6 +1,6 @@
 -- What the files of changes say.
-use Rattle.std.proofs.Common.{◌≡◌, ◌≢◌, ◌↔◌, ℕ, zero, suc, ◌^◌, ◌<◌, ◌≤◌, Bool, true, false, List, [], ◌∷◌, ◌++◌, length, get_or, sym, ◌∙◌}
-use Rattle.std.proofs.Common.{ap, subst, refl, arith, take}
+use Rattle.std.proofs.Common.{◌≡◌, ◌≢◌, ◌↔◌, ℕ, zero, suc, ◌^◌, ◌<◌, ◌≤◌, Bool, true, false, [], ◌∷◌, ◌++◌, length, get_or, sym, ◌∙◌}
+use Rattle.std.proofs.Common.{ap, refl, arith, take}
 use Rattle.std.specs.Prelude.{Some, None, codes, nat_lt}
 use Rattle.std.proofs.lemmas.Bool.{ltb-false, ltb-true}
 use Rattle.std.proofs.lemmas.List.{append_assoc}
@@ -9,11 +9,13 @@ use Rattle.model.specs.Stream.{Octets}
 use Rattle.model.specs.Records.{last_digits, group_record, article_record, expiry_record}
 use Rattle.model.specs.Calendar.{moment_limit}
 use Rattle.model.specs.Lawful.{IsLawfulAfter, MayFollow}
-use Rattle.model.specs.Spool.{Spool, NewsArticle, NewsExpiry, NewsGroup, news_article, news_expiry, news_group, status_octet}
+use Rattle.model.specs.Spool.{Spool, NewsExpiry, NewsGroup, news_article, news_expiry, news_group, status_octet}
 use Rattle.model.specs.Files.{File}
-use Rattle.model.specs.SpoolFiles.{HasRoomInFile, change_file, group_name}
+use Rattle.model.specs.FileKinds.{HasRoomInFile}
+use Rattle.model.specs.SpoolFiles.{change_file, group_name}
 use Rattle.model.specs.declared.change.Change.{Change}
 use Rattle.model.specs.declared.change.Change.TheVariants.{Group, Article, Expire}
+use Rattle.model.specs.declared.change.Filing.{Filing}
 use Rattle.model.specs.declared.change.NewGroup.{NewGroup}
 use Rattle.model.specs.declared.values.Status.{Status}
 use Rattle.model.proofs.HoldsOne.{no_change, same_change}
@@ -142,10 +144,11 @@ group_is n m moment seconds octet status name description content small fits sam
 
 -- ---- articles
 
-pub no_article : (digits content : Octets) → ((a : NewsArticle) → length a.text < 256 ^ 4 → content ≡ article_record a → ⊥)
+pub no_article : (digits content : Octets) → ((n : ℕ) (f : Filing) → f.envelope.moment < moment_limit → length f.text < 256 ^ 4
+    → content ≡ article_record (news_article n f) → ⊥)
     → (n : ℕ) (c : Change) → IsFileOf n c (codes "a." ++ digits) content → ⊥
 no_article digits content none n (Article filing) is =
-    none (news_article n filing) is.room.2 (sym (ap (λ (f : File). f.content) is.file))
+    none n filing is.in_time is.room.2 (sym (ap (λ (f : File). f.content) is.file))
 no_article digits content none n (Group created) is = absurd (let octets : 103 ≡ 97 = first_octet is in omega arith)
 no_article digits content none n (Expire expiry) is = absurd (let octets : 120 ≡ 97 = first_octet is in omega arith)
 
@@ -158,56 +161,21 @@ other_article digits content n differ (Group created) is =
     absurd (let octets : 103 ≡ 97 = first_octet is in omega arith)
 other_article digits content n differ (Expire expiry) is = absurd (let octets : 120 ≡ 97 = first_octet is in omega arith)
 
--- the file of an article, whatever its moment
-record IsArticleFile (n moment : ℕ) (text : Octets) (gs : List Octets) (name content : Octets) : Type 0 where
-  room : HasRoomInFile n (Article (record { text = text; groups = gs; moment = moment }))
-  file : change_file (record { serial = n; change = Article (record { text = text; groups = gs; moment = moment }) })
-      ≡ record { name = name; content = content }
+pub article_serial : (n m : ℕ) (f : Filing) (name content : Octets) (c : Change) → m < 256 ^ 8
+    → content ≡ article_record (news_article m f) → IsFileOf n c name content → n ≡ m
+article_serial n m f name content c small is its =
+    serial_said n m c name content small (ap (take 8) is ∙ serial_first m (Article f)) its
 
-article_file : (n m moment seconds : ℕ) (text : Octets) (gs : List Octets) (digits content : Octets) → n < 256 ^ 8 → seconds < 256 ^ 8
-    → length content < 2 ^ 32 → digits ≡ last_digits 10 n → m ≡ n → moment ≡ seconds
-    → content ≡ article_record (record { serial = m; text = text; groups = gs; moment = seconds })
-    → IsArticleFile n moment text gs (codes "a." ++ digits) content
-article_file n m moment seconds text gs digits content small fits short digits_are same moment_is is = record {
-  room = (
-    small,
-    omega (arith, fits, moment_is),
-    omega (
-      arith,
-      text_fits (record { serial = m; text = text; groups = gs; moment = seconds }),
-      ap (λ (o : Octets). length o) is,
-    ),
-  );
+pub article_is : (n m : ℕ) (f : Filing) (digits content : Octets) → n < 256 ^ 8 → length content < 2 ^ 32
+    → digits ≡ last_digits 10 n → m ≡ n → f.envelope.moment < moment_limit → content ≡ article_record (news_article m f)
+    → IsFileOf n (Article f) (codes "a." ++ digits) content
+article_is n m f digits content small short digits_are same early is = record {
+  room = (small, omega (arith, early), omega (arith, text_fits (news_article m f), ap (λ (o : Octets). length o) is));
+  in_time = early;
   file =
-      let whole = is ∙ (λ i. article_record (record { serial = same i; text = text; groups = gs; moment = sym moment_is i })) in
+      let whole = is ∙ ap (λ (k : ℕ). article_record (news_article k f)) same in
       λ i. record { name = codes "a." ++ sym digits_are i; content = sym whole i };
 }
-
-pub article_serial : (n m moment : ℕ) (text : Octets) (gs : List Octets) (name content : Octets) (c : Change) → m < 256 ^ 8
-    → content ≡ article_record (record { serial = m; text = text; groups = gs; moment = moment }) → IsFileOf n c name content → n ≡ m
-article_serial n m moment text gs name content c small is its =
-    serial_said n m c name content small
-    (ap (take 8) is ∙ serial_first m (Article (record { text = text; groups = gs; moment = moment }))) its
-
--- its moment is in time
-pub late_article : (n m seconds : ℕ) (text : Octets) (gs : List Octets) (digits content : Octets) → n < 256 ^ 8 → seconds < 256 ^ 8
-    → length content < 2 ^ 32 → digits ≡ last_digits 10 n → m ≡ n → moment_limit ≤ seconds
-    → content ≡ article_record (record { serial = m; text = text; groups = gs; moment = seconds }) → (c : Change)
-    → IsFileOf n c (codes "a." ++ digits) content → ⊥
-late_article n m seconds text gs digits content small fits short digits_are same late is c its =
-    let its_file = article_file n m seconds seconds text gs digits content small fits short digits_are same refl is in
-    let one = same_change n n c (Article (record { text = text; groups = gs; moment = seconds })) its.room its_file.room
-    (its.file ∙ sym its_file.file) in
-    let early : seconds < moment_limit = subst IsInTime one.1 its.in_time in
-    absurd (omega (arith, early, late))
-
-pub article_is : (n m moment seconds : ℕ) (text : Octets) (gs : List Octets) (digits content : Octets) → n < 256 ^ 8 → seconds < 256 ^ 8
-    → length content < 2 ^ 32 → digits ≡ last_digits 10 n → m ≡ n → moment ≡ seconds → seconds < moment_limit
-    → content ≡ article_record (record { serial = m; text = text; groups = gs; moment = seconds })
-    → IsFileOf n (Article (record { text = text; groups = gs; moment = moment })) (codes "a." ++ digits) content
-article_is n m moment seconds text gs digits content small fits short digits_are same moment_is early is =
-    let its = article_file n m moment seconds text gs digits content small fits short digits_are same moment_is is in
-    record { room = its.room; in_time = omega (arith, early, moment_is); file = its.file }
 
 -- ---- expiries
 

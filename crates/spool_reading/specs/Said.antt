@@ -1,8 +1,9 @@
 -- The contents of a change's file.
-use Rattle.std.specs.Prelude.{◌≡◌, ◌<◌, ℕ, map}
+use Rattle.std.specs.Prelude.{◌≡◌, ◌<◌, ℕ}
 use Rattle.model.specs.Stream.{Octets}
 use Rattle.model.specs.Calendar.{moment_limit}
-use Rattle.model.specs.SpoolFiles.{HasRoomInFile, change_file}
+use Rattle.model.specs.FileKinds.{HasRoomInFile}
+use Rattle.model.specs.SpoolFiles.{change_file}
 use Rattle.model.specs.declared.change.Change.{Change}
 use Rattle.model.specs.declared.change.Change.TheVariants as change
 use Rattle.spool_reading.specs.declared.reading.Said.{Said}
@@ -12,14 +13,13 @@ use Rattle.spool_reading.specs.declared.reading.Said.TheVariants as said
 abbrev pub change_of : Said → Change
 change_of (said.Group name status description moment) =
     change.Group (record { name = name.now; status = status; description = description.now; moment = moment })
-change_of (said.Article text groups moment) =
-    change.Article (record { text = text.now; groups = map (λ g. g.now) groups.items; moment = moment })
+change_of (said.Article text envelope) = change.Article (record { text = text.now; envelope = envelope })
 change_of (said.Expiry group number) = change.Expire (record { group = group.now; number = number })
 
 -- the moment of the change, if it has one, is before the year 10000
 abbrev pub IsInTime : Change → Type 0
 IsInTime (change.Group g) = g.moment < moment_limit
-IsInTime (change.Article f) = f.moment < moment_limit
+IsInTime (change.Article f) = f.envelope.moment < moment_limit
 IsInTime (change.Expire e) = Unit {0}
 
 -- the file with this name and content is that of this change with this serial, and the change is in time

@@ -6,7 +6,7 @@ ghost use Rattle.model.specs.SpoolFiles.{group_name};
 ghost use Rattle.model.specs.declared.change.Change.{Change};
 ghost use Rattle.spool_reading.specs.Said.{IsFileOf, change_of};
 
-use model::{Moment, Status};
+use model::{Envelope, Moment, Status};
 use records::{FileKind, kind_of, read_article, read_expiry, read_group, serial_digits};
 use std::alloc::{AllocError, Global};
 
@@ -21,8 +21,7 @@ pub enum Said<'a> {
     },
     Article {
         text: &'a [u8],
-        groups: Vec<&'a [u8]>,
-        moment: Moment,
+        envelope: Envelope,
     },
     Expiry {
         group: &'a [u8],
@@ -100,13 +99,9 @@ fn article_said<'a>(
     if said.serial != serial {
         return Ok(None);
     }
-    let Some(moment) = Moment::at(said.moment) else {
-        return Ok(None);
-    };
     Ok(Some(Said::Article {
         text: said.text,
-        groups: said.groups,
-        moment,
+        envelope: said.envelope,
     }))
 }
 

@@ -12,7 +12,8 @@ use Rattle.model.specs.Files.{File, HasRoom, IsFile, IsFileSystem, content_of, e
 use Rattle.model.specs.Indexed.{ArePlaces, FilePlaces}
 use Rattle.model.specs.Records.{article_record}
 use Rattle.model.specs.Spool.{Spool, Entry, NewsArticle, article_filed, entries, news_article}
-use Rattle.model.specs.SpoolFiles.{article_file, article_name, change_file}
+use Rattle.model.specs.FileKinds.{article_file}
+use Rattle.model.specs.SpoolFiles.{article_name, change_file}
 use Rattle.model.specs.declared.change.Change.{Change}
 use Rattle.model.specs.declared.change.Change.TheVariants.{Group, Article, Expire}
 use Rattle.model.proofs.Owning.{content_size}

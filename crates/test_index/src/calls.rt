@@ -7,7 +7,7 @@ ghost use Rattle.index_groups.specs.Shown.{shown};
 
 use index::{Index, Note};
 use index_groups::Group;
-use model::{Moment, Names, Status, Text};
+use model::{Envelope, Moment, Names, Status, Text};
 use names::is_wildmat;
 use std::alloc::{AllocError, Global};
 
@@ -120,7 +120,11 @@ fn file(
     let Some(moment) = Moment::at(MOMENT) else {
         return Ok(None);
     };
-    index.push_article(id, size, filed, moment, sizes)?;
+    let envelope = Envelope {
+        groups: filed,
+        moment,
+    };
+    index.push_article(id, size, envelope, sizes)?;
     Ok(Some(index.len()))
 }
 
@@ -149,7 +153,11 @@ fn file_at(
     if filed.as_slice().len() != 1 || !overviews_fit(index.groups()) {
         return Ok(None);
     }
-    index.push_article(id, 100, filed, moment, &[10])?;
+    let envelope = Envelope {
+        groups: filed,
+        moment,
+    };
+    index.push_article(id, 100, envelope, &[10])?;
     Ok(Some(index.len()))
 }
 

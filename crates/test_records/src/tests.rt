@@ -1,6 +1,6 @@
 //! Tests of records: written, read back, and damaged.
 
-use model::{Moment, Status};
+use model::{Envelope, Moment, Names, Status, Text};
 use records::{
     FileKind, article_record, expiry_record, file_name, group_record, kind_of, number_record,
     read_article, read_expiry, read_group, serial_digits, serial_of,
@@ -20,13 +20,26 @@ fn article(
     groups: &[&[u8]],
     text: &[u8],
 ) -> Result<Option<Vec<u8>>, Fail> {
-    if u32::MAX as usize <= text.len() || 255 < groups.len() {
+    let groups = names_of(alloc, groups)?;
+    if u32::MAX as usize <= text.len() || 255 < groups.as_slice().len() {
         return Ok(None);
     }
-    if !groups.iter().all(|group| group.len() < 256) {
+    if !groups.as_slice().iter().all(|group| group.as_slice().len() < 256) {
         return Ok(None);
     }
-    Ok(Some(article_record(alloc, serial, moment()?, groups, text)?))
+    let envelope = Envelope {
+        groups,
+        moment: moment()?,
+    };
+    Ok(Some(article_record(alloc, serial, &envelope, text)?))
+}
+
+fn names_of(alloc: Global, groups: &[&[u8]]) -> Result<Names, Fail> {
+    let mut names = Vec::new(alloc);
+    for group in groups {
+        names.push(Text::new(group.to_vec(alloc)?))?;
+    }
+    Ok(Names::new(names))
 }
 
 #[test]
@@ -85,10 +98,20 @@ fn the_record_of_an_article(rt: HostRuntime) -> Result<(), Fail> {
         b"\x02\0\0\0\0\0\0\0\0\xca\x9a\x3b\0\0\0\0\x04\0\0\0\x02\x03x.a\x03x.bhi\r\n".as_slice();
     assert!(rt; octets.as_slice() == wanted);
     let read = read_article(rt.alloc(), wanted)?.ok_or("no article")?;
-    assert!(rt; read.serial == 2 && read.moment == 1_000_000_000);
-    assert!(rt; read.groups.len() == 2 && read.text == b"hi\r\n".as_slice());
+    let Envelope { groups, moment } = read.envelope;
+    assert!(rt; read.serial == 2 && moment.seconds() == 1_000_000_000);
+    assert!(rt; groups.as_slice().len() == 2 && read.text == b"hi\r\n".as_slice());
     assert!(rt; read_article(rt.alloc(), &wanted[..20])?.is_none());
     assert!(rt; read_article(rt.alloc(), &wanted[..32])?.is_none());
+    Ok(())
+}
+
+#[test]
+fn the_record_of_an_article_of_the_year_10000(rt: HostRuntime) -> Result<(), Fail> {
+    let last = b"\x02\0\0\0\0\0\0\0\x7f\x41\xf4\xff\x3a\0\0\0\x04\0\0\0\x01\x03x.ahi\r\n".as_slice();
+    assert!(rt; read_article(rt.alloc(), last)?.is_some());
+    let first = b"\x02\0\0\0\0\0\0\0\x80\x41\xf4\xff\x3a\0\0\0\x04\0\0\0\x01\x03x.ahi\r\n".as_slice();
+    assert!(rt; read_article(rt.alloc(), first)?.is_none());
     Ok(())
 }
 

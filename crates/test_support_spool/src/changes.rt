@@ -43,8 +43,8 @@ fn is_wanted(alloc: Global, change: &Change, wanted: &Wanted) -> Result<bool, Al
             let octets = sent.text(alloc)?;
             Ok(
                 filing.text.as_slice() == octets.as_slice()
-                    && are_names(&filing.groups, groups)
-                    && filing.moment.seconds() == MOMENT,
+                    && are_names(&filing.envelope.groups, groups)
+                    && filing.envelope.moment.seconds() == MOMENT,
             )
         }
         (Change::Expire(expiry), Wanted::Expiry(group, number)) => {

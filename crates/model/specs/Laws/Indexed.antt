@@ -47,7 +47,7 @@ pub record GroupsGrow : Type 0 where
 abbrev pub ArticlesGrow : Type 0
 ArticlesGrow = (S : Spool) (f : Filing) (g : NewsGroup) →
     group_index (S ++ Article f ∷ []) g
-    ≡ (if list_any (is_name g.name) f.groups then with_article S f.text (group_index S g) else group_index S g)
+    ≡ (if list_any (is_name g.name) f.envelope.groups then with_article S f.text (group_index S g) else group_index S g)
 
 abbrev pub ExpiriesGrow : Type 0
 ExpiriesGrow = (host : Octets) (S : Spool) (e : Expiry) (g : NewsGroup) → MayFollow host S (Expire e) →

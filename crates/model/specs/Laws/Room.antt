@@ -4,10 +4,14 @@ use Rattle.std.specs.List.{Contains, sum_by}
 use Rattle.model.specs.Stream.{Octets}
 use Rattle.model.specs.Files.{File, HasRoom, HoldsFiles, free_blocks, free_inodes}
 use Rattle.model.specs.Lawful.{IsLawful, MayFollow}
-use Rattle.model.specs.Room.{blocks_changed, blocks_for, blocks_for_more, blocks_taken, files_made, free_blocks_beside}
-use Rattle.model.specs.Room.{free_inodes_beside, is_full, largest_file, most_changed}
+use Rattle.model.specs.Records.{largest_record}
+use Rattle.model.specs.Asked.{blocks_changed, blocks_for_more, blocks_taken}
+use Rattle.model.specs.Room.{blocks_for, files_made, free_blocks_beside}
+use Rattle.model.specs.Asked.{most_changed}
+use Rattle.model.specs.Room.{free_inodes_beside, is_full, largest_file}
 use Rattle.model.specs.Spool.{Spool}
-use Rattle.model.specs.SpoolFiles.{change_calls, change_file, files_of, next_line, next_record, numbers_file, overview_file}
+use Rattle.model.specs.FileCalls.{change_calls, next_line, next_record}
+use Rattle.model.specs.SpoolFiles.{change_file, files_of, numbers_file, overview_file}
 use Rattle.model.specs.declared.change.Change.{Change}
 use Rattle.model.specs.declared.change.Change.TheVariants.{Article}
 use Rattle.model.specs.declared.change.Filing.{Filing}
@@ -29,8 +33,7 @@ FilesGrowByBlocks = (size more : ℕ) → blocks_for (size + more) ≤ blocks_fo
 pub record AsksFew (S : Spool) (c : Change) : Type 0 where
   -- 67 for an article and 7 for each of its groups
   pub blocks : sum_by blocks_taken (change_calls S c) ≤ 179
-  -- a head of at most 677 octets, and the text
-  pub made : length (change_file (record { serial = length S + 1; change = c })).content ≤ 262_821
+  pub made : length (change_file (record { serial = length S + 1; change = c })).content ≤ largest_record
   -- fewer than the 12,288 octets that the overview has room for
   pub lines : (f : Filing) (g : Octets) → c ≡ Article f → length (next_line S f.text g) ≤ 8_191
   -- so one change alters few blocks
@@ -44,7 +47,7 @@ ChangesAskFew = (host : Octets) (S : Spool) (c : Change) → length S ≤ 32_768
 pub record HasRoomForChange (blocks inodes : ℕ) (S : Spool) (c : Change) : Type 0 where
   pub blocks_enough : sum_by blocks_taken (change_calls S c) ≤ free_blocks_beside blocks inodes (files_of S)
   pub inodes_enough : files_made c ≤ free_inodes_beside inodes (files_of S)
-  pub sizes : (f : Filing) (g : Octets) → c ≡ Article f → Contains f.groups g →
+  pub sizes : (f : Filing) (g : Octets) → c ≡ Article f → Contains f.envelope.groups g →
       (length (numbers_file S g) + length (next_record S f.text g) ≤ largest_file)
       × (length (overview_file S g) + length (next_line S f.text g) ≤ largest_file)
 

@@ -7,8 +7,11 @@ use Rattle.model.specs.Files.{File, HoldsFiles, IsFileSystem, files_in, table}
 use Rattle.model.specs.Spool.{Spool, first, groups}
 use Rattle.model.specs.Lawful.{IsLawful, MayFollow}
 use Rattle.model.specs.Layout.{Holds}
-use Rattle.model.specs.SpoolFiles.{Create, Append, HasRoomInFile, after_call, after_calls, change_calls, change_file, files_by_kind}
-use Rattle.model.specs.SpoolFiles.{files_of, is_of_change}
+use Rattle.model.specs.FileCalls.{Create, Append, after_call, after_calls, change_calls}
+use Rattle.model.specs.FileKinds.{HasRoomInFile, files_by_kind}
+use Rattle.model.specs.SpoolFiles.{change_file}
+use Rattle.model.specs.FileKinds.{is_of_change}
+use Rattle.model.specs.SpoolFiles.{files_of}
 use Rattle.model.specs.declared.change.Change.{Change}
 
 -- Blocks hold at most one spool, under any hosts.

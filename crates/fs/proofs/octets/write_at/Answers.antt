@@ -11,7 +11,8 @@ use Rattle.fs_inodes.proofs.Replacing.{size_now}
 use Rattle.fs_inodes.specs.Growing.{HasNoRoomFor, most_octets}
 use Rattle.fs_inodes.proofs.Grown.{was_size}
 use Rattle.fs.proofs.Within.{within_kept}
-use Rattle.model.specs.Room.{content_blocks, pointers_put}
+use Rattle.model.specs.Asked.{pointers_put}
+use Rattle.model.specs.Room.{content_blocks}
 use Rattle.model.proofs.Owning.{content_size}
 use Rattle.fs.proofs.Composing.{lowest_after, lowest_same, still_file, still_room, written_past}
 use Rattle.fs_layout.proofs.Tables.{no_slot, there_from_slot, there_once, file_from_slot}

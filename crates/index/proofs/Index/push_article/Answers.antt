@@ -15,15 +15,15 @@ use Rattle.index.proofs.Index.push_article.Goals as goal
 pub invariant_of-self-2 : goal.invariant_of-self-2
 invariant_of-self-2 c =
     let more = filed_twice c.self.inside.groups.items c.deref_mut.result.now c.reserve_lines.new.groups c.deref_mut-2.result.now
-    c.push_lines.new.groups c.self.inside.groups.len (c.len.result + 1) c.as_slice-2.result.now c.args.filed c.args.sizes.now
+    c.push_lines.new.groups c.self.inside.groups.len (c.len.result + 1) c.as_slice-2.result.now c.args.envelope.groups c.args.sizes.now
     (omega (arith, c.self.inside.groups.ok)) c.deref_mut.ensures.value c.in_ok-reserve_lines.ensures.same c.deref_mut-2.ensures.value
     c.push_lines.ensures c.as_slice-2.ensures in (
       subst (AreNamed c.self.inside.places)
-          (sym (ap heads more ∙ heads_by (c.len.result + 1) c.args.filed c.args.sizes.now (length c.args.filed)
+          (sym (ap heads more ∙ heads_by (c.len.result + 1) c.args.envelope.groups c.args.sizes.now (length c.args.envelope.groups)
           (map shown c.self.inside.groups.items))) c.self.invariant.0,
       subst (AreLatest c.push_latest.new.latest.items)
           (sym (c.in-Ok.ensures.items
-          ∙ ap (λ (ns : List Note). ns ++ note.Article c.new-own_id.result c.args.size c.args.filed c.args.moment ∷ [])
+          ∙ ap (λ (ns : List Note). ns ++ note.Article c.new-own_id.result c.args.size c.args.envelope.groups c.args.envelope.moment ∷ [])
           c.in_ok-reserve.ensures.items))
           (c.push_latest.ensures c.self.inside.notes.items
           (subst (λ (ms : List ℕ). AreLatest ms c.self.inside.notes.items) (sym c.in_ok-reserve-2.ensures.items) c.self.invariant.1)),
@@ -32,20 +32,20 @@ invariant_of-self-2 c =
 pub returns-clause-ok : goal.returns-clause-ok
 returns-clause-ok c = λ host S text may key size sized is.
     let more = filed_twice c.self.inside.groups.items c.deref_mut.result.now c.reserve_lines.new.groups c.deref_mut-2.result.now
-    c.push_lines.new.groups c.self.inside.groups.len (c.len.result + 1) c.as_slice-2.result.now c.args.filed c.args.sizes.now
+    c.push_lines.new.groups c.self.inside.groups.len (c.len.result + 1) c.as_slice-2.result.now c.args.envelope.groups c.args.sizes.now
     (omega (arith, c.self.inside.groups.ok)) c.deref_mut.ensures.value c.in_ok-reserve_lines.ensures.same c.deref_mut-2.ensures.value
     c.push_lines.ensures c.as_slice-2.ensures in
     let next : c.len.result + 1 ≡ length S + 1 =
     new_serial S c.args.self.now c.self.inside.notes.items c.len.result (ap (λ (x : IndexView). x.notes) c.self.view_is) is
     (omega (arith, c.len.ensures, c.self.inside.notes.ok)) in
-    article_indexed host S c.args.self.now _ (record { text = text; groups = c.args.filed; moment = c.args.moment }) c.args.id.now
+    article_indexed host S c.args.self.now _ (record { text = text; envelope = c.args.envelope }) c.args.id.now
     c.args.sizes.now
-    (note.Article c.new-own_id.result c.args.size c.args.filed c.args.moment) (c.len.result + 1) may is
-    (c.in-Ok.ensures.items ∙ ap (λ (ns : List Note). ns ++ note.Article c.new-own_id.result c.args.size c.args.filed c.args.moment ∷ [])
+    (note.Article c.new-own_id.result c.args.size c.args.envelope.groups c.args.envelope.moment) (c.len.result + 1) may is
+    (c.in-Ok.ensures.items ∙ ap (λ (ns : List Note). ns ++ note.Article c.new-own_id.result c.args.size c.args.envelope.groups c.args.envelope.moment ∷ [])
     (c.in_ok-reserve.ensures.items ∙ ap (λ (x : IndexView). x.notes) c.self.view_is))
-    (λ i. note.Article ((c.new-own_id.ensures ∙ c.in_ok-from_slice.ensures.items ∙ key) i) (size i) c.args.filed c.args.moment)
+    (λ i. note.Article ((c.new-own_id.ensures ∙ c.in_ok-from_slice.ensures.items ∙ key) i) (size i) c.args.envelope.groups c.args.envelope.moment)
     sized next
-    (more ∙ ap (λ (x : IndexView). map (filed_by (c.len.result + 1) c.args.filed c.args.sizes.now (length c.args.filed)) x.groups)
+    (more ∙ ap (λ (x : IndexView). map (filed_by (c.len.result + 1) c.args.envelope.groups c.args.sizes.now (length c.args.envelope.groups)) x.groups)
     c.self.view_is)
     key
     (λ q. c.in_ok-insert.ensures.ok q

@@ -2,6 +2,7 @@ use Rattle.std.proofs.Common.{◌≡◌, ◌+◌, sym, ◌∙◌, ap, subst, not
 use Rattle.std.specs.Prelude.{IfOk, Some}
 use Rattle.model.specs.Answer.{transfer_outcome}
 use Rattle.model.specs.Replies.{rejected, transferred}
+use Rattle.model.specs.Spool.{filing_of}
 use Rattle.model.specs.declared.change.Change.TheVariants.{Article}
 use Rattle.replies.specs.Answered.{answered}
 use Rattle.replies.specs.declared.sessions.Answered.{Answered}
@@ -37,7 +38,7 @@ returns g c =
     let t = c.args.moment in
     let what = transfer_filed S c.args.id.now text c.requires (c.has_id.ensures ∙ ap not c.if-not-has_id.false) in
     subst (λ (a : Answered). IfOk c.answer-in-Accepted.result (λ step. said step ≡ said_served a))
-    (ap (λ n. answered (then_line x transferred (Some (Article (record { text = text; groups = c.in-Accepted.groups; moment = t }))))
+    (ap (λ n. answered (then_line x transferred (Some (Article (filing_of text c.in-Accepted.groups t))))
     (n + 1)) c.len-serial.ensures
     ∙ accepted_said S x transferred rejected text t c.in-Accepted.groups (transfer_outcome S c.args.id.now text) (sym c.in-Accepted.is
     ∙ c.in_ok-reads.ensures ∙ ap (told S) (sym what)))

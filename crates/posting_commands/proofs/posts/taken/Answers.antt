@@ -4,6 +4,7 @@ use Rattle.model.specs.Answer.{groups_here, same_id, spool_outcome}
 use Rattle.model.specs.Article.{Posted, cause, groups_of, injected}
 use Rattle.model.specs.Names.{is_host}
 use Rattle.model.specs.Replies.{not_accepted, received}
+use Rattle.model.specs.Spool.{filing_of}
 use Rattle.model.specs.declared.change.Change.TheVariants.{Article}
 use Rattle.replies.specs.Answered.{answered}
 use Rattle.replies.specs.declared.sessions.Answered.{Answered}
@@ -33,7 +34,7 @@ returns g c =
     let stored = injected (g.L.LookUps.host_of c.args.spool.now) (length S + 1) t text in
     let octets = c.in_ok-stored-in-Accepted.ensures ∙ (λ i. injected (c.host.ensures i) (c.requires.serial i) t text) in
     subst (λ (a : Answered). IfOk c.answer-in-Accepted.result (λ step. said step ≡ said_served a))
-    ((λ i. answered (then_line x received (Some (Article (record { text = octets i; groups = c.in-Accepted.groups; moment = t }))))
+    ((λ i. answered (then_line x received (Some (Article (filing_of (octets i) c.in-Accepted.groups t))))
     (c.requires.serial i))
     ∙ accepted_said S x received not_accepted stored t c.in-Accepted.groups what (sym c.in-Accepted.is ∙ c.in_ok-reads.ensures))
     c.answer-in-Accepted.ensures

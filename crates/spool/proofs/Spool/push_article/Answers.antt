@@ -35,7 +35,7 @@ returns-in_err-free-clause-err c =
 pub overflow_sub-self : goal.overflow_sub-self
 overflow_sub-self c =
     let s = c.self.inside in
-    let filing : Filing = record { text = c.args.article.now; groups = c.args.groups.now; moment = c.args.moment } in
+    let filing : Filing = record { text = c.args.article.now; envelope = c.args.envelope.now } in
     let its : Change = Article filing in
     let room : is_full_for (length s.volume.cache) s.inodes s.stands.changes its ≡ false =
     subst (λ (x : SpoolView). is_full_for (length x.blocks) x.inodes x.changes its ≡ false)
@@ -45,7 +45,7 @@ overflow_sub-self c =
 pub invariant_of-self-inside-2 : goal.invariant_of-self-inside-2
 invariant_of-self-inside-2 c =
     let s = c.self.inside in
-    let filing : Filing = record { text = c.args.article.now; groups = c.args.groups.now; moment = c.args.moment } in
+    let filing : Filing = record { text = c.args.article.now; envelope = c.args.envelope.now } in
     let its : Change = Article filing in
     let may : MayFile s.host s.stands.changes filing =
     subst (λ (x : SpoolView). MayFile x.host x.changes filing) (sym c.self.view_is) c.requires.may in
@@ -56,7 +56,7 @@ pub invariant_of-self-2 : goal.invariant_of-self-2
 invariant_of-self-2 c =
     let s = c.self.inside in
     let n = c.grow_by_article.new in
-    let filing : Filing = record { text = c.args.article.now; groups = c.args.groups.now; moment = c.args.moment } in
+    let filing : Filing = record { text = c.args.article.now; envelope = c.args.envelope.now } in
     let its : Change = Article filing in
     let may : MayFile s.host s.stands.changes filing =
     subst (λ (x : SpoolView). MayFile x.host x.changes filing) (sym c.self.view_is) c.requires.may in
@@ -75,7 +75,7 @@ pub returns-clause-ok : goal.returns-clause-ok
 returns-clause-ok c =
     let s = c.self.inside in
     let n = c.grow_by_article.new in
-    let filing : Filing = record { text = c.args.article.now; groups = c.args.groups.now; moment = c.args.moment } in
+    let filing : Filing = record { text = c.args.article.now; envelope = c.args.envelope.now } in
     let its : Change = Article filing in
     let may : MayFile s.host s.stands.changes filing =
     subst (λ (x : SpoolView). MayFile x.host x.changes filing) (sym c.self.view_is) c.requires.may in

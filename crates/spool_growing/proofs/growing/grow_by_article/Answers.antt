@@ -7,6 +7,7 @@ use Rattle.model.specs.Files.{HasRoom, table}
 use Rattle.model.specs.Spool.{news_article}
 use Rattle.model.specs.SpoolFiles.{article_name}
 use Rattle.model.specs.declared.change.Change.TheVariants.{Article}
+use Rattle.model.specs.declared.change.Envelope.{Envelope}
 use Rattle.model.specs.declared.change.Filing.{Filing}
 use Rattle.model.proofs.Asking.{changes_ask_few, here_short}
 use Rattle.model.proofs.HoldsOne.{carried_size}
@@ -16,9 +17,9 @@ use Rattle.filing.specs.Calls.{IsKnown, MayAllGrow}
 use Rattle.index_groups.specs.Filing.{AreLineSizes}
 use Rattle.index.specs.View.{Indexes}
 use Rattle.index.proofs.Callers.{few_groups, overviews_end}
-use Rattle.spool_growing.specs.Articles.{ArePieces}
+use Rattle.spool_growing.specs.Articles.{ArePieces, CanFile}
 use Rattle.spool_growing.specs.Growing.{HasFree}
-use Rattle.spool_growing.proofs.Adding.{filed_here, pieces_count, pieces_may_grow}
+use Rattle.spool_growing.proofs.Adding.{filed_here, pieces_count, pieces_may_grow, pieces_of}
 use Rattle.spool_growing.proofs.Filed.{article_grown, lacks_article}
 use Rattle.spool_growing.proofs.Grown.{applied_dirties}
 use Rattle.spool_growing.proofs.Held.{changes_are_few, enough}
@@ -34,32 +35,47 @@ overflow_add-serial c =
       changes_are_few ready.host c.args.inodes c.args.volume.now.cache ready.changes ready.kept.is,
     )
 
-pub record_of-requires-clause-text : goal.record_of-requires-clause-text
-record_of-requires-clause-text c = omega (arith, carried_size c.args.article.now c.requires.ready.may.carried)
+pub article_record-requires-clause-text : goal.article_record-requires-clause-text
+article_record-requires-clause-text c =
+    omega (arith, carried_size c.args.article.now c.requires.ready.may.carried, ap (λ (o : Octets). length o) c.text-text.ensures)
 
-pub record_of-requires-clause-count : goal.record_of-requires-clause-count
-record_of-requires-clause-count c =
+pub article_record-requires-clause-count : goal.article_record-requires-clause-count
+article_record-requires-clause-count c =
     let ready = c.requires.ready in
     omega (arith, few_groups ready.host ready.changes _ ready.may)
 
-pub record_of-requires-clause-names : goal.record_of-requires-clause-names
-record_of-requires-clause-names c = λ k d low.
+pub article_record-requires-clause-names : goal.article_record-requires-clause-names
+article_record-requires-clause-names c = λ k d low.
     let ready = c.requires.ready in
-    let g = get_or c.args.groups.now k d in
-    let here = filed_here ready.host ready.changes _ g ready.may (
-      k,
-      low,
-      get_or_default c.args.groups.now k g d low,
-    ) in
+    let groups = c.args.envelope.now.groups in
+    let g = get_or groups k d in
+    let here = filed_here ready.host ready.changes _ g ready.may (k, low, get_or_default groups k g d low) in
     omega (arith, here_short ready.host ready.changes g ready.kept.is.held.lawful here)
+
+pub lines_of-requires : goal.lines_of-requires
+lines_of-requires c =
+    let ready = c.requires.ready in
+    subst (λ (gs : List Octets). CanFile c.args.index.now c.args.places.now c.args.article.now gs) (sym c.as_slice-groups.ensures)
+    (record {
+      host = ready.host;
+      inodes = c.args.inodes;
+      blocks = c.args.volume.now.cache;
+      changes = ready.changes;
+      envelope = c.args.envelope.now;
+      is = ready.kept.is;
+      indexed = ready.kept.indexed;
+      placed = ready.kept.placed;
+      may = ready.may;
+    })
 
 pub file_article-requires-clause-short : goal.file_article-requires-clause-short
 file_article-requires-clause-short c =
     let ready = c.requires.ready in
     let serial : c.len-serial.result ≡ length ready.changes = c.len-serial.ensures ready.changes ready.kept.indexed in
-    let filing : Filing = record { text = c.args.article.now; groups = c.args.groups.now; moment = c.args.moment } in
+    let filing : Filing = record { text = c.args.article.now; envelope = c.args.envelope.now } in
     let says : c.deref.result.now ≡ article_record (news_article (length ready.changes + 1) filing) =
-    c.deref.ensures.value ∙ c.in_ok-octets.ensures ∙ ap (λ (n : ℕ). article_record (news_article (n + 1) filing)) serial in
+    c.deref.ensures.value ∙ c.in_ok-octets.ensures
+    ∙ (λ i. article_record (news_article (serial i + 1) (record { text = c.text-text.ensures i; envelope = c.args.envelope.now }))) in
     let few = changes_ask_few ready.host ready.changes (Article filing)
     (changes_are_few ready.host c.args.inodes c.args.volume.now.cache ready.changes ready.kept.is) ready.kept.is.held.lawful ready.may in
     omega (arith, ap (λ (o : Octets). length o) says, few.made)
@@ -75,7 +91,7 @@ file_article-requires-clause-lacks c =
 pub file_article-requires-clause-free : goal.file_article-requires-clause-free
 file_article-requires-clause-free c =
     let ready = c.requires.ready in
-    let filing : Filing = record { text = c.args.article.now; groups = c.args.groups.now; moment = c.args.moment } in
+    let filing : Filing = record { text = c.args.article.now; envelope = c.args.envelope.now } in
     subst (λ (bs : List Octets). HasFree c.args.inodes 1 bs) (sym ready.kept.seen)
     (enough ready.host c.args.inodes c.args.volume.now.cache ready.changes ready.kept.is (Article filing) ready.room)
 
@@ -83,9 +99,9 @@ pub file_article-requires-clause-grow : goal.file_article-requires-clause-grow
 file_article-requires-clause-grow c =
     let ready = c.requires.ready in
     let serial = ap (λ (n : ℕ). n + 1) (c.len-serial.ensures ready.changes ready.kept.indexed) in
-    let are = c.in_ok-lines.ensures.pieces ready.changes ready.kept.indexed serial c.args.inodes c.args.volume.now.cache ready.kept.placed
-    in
-    let filing : Filing = record { text = c.args.article.now; groups = c.args.groups.now; moment = c.args.moment } in
+    let are = pieces_of _ _ _ _ _ _ c.as_slice-groups.ensures
+    (c.in_ok-lines.ensures.pieces ready.changes ready.kept.indexed serial c.args.inodes c.args.volume.now.cache ready.kept.placed) in
+    let filing : Filing = record { text = c.args.article.now; envelope = c.args.envelope.now } in
     let may = pieces_may_grow ready.host c.args.inodes c.args.volume.now.cache ready.changes filing c.in_ok-lines.lines.pieces.items
     ready.kept.is ready.may ready.room are in
     subst (λ (ps : List Piece). MayAllGrow c.args.inodes ps c.args.volume.now.seen) (sym c.deref-2.ensures.value)
@@ -95,12 +111,12 @@ pub file_article-requires-clause-few : goal.file_article-requires-clause-few
 file_article-requires-clause-few c =
     let ready = c.requires.ready in
     let serial = ap (λ (n : ℕ). n + 1) (c.len-serial.ensures ready.changes ready.kept.indexed) in
-    let are = c.in_ok-lines.ensures.pieces ready.changes ready.kept.indexed serial c.args.inodes c.args.volume.now.cache ready.kept.placed
-    in
+    let are = pieces_of _ _ _ _ _ _ c.as_slice-groups.ensures
+    (c.in_ok-lines.ensures.pieces ready.changes ready.kept.indexed serial c.args.inodes c.args.volume.now.cache ready.kept.placed) in
     omega (
       arith,
       ap (λ (ps : List Piece). length ps) c.deref-2.ensures.value,
-      pieces_count (table c.args.inodes c.args.volume.now.cache) ready.changes c.args.article.now c.args.groups.now
+      pieces_count (table c.args.inodes c.args.volume.now.cache) ready.changes c.args.article.now c.args.envelope.now.groups
           c.in_ok-lines.lines.pieces.items are,
       few_groups ready.host ready.changes _ ready.may,
     )
@@ -111,7 +127,17 @@ push_article-requires-clause-few c =
     omega (
       arith,
       few_groups ready.host ready.changes _ ready.may,
-      ap (λ (gs : List Octets). length gs) c.in_ok-filed.ensures,
+      ap (λ (e : Envelope). length e.groups) c.in_ok-kept.ensures,
+    )
+
+pub push_article-requires-clause-sizes : goal.push_article-requires-clause-sizes
+push_article-requires-clause-sizes c =
+    omega (
+      arith,
+      ap (λ (ns : List ℕ). length ns) c.deref-3.ensures.value,
+      c.in_ok-lines.ensures.count,
+      ap (λ (gs : List Octets). length gs) c.as_slice-groups.ensures,
+      ap (λ (e : Envelope). length e.groups) c.in_ok-kept.ensures,
     )
 
 pub push_article-requires-clause-fits : goal.push_article-requires-clause-fits
@@ -126,13 +152,17 @@ returns-clause-grown c =
     let m = c.file_article.new.blocks in
     let w = c.apply.new.self in
     let text = c.args.article.now in
-    let groups = c.args.groups.now in
-    let filing : Filing = record { text = text; groups = groups; moment = c.args.moment } in
+    let groups = c.args.envelope.now.groups in
+    let filing : Filing = record { text = text; envelope = c.args.envelope.now } in
     let serial = ap (λ (n : ℕ). n + 1) (c.len-serial.ensures ready.changes ready.kept.indexed) in
-    let are = c.in_ok-lines.ensures.pieces ready.changes ready.kept.indexed serial c.args.inodes v.cache ready.kept.placed in
+    let are = pieces_of _ _ _ _ _ _ c.as_slice-groups.ensures
+    (c.in_ok-lines.ensures.pieces ready.changes ready.kept.indexed serial c.args.inodes v.cache ready.kept.placed) in
+    let says : c.deref.result.now ≡ article_record (news_article (c.len-serial.result + 1) filing) =
+    c.deref.ensures.value ∙ c.in_ok-octets.ensures
+    ∙ ap (λ (o : Octets). article_record (news_article (c.len-serial.result + 1) (record { text = o; envelope = c.args.envelope.now })))
+    c.text-text.ensures in
     let touches = article_touches ready.host c.args.inodes v.cache ready.changes filing ready.kept.is ready.may
-    (c.len-serial.result + 1) c.deref.result.now c.deref-2.result.now v.seen m.seen ready.kept.seen serial
-    (c.deref.ensures.value ∙ c.in_ok-octets.ensures)
+    (c.len-serial.result + 1) c.deref.result.now c.deref-2.result.now v.seen m.seen ready.kept.seen serial says
     (subst (λ (ps : List Piece). ArePieces (table c.args.inodes v.cache) ready.changes text groups ps) (sym c.deref-2.ensures.value) are)
     c.in-Ok.ensures.touches in
     article_grown c.args.inodes v m w c.args.index.now c.push_article.new.self c.args.places.now c.push_change.new.self
@@ -144,20 +174,20 @@ returns-clause-grown c =
     (λ host S may kept.
     let serial = ap (λ (n : ℕ). n + 1) (c.len-serial.ensures S kept.indexed) in
     let sizes : AreLineSizes S text groups c.deref-3.result.now =
-    subst (λ (ns : List ℕ). AreLineSizes S text groups ns) (sym c.deref-3.ensures.value)
+    subst (λ (p : List Octets × List ℕ). AreLineSizes S text p.0 p.1) (λ i. (c.as_slice-groups.ensures i, sym c.deref-3.ensures.value i))
     (c.in_ok-lines.ensures.sizes S kept.indexed serial c.args.inodes v.cache kept.placed) in
-    subst (λ (gs : List Octets). Indexes (S ++ Article (record { text = text; groups = gs; moment = c.args.moment }) ∷ [])
-    c.push_article.new.self) c.in_ok-filed.ensures
+    subst (λ (e : Envelope). Indexes (S ++ Article (record { text = text; envelope = e }) ∷ []) c.push_article.new.self)
+    c.in_ok-kept.ensures
     (c.in-Ok-push_article.ensures.ok host S text
-    (subst (λ (gs : List Octets). MayFile host S (record { text = text; groups = gs; moment = c.args.moment }))
-    (sym c.in_ok-filed.ensures) may) c.id_of.ensures
-    (ap (λ (o : Octets). length o) c.text.ensures)
-    (subst (λ (gs : List Octets). AreLineSizes S text gs c.deref-3.result.now) (sym c.in_ok-filed.ensures) sizes) kept.indexed))
-    (λ S indexed. ap (λ (n : ℕ). n + 1) (c.len-serial.ensures S indexed)) (c.deref.ensures.value ∙ c.in_ok-octets.ensures)
+    (subst (λ (e : Envelope). MayFile host S (record { text = text; envelope = e })) (sym c.in_ok-kept.ensures) may) c.id_of.ensures
+    (ap (λ (o : Octets). length o) c.text-text.ensures)
+    (subst (λ (e : Envelope). AreLineSizes S text e.groups c.deref-3.result.now) (sym c.in_ok-kept.ensures) sizes) kept.indexed))
+    (λ S indexed. ap (λ (n : ℕ). n + 1) (c.len-serial.ensures S indexed)) says
     (λ host S kept.
     let serial = ap (λ (n : ℕ). n + 1) (c.len-serial.ensures S kept.indexed) in
     subst (λ (ps : List Piece). ArePieces (table c.args.inodes v.cache) S text groups ps) (sym c.deref-2.ensures.value)
-    (c.in_ok-lines.ensures.pieces S kept.indexed serial c.args.inodes v.cache kept.placed))
+    (pieces_of _ _ _ _ _ _ c.as_slice-groups.ensures
+    (c.in_ok-lines.ensures.pieces S kept.indexed serial c.args.inodes v.cache kept.placed)))
 
 pub file_article-requires-clause-known : goal.file_article-requires-clause-known
 file_article-requires-clause-known c =

@@ -1,7 +1,7 @@
 use Rattle.std.proofs.Common.{◌≡◌, ◌^◌, ◌∙◌, ◌++◌, ◌∷◌, ℕ, List, [], get_or, length, take, ap, arith, subst, sym}
 use Rattle.std.proofs.lemmas.List.{append_assoc, take_all, take_more}
 use Rattle.model.specs.Files.{table}
-use Rattle.model.specs.SpoolFiles.{next_line}
+use Rattle.model.specs.FileCalls.{next_line}
 use Rattle.filing.specs.declared.Piece.{Piece}
 use Rattle.spool_growing.specs.Articles.{ArePieces, ArePiecesOf}
 use Rattle.spool_opening.proofs.Sizes.{all_more, count_more, name_here, sizes_more}

@@ -3,7 +3,7 @@ use Rattle.std.specs.List.{All}
 use Rattle.model.specs.Files.{table}
 use Rattle.model.specs.Indexed.{ArePlaces}
 use Rattle.model.specs.Spool.{Spool}
-use Rattle.model.specs.SpoolFiles.{next_line}
+use Rattle.model.specs.FileCalls.{next_line}
 use Rattle.index.specs.View.{Indexes}
 use Rattle.spool_growing.specs.Articles.{ArePieces}
 use Rattle.spool_growing.proofs.lines.lines_of.Given as goal

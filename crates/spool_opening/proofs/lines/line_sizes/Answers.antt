@@ -1,7 +1,7 @@
 use Rattle.std.proofs.Common.{◌≡◌, ◌+◌, ◌^◌, ◌∙◌, ℕ, List, [], ap, get_or, length, subst, sym}
 use Rattle.model.specs.Article.{overview_line}
 use Rattle.model.specs.Files.{table}
-use Rattle.model.specs.SpoolFiles.{next_line}
+use Rattle.model.specs.FileCalls.{next_line}
 use Rattle.index_groups.specs.Shown.{shown}
 use Rattle.spool_opening.specs.Going.{GoesOn}
 use Rattle.spool_opening.specs.Stored.{HasPiece, file_for, name_for, piece_for}

@@ -2,7 +2,7 @@ use Rattle.std.proofs.Common.{◌≡◌, ◌+◌, ◌<◌, ◌^◌, ℕ, [], get
 use Rattle.std.specs.List.{All}
 use Rattle.model.specs.Files.{table}
 use Rattle.model.specs.Spool.{Spool}
-use Rattle.model.specs.SpoolFiles.{next_line}
+use Rattle.model.specs.FileCalls.{next_line}
 use Rattle.index.specs.View.{Indexes}
 use Rattle.spool_opening.specs.Replayed.{AreHere}
 use Rattle.spool_opening.specs.Stored.{HasPiece, Which, file_for, name_for, piece_for}

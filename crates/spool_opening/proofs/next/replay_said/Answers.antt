@@ -1,9 +1,5 @@
-use Rattle.std.proofs.Common.{List, ℕ, ap, map, subst, sym}
 use Rattle.std.proofs.lemmas.Result.{IfErr-weaker}
-use Rattle.model.specs.Files.{table}
-use Rattle.model.specs.Lawful.{MayFile}
 use Rattle.index_groups.proofs.Steps.{ok_map}
-use Rattle.spool_opening.specs.Replayed.{AllGoOn}
 use Rattle.spool_opening.proofs.Nexts.{all_go_on}
 use Rattle.spool_opening.proofs.next.replay_said.Goals as goal
 
@@ -21,17 +17,12 @@ returns-in-Group-clause-damaged g c =
 
 pub returns-in-Article-clause-damaged : goal.returns-in-Article-clause-damaged
 returns-in-Article-clause-damaged g c =
-    let gs = map (λ g'. g'.now) c.in-Article.groups.items in
-    let names = ap (map (λ g'. g'.now)) c.as_slice.ensures.value in
     rw c.in-Article.is
     (IfErr-weaker c.replay_article.result _ _
     (λ e none is R S replayed held next.
-    none is R replayed.indexed
-    (subst (λ (l : List (List ℕ)). MayFile c.args.host.now R
-    (record { text = c.in-Article.text.now; groups = l; moment = c.in-Article.moment })) (sym names) next.may)
-    (subst (λ (l : List (List ℕ)). AllGoOn (table c.args.inodes (g.B.Blocks.blocks c.args.blocks.now)) R c.in-Article.text.now l)
-    (sym names) (all_go_on c.args.host.now c.args.inodes (g.B.Blocks.blocks c.args.blocks.now) R S
-    (record { text = c.in-Article.text.now; groups = gs; moment = c.in-Article.moment }) held next)))
+    none is R replayed.indexed next.may
+    (all_go_on c.args.host.now c.args.inodes (g.B.Blocks.blocks c.args.blocks.now) R S
+    (record { text = c.in-Article.text.now; envelope = c.in-Article.envelope }) held next))
     c.replay_article.ensures.damaged)
 
 pub returns-in-Expiry-clause-ok : goal.returns-in-Expiry-clause-ok

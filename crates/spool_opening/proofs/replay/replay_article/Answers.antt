@@ -1,10 +1,7 @@
-use Rattle.std.proofs.Common.{◌≡◌, ◌+◌, ◌++◌, ◌∷◌, [], ℕ, List, ap, arith, length, map, refl, subst, sym, ◌∙◌}
+use Rattle.std.proofs.Common.{◌≡◌, ◌+◌, ℕ, List, ap, arith, length, refl, sym, ◌∙◌}
 use Rattle.model.specs.Article.{id}
 use Rattle.model.specs.Files.{table}
-use Rattle.model.specs.Lawful.{MayFile}
-use Rattle.model.specs.declared.change.Change.TheVariants.{Article}
 use Rattle.model.specs.declared.change.Filing.{Filing}
-use Rattle.index.specs.View.{Indexes}
 use Rattle.index.proofs.Callers.{few_groups}
 use Rattle.spool_opening.proofs.Filed.{all_of_text, article_replayed, bounded, ends_below, filed_are, filed_here, may_of_text}
 use Rattle.spool_opening.proofs.Filed.{no_cause_there, same_groups, sizes_of_text}
@@ -22,17 +19,16 @@ line_sizes-requires-clause-bounded g c =
 
 pub returns-in_default-clause-damaged : goal.returns-in_default-clause-damaged
 returns-in_default-clause-damaged g c = λ e S is may all.
-    let gs = map (λ g'. g'.now) c.args.groups.now in
+    let f : Filing = record { text = c.in-Ok.article; envelope = c.args.envelope } in
     let text : c.in-Ok.article ≡ c.args.text.now = c.in-Ok.ensures.ok in
     let filed = filed_are S c.in-Ok.article c.in_ok-names.names.items c.as_slice-listed.result.now c.in_ok-here.here.items
     c.as_slice-filed.result.now c.in_ok-names.ensures c.as_slice-listed.ensures.value
     (c.in_ok-here.ensures S is) c.as_slice-filed.ensures.value in
-    let same = same_groups c.args.host.now S (record { text = c.in-Ok.article; groups = gs; moment = c.args.moment })
-    c.as_slice-filed.result.now filed
-    (may_of_text c.args.host.now S c.args.text.now c.in-Ok.article gs c.args.moment (sym text) may) in
+    let same = same_groups c.args.host.now S f c.as_slice-filed.result.now filed
+    (may_of_text c.args.host.now S c.args.text.now c.in-Ok.article c.args.envelope (sym text) may) in
     let none = rw c.in_default.is at c.in_ok-sizes.ensures.lines in
     none S is (ap (λ (n : ℕ). n + 1) (c.len-count.ensures S is)) (filed_here S c.in-Ok.article c.as_slice-filed.result.now filed)
-    (all_of_text (table c.args.inodes (g.B.Blocks.blocks c.args.blocks.now)) S c.args.text.now c.in-Ok.article gs
+    (all_of_text (table c.args.inodes (g.B.Blocks.blocks c.args.blocks.now)) S c.args.text.now c.in-Ok.article c.args.envelope.groups
     c.as_slice-filed.result.now (sym text) (sym same) all)
 
 pub push_article-requires-clause-few : goal.push_article-requires-clause-few
@@ -40,17 +36,29 @@ push_article-requires-clause-few g c =
     let its = c.requires.replayed in
     let S = its.changes in
     let is = its.replayed.indexed in
-    let gs = map (λ g'. g'.now) c.args.groups.now in
     let filed = filed_are S c.in-Ok.article c.in_ok-names.names.items c.as_slice-listed.result.now c.in_ok-here.here.items
     c.as_slice-filed.result.now c.in_ok-names.ensures c.as_slice-listed.ensures.value
     (c.in_ok-here.ensures S is) c.as_slice-filed.ensures.value in
     let may = (c.in_ok-may.ensures S is filed (ap (λ (n : ℕ). n + 1) (c.len-count.ensures S is))).0 c.if-not-may.false in
-    let filing : Filing = record { text = c.in-Ok.article; groups = gs; moment = c.args.moment } in
-    let same = same_groups c.args.host.now S filing c.as_slice-filed.result.now filed may in
+    few_groups c.args.host.now S (record { text = c.in-Ok.article; envelope = c.args.envelope }) may
+
+pub push_article-requires-clause-sizes : goal.push_article-requires-clause-sizes
+push_article-requires-clause-sizes g c =
+    let its = c.requires.replayed in
+    let S = its.changes in
+    let is = its.replayed.indexed in
+    let filed = filed_are S c.in-Ok.article c.in_ok-names.names.items c.as_slice-listed.result.now c.in_ok-here.here.items
+    c.as_slice-filed.result.now c.in_ok-names.ensures c.as_slice-listed.ensures.value
+    (c.in_ok-here.ensures S is) c.as_slice-filed.ensures.value in
+    let may = (c.in_ok-may.ensures S is filed (ap (λ (n : ℕ). n + 1) (c.len-count.ensures S is))).0 c.if-not-may.false in
+    let same = same_groups c.args.host.now S (record { text = c.in-Ok.article; envelope = c.args.envelope })
+    c.as_slice-filed.result.now filed may in
+    let small = rw c.in-Some.is at c.in_ok-sizes.ensures.small in
     omega (
       arith,
-      few_groups c.args.host.now S filing may,
-      ap (λ (l : List (List ℕ)). length l) (c.new.ensures ∙ sym c.as_slice-filed.ensures.value ∙ same),
+      ap (λ (ns : List ℕ). length ns) c.as_slice-lengths.ensures.value,
+      small.0,
+      ap (λ (gs : List (List ℕ)). length gs) same,
     )
 
 pub push_article-requires-clause-fits : goal.push_article-requires-clause-fits
@@ -64,28 +72,21 @@ pub returns-clause-ok : goal.returns-clause-ok
 returns-clause-ok g c = λ R replayed its.
     let blocks = g.B.Blocks.blocks c.args.blocks.now in
     let is = replayed.indexed in
-    let gs = map (λ g'. g'.now) c.args.groups.now in
+    let e = c.args.envelope in
     let text : c.in-Ok.article ≡ c.args.text.now = c.in-Ok.ensures.ok in
     let serial = ap (λ (n : ℕ). n + 1) (c.len-count.ensures R is) in
     let filed = filed_are R c.in-Ok.article c.in_ok-names.names.items c.as_slice-listed.result.now c.in_ok-here.here.items
     c.as_slice-filed.result.now c.in_ok-names.ensures c.as_slice-listed.ensures.value
     (c.in_ok-here.ensures R is) c.as_slice-filed.ensures.value in
     let may = (c.in_ok-may.ensures R is filed serial).0 c.if-not-may.false in
-    let same = same_groups c.args.host.now R (record { text = c.in-Ok.article; groups = gs; moment = c.args.moment })
-    c.as_slice-filed.result.now filed may in
-    let may_text = may_of_text c.args.host.now R c.in-Ok.article c.args.text.now gs c.args.moment text may in
+    let same = same_groups c.args.host.now R (record { text = c.in-Ok.article; envelope = e }) c.as_slice-filed.result.now filed may in
+    let may_text = may_of_text c.args.host.now R c.in-Ok.article c.args.text.now e text may in
     let lines = rw c.in-Some.is at c.in_ok-sizes.ensures.lines in
     let both = lines R is serial (filed_here R c.in-Ok.article c.as_slice-filed.result.now filed) in
-    let names : c.new.result ≡ gs = c.new.ensures ∙ sym c.as_slice-filed.ensures.value ∙ same in
-    let indexed = c.in_ok-push_article.ensures.ok c.args.host.now R c.args.text.now
-    (subst (λ (l : List (List ℕ)). MayFile c.args.host.now R (record { text = c.args.text.now; groups = l; moment = c.args.moment }))
-    (sym names) may_text) (c.id_of-id.ensures ∙ ap id text) refl
-    (sizes_of_text R c.in-Ok.article c.args.text.now c.as_slice-filed.result.now c.new.result c.in-Some.sizes.items
-    c.as_slice-lengths.result.now text (same ∙ sym names) c.as_slice-lengths.ensures.value both.1) is in
+    let indexed = c.in_ok-push_article.ensures.ok c.args.host.now R c.args.text.now may_text (c.id_of-id.ensures ∙ ap id text) refl
+    (sizes_of_text R c.in-Ok.article c.args.text.now c.as_slice-filed.result.now e.groups c.in-Some.sizes.items
+    c.as_slice-lengths.result.now text same c.as_slice-lengths.ensures.value both.1) is in
     article_replayed c.args.host.now c.args.inodes blocks R c.args.replay.now.index c.push_article.new.self c.args.replay.now.places
-    c.push_change.new.self c.args.at (record { text = c.args.text.now; groups = gs; moment = c.args.moment }) c.requires.rule replayed its
-    may_text
-    (all_of_text (table c.args.inodes blocks) R c.in-Ok.article c.args.text.now c.as_slice-filed.result.now gs text same both.0)
-    (subst (λ (l : List (List ℕ)). Indexes (R ++ Article (record { text = c.args.text.now; groups = l; moment = c.args.moment }) ∷ [])
-    c.push_article.new.self) names indexed)
-    c.in_ok-push_change.ensures.ok
+    c.push_change.new.self c.args.at (record { text = c.args.text.now; envelope = e }) c.requires.rule replayed its may_text
+    (all_of_text (table c.args.inodes blocks) R c.in-Ok.article c.args.text.now c.as_slice-filed.result.now e.groups text same both.0)
+    indexed c.in_ok-push_change.ensures.ok

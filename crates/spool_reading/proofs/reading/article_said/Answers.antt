@@ -1,6 +1,6 @@
-use Rattle.std.proofs.Common.{map, refl, rules, sym, ◌∙◌}
+use Rattle.std.proofs.Common.{rules, sym, ◌∙◌}
 use Rattle.std.proofs.lemmas.Bool.{true≢false}
-use Rattle.spool_reading.proofs.Saying.{article_is, article_serial, is_moment, late_article, no_article, other_article}
+use Rattle.spool_reading.proofs.Saying.{article_is, article_serial, no_article, other_article}
 use Rattle.spool_reading.proofs.reading.article_said.Goals as goal
 
 pub returns-then-not-is_serial : goal.returns-then-not-is_serial
@@ -16,21 +16,12 @@ pub returns-then-said-serial : goal.returns-then-said-serial
 returns-then-said-serial c =
     let said = c.in-Some.said in
     λ d is. c.if-said-serial.true (sym
-    (article_serial c.args.serial said.serial said.moment said.text.now (map (λ g. g.now) said.groups.items) _ c.args.content.now d
-    (search rules) (rw c.in-Some.is at c.in_ok-said.ensures) is))
-
-pub returns-in_default-at : goal.returns-in_default-at
-returns-in_default-at c =
-    let said = c.in-Some.said in
-    late_article c.args.serial said.serial said.moment said.text.now (map (λ g. g.now) said.groups.items) c.args.digits.now
-    c.args.content.now (search rules) (search rules) c.requires
-    (c.is_serial.ensures.0 (search rules)) c.if-said-serial.false (c.in_default-at.ensures.none.0 refl)
-    (rw c.in-Some.is at c.in_ok-said.ensures)
+    (article_serial c.args.serial said.serial (record { text = said.text.now; envelope = said.envelope }) _ c.args.content.now d
+    (search rules) (rw c.in-Some.is at c.in_ok-said.ensures).1 is))
 
 pub returns : goal.returns
 returns c =
     let said = c.in-Some.said in
-    article_is c.args.serial said.serial c.in-Some-at.moment said.moment said.text.now (map (λ g. g.now) said.groups.items)
-    c.args.digits.now c.args.content.now (search rules) (search rules) c.requires
-    (c.is_serial.ensures.0 (search rules)) c.if-said-serial.false c.in-Some-at.ensures.some
-    (is_moment c.in-Some-at.moment said.moment c.in-Some-at.ensures.none) (rw c.in-Some.is at c.in_ok-said.ensures)
+    let read = rw c.in-Some.is at c.in_ok-said.ensures in
+    article_is c.args.serial said.serial (record { text = said.text.now; envelope = said.envelope }) c.args.digits.now c.args.content.now
+    (search rules) c.requires (c.is_serial.ensures.0 (search rules)) c.if-said-serial.false read.0 read.1

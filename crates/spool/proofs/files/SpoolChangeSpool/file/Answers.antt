@@ -5,5 +5,5 @@ use Rattle.spool.proofs.files.SpoolChangeSpool.file.Goals as goal
 pub add_article-requires : goal.add_article-requires
 add_article-requires c =
     let s = c.args.self.now in
-    may_follow s.host s.changes (Article (record { text = c.args.article.now; groups = c.args.groups.now; moment = c.args.moment }))
+    may_follow s.host s.changes (Article (record { text = c.args.article.now; envelope = c.args.envelope.now }))
     c.requires
