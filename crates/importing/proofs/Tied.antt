@@ -11,11 +11,10 @@ use Rattle.disk.specs.Device.{Device}
 use Rattle.journal.specs.Inside.{IsVolume}
 use Rattle.journal.specs.Journal.{IsReady, JournalView}
 use Rattle.model.specs.Layout.{Holds, HoldsIn, IsLabel, Stands}
-use Rattle.model.specs.Spool.{Spool, filing_of}
+use Rattle.model.specs.Spool.{Spool}
 use Rattle.model.specs.Stream.{Octets}
 use Rattle.model.specs.Volume.{format_number}
 use Rattle.model.specs.declared.change.Change.{Change}
-use Rattle.model.specs.declared.change.Change.TheVariants.{Article}
 use Rattle.spool.specs.View.{Adds, Dirties, IsSpool, SpoolView}
 use Rattle.volume.specs.Volume.{AgreeOutside}
 use Rattle.importing.specs.Filing.{Becomes}
@@ -73,7 +72,7 @@ module _ {D : Type 0} (device : D → Device) (journal : JournalView D) (old new
   stays same = subst (λ (s : SpoolView). IsTied device journal s durable) (sym same) tied
 
   becomes : (text : Octets) (moment : ℕ) (outcome : TextOutcome) → Becomes old new text moment outcome → IsTied device journal new durable
-  becomes text moment (Filed serial) is = adds (Article (filing_of text is.2.0 moment)) is.2.3
+  becomes text moment (Filed serial) is = adds is.2.0 is.2.3
   becomes text moment Full is = stays is.2
   becomes text moment Here is = stays is.2
   becomes text moment NoGroup is = stays is.2

@@ -1,24 +1,30 @@
 -- What becomes of a carried text, by its tests.
 use Rattle.std.proofs.Common.{◌≡◌, ◌⊎◌, inl, inr, ℕ, zero, suc, ◌<◌, arith, List, [], ◌∷◌, length, refl, sym, ◌∙◌, ap, subst, Bool, true}
 use Rattle.std.proofs.Common.{false}
-use Rattle.std.specs.Prelude.{◌==◌, ◌++◌, find, filter, codes, if◌then◌else◌, Option, Some, None, option_map, option_and_then}
+use Rattle.std.specs.Prelude.{◌==◌, ◌++◌, find, codes, if◌then◌else◌, Option, Some, None, option_map, option_and_then}
 use Rattle.std.specs.Prelude.{unwrap_or, bytes_eq}
 use Rattle.std.specs.List.{list_any}
 use Rattle.std.proofs.lemmas.Bool.{true≢false, or_parts}
 use Rattle.std.proofs.lemmas.Slice.Eq.{bytes_eq-Decides}
-use Rattle.model.specs.Answer.{accepted, groups_here, has_other_id, id_here, no_group_here, spool_outcome, transfer_outcome}
-use Rattle.model.specs.Article.{Carried, added_fields, cause, cause_but_long, field_count, fields, groups_of, id, id_in_field}
-use Rattle.model.specs.Article.{is_blank_field, is_named, lacks_field, long_cause, needed_fields, own_id, written_fields}
+use Rattle.model.specs.Answer.{Outcome, accepted, article_answer, awaiting, groups_here, has_other_id, id_here, new_session}
+use Rattle.model.specs.Answer.{no_group_here, spool_outcome, transfer_outcome}
+use Rattle.model.specs.Article.{Carried, added_fields, cause, cause_but_long, field_count, fields, id, id_in_field}
+use Rattle.model.specs.Article.{is_blank_field, is_named, long_cause, needed_fields, own_id, written_fields}
 use Rattle.model.specs.Calendar.{moment_limit}
 use Rattle.model.specs.Lawful.{MayFile}
 use Rattle.model.specs.Names.{is_of_host}
-use Rattle.model.specs.Spool.{NewsArticle, Spool, by_id, filing_of, is_here}
+use Rattle.model.specs.Replies as replies
+use Rattle.model.specs.Spool.{NewsArticle, Spool, by_id, filing_of}
 use Rattle.model.specs.Stream.{Octets}
+use Rattle.model.specs.declared.change.Change.TheVariants.{Article}
+use Rattle.model.specs.declared.session.Awaits.TheVariants as awaits
 use Rattle.model.proofs.Ids.{field_counted, no_cause}
 use Rattle.model.proofs.Fronts.{first_none, none_mapped}
 use Rattle.change_spool.specs.declared.FilingError.{FilingError}
 use Rattle.change_spool.specs.declared.FilingError.TheVariants as file
 use Rattle.posting_commands.proofs.Telling.{transfer_filed}
+use Rattle.spool.specs.View.{SpoolView}
+use Rattle.importing.specs.Filing.{accepted_change, transferred}
 
 -- ---- an article that was carried has a message-id
 
@@ -84,6 +90,11 @@ pub is_accepted : (S : Spool) (text own : Octets) (groups : List Octets) → cau
 is_accepted S text own groups carried is new are some =
     by_spool S text own carried is ∙ ap (λ (o : Option NewsArticle). spool_outcome o (groups_here S text) None) new
     ∙ ap (λ (here : List Octets). spool_outcome None here None) (sym are) ∙ some_groups groups some
+
+pub its_change : (s : SpoolView) (moment : ℕ) (text : Octets) (groups : List Octets) → transferred s text ≡ accepted groups
+    → accepted_change s moment text ≡ Some (Article (filing_of text groups moment))
+its_change s moment text groups is =
+    ap (λ (o : Outcome). (article_answer (awaiting new_session awaits.Line) replies.transferred replies.rejected text moment o).change) is
 
 pub may_file : (host : Octets) (S : Spool) (text own : Octets) (groups : List Octets) (moment : ℕ) → cause Carried text ≡ None
     → own_id text ≡ Some own → is_of_host host own ≡ false → by_id S own ≡ None → groups ≡ groups_here S text → 0 < length groups

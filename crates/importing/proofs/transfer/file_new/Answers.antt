@@ -1,4 +1,4 @@
-use Rattle.std.proofs.Common.{◌≡◌, ◌+◌, ◌<◌, ℕ, List, [], length, refl, sym, ◌∙◌, ap, subst, true, false}
+use Rattle.std.proofs.Common.{◌≡◌, ◌+◌, ◌<◌, length, refl, sym, ◌∙◌, ap, subst, true}
 use Rattle.std.specs.Prelude.{None, filter}
 use Rattle.std.proofs.lemmas.Bool.{eqb-true, eqb-false}
 use Rattle.std.proofs.lemmas.List.{nil_from_length}
@@ -8,7 +8,7 @@ use Rattle.model.specs.declared.change.Change.{Change}
 use Rattle.model.specs.declared.change.Change.TheVariants.{Article}
 use Rattle.spool.specs.Refusals.{article_refusal, is_full_for}
 use Rattle.spool.specs.View.{Adds}
-use Rattle.importing.proofs.Transfers.{has_room, is_accepted, lacks_room, nowhere, own_id-is, positive}
+use Rattle.importing.proofs.Transfers.{has_room, is_accepted, its_change, lacks_room, nowhere, own_id-is, positive}
 use Rattle.importing.proofs.transfer.file_new.Goals as goal
 
 pub returns-then-is_empty-clause-ok : goal.returns-then-is_empty-clause-ok
@@ -43,7 +43,12 @@ returns-in-Ok-clause-ok c =
     is_accepted s.changes text _ groups.items c.requires.carried (own_id-is text c.requires.carried) c.requires.new are some in (
       c.requires.offered,
       done.1.0,
-      (groups.items, filed, has_room (is_full_for s (Article (filing_of text groups.items c.args.moment))) done.0, done.1.1),
+      (
+        Article (filing_of text groups.items c.args.moment),
+        its_change s c.args.moment text groups.items filed,
+        has_room (is_full_for s (Article (filing_of text groups.items c.args.moment))) done.0,
+        done.1.1,
+      ),
     )
 
 pub returns-in-Err-Full-clause-ok : goal.returns-in-Err-Full-clause-ok
@@ -61,4 +66,12 @@ returns-in-Err-Full-clause-ok c =
     lacks_room (is_full_for s (Article (filing_of text c.new.result c.args.moment))) c.in-Err-Full.field-0
     c.in-Err-Full.field-0-is c.in-Err-Full.ensures.0 in
     let filed = is_accepted s.changes text _ groups.items c.requires.carried (own_id-is text c.requires.carried) c.requires.new are some in
-    (c.requires.offered, (groups.items, filed, subst (λ (x : Change). is_full_for s x ≡ true) same full), c.in-Err-Full.ensures.1)
+    (
+      c.requires.offered,
+      (
+        Article (filing_of text groups.items c.args.moment),
+        its_change s c.args.moment text groups.items filed,
+        subst (λ (x : Change). is_full_for s x ≡ true) same full,
+      ),
+      c.in-Err-Full.ensures.1,
+    )

@@ -1,7 +1,5 @@
-use Rattle.std.proofs.Common.{◌≡◌, ◌+◌, Bool, IsTrue, [], length, sym, subst}
+use Rattle.std.proofs.Common.{Bool, IsTrue, sym, subst}
 use Rattle.std.proofs.lemmas.Result.{IfOk-weaker}
-use Rattle.std.specs.Prelude.{slice_index_or}
-use Rattle.model.specs.Files.{free_blocks}
 use Rattle.importing.specs.Saved.{IsSaved, StoreView}
 use Rattle.importing.proofs.Rooms.{used_are}
 use Rattle.importing.proofs.Tied.{read}

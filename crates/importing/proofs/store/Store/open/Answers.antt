@@ -1,4 +1,4 @@
-use Rattle.std.proofs.Common.{◌≡◌, ℕ, length, sym, subst}
+use Rattle.std.proofs.Common.{ℕ, sym, subst}
 use Rattle.opening.proofs.Laws.{is_damaged, journal_missed, no_label, no_volume}
 use Rattle.importing.specs.Opening.{IsOpened}
 use Rattle.importing.specs.Saved.{IsTied}
