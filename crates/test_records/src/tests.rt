@@ -24,7 +24,11 @@ fn article(
     if u32::MAX as usize <= text.len() || 255 < groups.as_slice().len() {
         return Ok(None);
     }
-    if !groups.as_slice().iter().all(|group| group.as_slice().len() < 256) {
+    if !groups
+        .as_slice()
+        .iter()
+        .all(|group| group.as_slice().len() < 256)
+    {
         return Ok(None);
     }
     let envelope = Envelope {
@@ -108,9 +112,11 @@ fn the_record_of_an_article(rt: HostRuntime) -> Result<(), Fail> {
 
 #[test]
 fn the_record_of_an_article_of_the_year_10000(rt: HostRuntime) -> Result<(), Fail> {
-    let last = b"\x02\0\0\0\0\0\0\0\x7f\x41\xf4\xff\x3a\0\0\0\x04\0\0\0\x01\x03x.ahi\r\n".as_slice();
+    let last =
+        b"\x02\0\0\0\0\0\0\0\x7f\x41\xf4\xff\x3a\0\0\0\x04\0\0\0\x01\x03x.ahi\r\n".as_slice();
     assert!(rt; read_article(rt.alloc(), last)?.is_some());
-    let first = b"\x02\0\0\0\0\0\0\0\x80\x41\xf4\xff\x3a\0\0\0\x04\0\0\0\x01\x03x.ahi\r\n".as_slice();
+    let first =
+        b"\x02\0\0\0\0\0\0\0\x80\x41\xf4\xff\x3a\0\0\0\x04\0\0\0\x01\x03x.ahi\r\n".as_slice();
     assert!(rt; read_article(rt.alloc(), first)?.is_none());
     Ok(())
 }
