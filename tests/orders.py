@@ -157,11 +157,24 @@ def each_command_names_the_process_that_has_the_volume(volume):
     importing = subprocess.Popen([volume.program, "import", volume.path], stdin=subprocess.PIPE, stdout=subprocess.PIPE,
                                  stderr=subprocess.PIPE, preexec_fn=end_with_parent)
     with importing:
-        wait_until(lambda: volume.run("status", volume.path).returncode == 1)
+        wait_until(lambda: has_lock(importing.pid))
         assert_in_use(volume, ["status", volume.path], importing.pid)
         importing.stdin.close()
         assert importing.wait(SECONDS) == 0
     assert volume.dump() == ["spool 1", "1 group x.a y"]
+
+
+def has_lock(process):
+    """Whether a process has locked a file. A command that asked for the volume might take the lock before that process does."""
+    folder = "/proc/%d/fdinfo" % process
+    try:
+        for name in os.listdir(folder):
+            with open(os.path.join(folder, name)) as file:
+                if "\nlock:" in file.read():
+                    return True
+    except FileNotFoundError:
+        pass  # a file was closed meanwhile
+    return False
 
 
 def assert_in_use(volume, words, process):
