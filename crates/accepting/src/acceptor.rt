@@ -1,6 +1,6 @@
 //! The acceptors: each has a listener, and joins a session for each caller that is let in.
 
-use crate::Call;
+use crate::Caller;
 use crate::lingering::read_at_once;
 use crossbeam_channel::Sender;
 use flusher::{JoinError, Kern};
@@ -158,7 +158,7 @@ pub struct Acceptor<'a, 'b, R, K, G> {
     pub shared: &'b Shared<'a, R, K, G>,
     pub doors: &'b Doors<'a>,
     pub log: &'b Log,
-    pub calls: Sender<Call>,
+    pub calls: Sender<Caller>,
 }
 
 impl<'a, 'b, R, K, G> Drop for Acceptor<'a, 'b, R, K, G> {
@@ -246,7 +246,7 @@ impl<
             return Ok(());
         }
         match Arc::new(*alloc, stream) {
-            Ok(stream) => match self.calls.send(*rt, Call { sid, peer, stream }) {
+            Ok(stream) => match self.calls.send(*rt, Caller { sid, peer, stream }) {
                 Ok(()) => Ok(()),
                 Err(_) => Err(Over),
             },

@@ -6,7 +6,7 @@ use std::sync::Arc;
 
 /// A caller whose session was joined.
 #[derive(Drop)]
-pub struct Call {
+pub struct Caller {
     pub sid: u64,
     pub peer: SocketAddr,
     pub stream: Arc<TcpStream, Global>,

@@ -8,5 +8,5 @@ mod call;
 mod lingering;
 
 pub use acceptor::{Acceptor, Doors};
-pub use call::Call;
+pub use call::Caller;
 pub use lingering::{FAREWELLS, Parting, linger_all, part, see_off};

@@ -13,18 +13,13 @@ use Rattle.model.specs.Names.{begins, is_blank, is_host}
 use Rattle.model.specs.Calendar.{date_header}
 use Rattle.model.specs.Article.{Posted, body, body_lines, cause, cause_but_long, content, content_of, fields, has_empty_line, header}
 use Rattle.model.specs.Article.{continues, fields_of_lines, header_lines, injected, is_named, made_id}
-use Rattle.model.proofs.Ids.{no_cause}
-use Rattle.model.proofs.Ids.{HasNoCause}
+use Rattle.model.proofs.Fronts.{first_none}
+use Rattle.model.proofs.Ids.{HasNoCause, no_cause}
 use Rattle.model.proofs.Stored.{date_plain, fields_front, grouped, header_front, is_no_lf, lines_front, made_plain, no_lf, path_plain}
-use Rattle.model.proofs.Stored.{stored}
+use Rattle.model.proofs.Stored.{perhaps, stored}
 use Rattle.model.proofs.LineLaws.{lines-empty}
-use Rattle.std.specs.Option.{option_or}
 use Rattle.header_fields.specs.Header.{IsHeader}
 use Rattle.article.specs.Stored.{added_to, field_line, front, path_of}
-
--- a field where it is missing
-abbrev perhaps : Bool → Octets → List Octets
-perhaps b field = if b then field ∷ [] else []
 
 -- the fields that make up `front`
 abbrev front_fields : Octets → ℕ → ℕ → List Octets → List Octets
@@ -123,13 +118,9 @@ passed : (name f : Octets) (b : Bool) (rest : List Octets) → is_named name f �
 passed name f true rest other = cond-false (is_named name f) (Some f) (find (is_named name) rest) other
 passed name f false rest other = refl
 
-no_but : {X : Type 0} (a b : Option X) → option_or a b ≡ None → a ≡ None
-no_but None b is = refl
-no_but (Some c) b is = absurd (cc)
-
 but_none : (host text : Octets) (serial : ℕ) → cause (Posted host serial) text ≡ None → cause_but_long (Posted host serial) text ≡ None
 unfolding cause
-but_none host text serial is = no_but (cause_but_long (Posted host serial) text) _ is
+but_none host text serial is = first_none (cause_but_long (Posted host serial) text) _ is
 
 concat_one : (b : Bool) (field : Octets) → concat (perhaps b field) ≡ (if b then field else [])
 concat_one true field = append-nil field

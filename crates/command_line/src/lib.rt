@@ -6,5 +6,5 @@ mod reading;
 mod syntax;
 mod table;
 
-pub use reading::{Asked, Export, Service, read_words};
+pub use reading::{Asked, Export, ServeOptions, read_words};
 pub use syntax::VERSION;

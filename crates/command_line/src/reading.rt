@@ -31,7 +31,7 @@ pub enum Asked<'a> {
     Group(&'a str, GroupRequest),
     /// The volume, the group in it, and the number up to which its articles are removed.
     Expire(&'a str, GroupName, u32),
-    Serve(Service<'a>),
+    Serve(ServeOptions<'a>),
     Dump(&'a str),
     /// The state of a volume, for a person or as JSON.
     Status(&'a str, bool),
@@ -42,7 +42,7 @@ pub enum Asked<'a> {
 
 /// The volume that a server serves, where it listens, and whom it lets in.
 #[derive(Drop)]
-pub struct Service<'a> {
+pub struct ServeOptions<'a> {
     pub path: &'a str,
     /// The endpoints to listen on, at least one: first the port of 127.0.0.1, if one is given.
     pub endpoints: Vec<SocketAddr>,
@@ -245,8 +245,8 @@ fn read_expiry<'a>(words: &ArgMatches<'a>) -> Result<Asked<'a>, Failure> {
 }
 
 /// The server that the words describe.
-fn read_service<'a>(alloc: Global, words: &ArgMatches<'a>) -> Result<Service<'a>, Failure> {
-    Ok(Service {
+fn read_service<'a>(alloc: Global, words: &ArgMatches<'a>) -> Result<ServeOptions<'a>, Failure> {
+    Ok(ServeOptions {
         path: word(words, PATH)?,
         endpoints: read_endpoints(alloc, words)?,
         networks: read_networks(alloc, words)?,

@@ -1,22 +1,22 @@
 -- What a call does to the kernel under the lock, and to the caller's buffer.
 use Rattle.std.specs.Prelude.{◌≡◌, ◌<◌, ◌↔◌, ℕ, Bool, IsTrue, List, ◌++◌, length}
-use Rattle.flusher.specs.declared.kern.Answered.{Answered}
+use Rattle.flusher.specs.declared.kern.ExecOutcome.{ExecOutcome}
 use Rattle.flusher.specs.declared.kern.KernelCounts.{KernelCounts}
 use Rattle.kernel.specs.Kernel.{Execs, KernelView, released_of, seat_of}
 use Rattle.model.specs.SpoolFiles.{files_of}
 use Rattle.model.specs.declared.message.Message.{Message}
-use Rattle.outbox.specs.Queue.{Entry}
+use Rattle.outbox.specs.Queue.{ReadyEntry}
 use Rattle.seats.specs.Seats.{holds, ready_of}
 
 -- what is ready of a session is given after the entries of a buffer; and whether the session still holds outputs
-pub record Gives (old new : KernelView) (number : ℕ) (before after : List Entry) (is_held : Bool) : Type 0 where
+pub record Gives (old new : KernelView) (number : ℕ) (before after : List ReadyEntry) (is_held : Bool) : Type 0 where
   pub entries : after ≡ before ++ (ready_of old.durable before number old.seats).entries
   pub kernel : new ≡ released_of old before number
   pub held : is_held ≡ holds (seat_of new number)
 
 -- a message of a session was served, and then what is ready of the same session was given
-pub record Answers (old new : KernelView) (number : ℕ) (m : Message) (t : ℕ) (before after : List Entry)
-    (answered : Answered) : Type 0 where
+pub record Answers (old new : KernelView) (number : ℕ) (m : Message) (t : ℕ) (before after : List ReadyEntry)
+    (answered : ExecOutcome) : Type 0 where
   pub served : KernelView
   pub executed : Execs old served number m t (answered.next, answered.mark)
   pub accepted : IsTrue answered.has_accepted ↔ (length old.spool < length served.spool)

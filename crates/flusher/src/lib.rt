@@ -14,7 +14,7 @@ pub use arrivals::Arrivals;
 pub use bells::{Bell, Bells, Ringing};
 pub use flushing::{FlushError, Flusher, FlusherEnd, flush_all, flush_turn};
 pub use gate::{Gate, NoGate};
-pub use kern::{Answered, Kern, KernelCounts};
+pub use kern::{ExecOutcome, Kern, KernelCounts};
 pub use kernel::{
     AdminError, BatchBuf, ExecError, ExpireError, JoinError, Kernel, SESSIONS, Stale, Ticket,
 };

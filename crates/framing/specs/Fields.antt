@@ -1,7 +1,7 @@
 -- The fields of a reader.
 use Rattle.std.specs.Prelude.{List, ◌≡◌, ℕ, ◌+◌, ◌*◌, ◌≤◌, ◌⊎◌, ◌++◌, Some, None, Option, drop, replicate, vec_len}
 use Rattle.framing.specs.declared.Reader.TheInside.{Inside}
-use Rattle.framing.specs.Held.{Held, NoneEnds}
+use Rattle.framing.specs.Held.{HeldInput, NoneEnds}
 use Rattle.model.specs.declared.message.Mode.{Mode}
 
 -- the octets that are held and were not handed out
@@ -9,7 +9,7 @@ abbrev pub unread : Inside → List ℕ
 unread r = drop r.start r.octets.items
 
 -- dropped octets are seen as zeros
-abbrev pub held_of : Inside → Held
+abbrev pub held_of : Inside → HeldInput
 held_of r = record {
   rest = replicate r.dropped 0 ++ unread r;
   awaits = r.awaits;

@@ -40,9 +40,9 @@ pub struct Reader {
 
 impl Model for Reader {
     ghost use Rattle.std.specs.Prelude.{◌++◌, drop, vec_len};
-    ghost use Rattle.framing.specs.Held.{Held};
+    ghost use Rattle.framing.specs.Held.{HeldInput};
 
-    ghost Value = { Held };
+    ghost Value = { HeldInput };
 
     ghost use Rattle.framing.specs.Fields.{held_of, IsSound};
 

@@ -8,7 +8,8 @@ use Rattle.std.proofs.lemmas.Bool.{cases_eq, cond_both}
 use Rattle.disk.proofs.Images.{length-part}
 use Rattle.model.specs.Stream.{Octets}
 use Rattle.model.specs.Volume.{number_at}
-use Rattle.model.specs.Files.{Entry, HasRoom, IsFile, IsFree, size, block_count, entry_of, indirect_count, indirect_for, indirect_number}
+use Rattle.model.specs.Files.{FileEntry, HasRoom, IsFile, IsFree, size, block_count, entry_of, indirect_count, indirect_for}
+use Rattle.model.specs.Files.{indirect_number}
 use Rattle.model.specs.Files.{indirect_pointer, pointer, owned, name_in, slot_octets, content_of, entry, inode_of, slot_of, indirect_of}
 use Rattle.model.specs.Files.{IsFileSystem, file_at}
 use Rattle.model.proofs.Owning.{zero_number, free_owns}
@@ -52,7 +53,7 @@ module _ (inodes : ℕ) (blocks : List Octets) (room : HasRoom inodes blocks) (f
 abbrev pub new_inode : Octets
 new_inode = 1 ∷ replicate 63 0
 
-abbrev new_entry : Octets → Entry
+abbrev new_entry : Octets → FileEntry
 new_entry name = record { inode = new_inode; slot = slot_octets name; double = []; pointers = λ p. [] }
 
 new_kind : number_at 0 4 new_inode ≡ 1
@@ -160,7 +161,7 @@ module _ (inodes at : ℕ) (name : Octets) (a b c : List Octets) (room : HasRoom
       keeps_rule inodes a c fs puts.count
       (λ k low. elim (cases_eq k at) [
         | inl same ↦ inr (subst (λ (l : ℕ). IsFile (entry inodes c l)) (sym same) (subst IsFile (sym here) (new_is_file name is_name)))
-        | inr other ↦ subst (λ (e : Entry). IsFree e ⊎ IsFile e) (sym (others k low other)) (fs.each k low)
+        | inr other ↦ subst (λ (e : FileEntry). IsFree e ⊎ IsFile e) (sym (others k low other)) (fs.each k low)
       ])
       (λ k low. elim (cases_eq k at) [
         | inl same ↦
@@ -188,7 +189,7 @@ module _ (inodes at : ℕ) (name : Octets) (a b c : List Octets) (room : HasRoom
       let file = subst IsFile (sym here) (new_is_file name is_name) in
       file_at_file inodes c at file
       ∙ ap (λ (n : Octets). Some (record { name = n; content = content_of c (entry inodes c at) })) named_here
-      ∙ ap (λ (e : Entry). Some (record { name = name; content = content_of c e })) here
+      ∙ ap (λ (e : FileEntry). Some (record { name = name; content = content_of c e })) here
       ∙ ap (λ (n : ℕ). Some (record {
         name = name;
         content = take n (flat_map (λ i. get_or c (pointer (new_entry name) i) []) (range_with_len 0 ((n + 4095) / 4096)));

@@ -2,11 +2,11 @@
 use Rattle.std.proofs.Common.{◌≡◌, ◌≢◌, ◌⊎◌, ◌↔◌, inl, inr, ◌<◌, ◌≤◌, ℕ, ◌+◌, ◌-◌, ◌*◌, ◌/◌, cond, eqb, Bool, true, false, List, [], length}
 use Rattle.std.proofs.Common.{sym, ◌∙◌, ap, arith}
 use Rattle.std.proofs.lemmas.Bool.{cases_eq, cases_lt, eq-eqb, ne_eqb}
-use Rattle.model.specs.Files.{Entry, IsFile, IsFree, double_pointer, indirect_count, indirect_pointer, kind, size}
+use Rattle.model.specs.Files.{FileEntry, IsFile, IsFree, double_pointer, indirect_count, indirect_pointer, kind, size}
 use Rattle.model.proofs.Owning.{zero_number, free_kind}
 use Rattle.fs_check.specs.Checking.{CanRead, HasNumber, IsSlot, HasPointers, IsEntry, most_octets}
 
-module _ (first count : ℕ) (e : Entry) where
+module _ (first count : ℕ) (e : FileEntry) where
   pub entry_from_file : (most : ℕ) → most ≤ 268435456 → first ≢ 0 → kind e ≡ 1 → IsSlot e.slot → HasPointers most first count e
       → IsEntry first count e × (size e ≤ most)
   entry_from_file most few some is slot pointers = (
@@ -54,7 +54,8 @@ module _ (first count : ℕ) (e : Entry) where
   no_entry other another (inr file) = another file.0.kind_is
 
 -- the pointers of a file within a file system can be read
-pub can_read : (first count : ℕ) (e : Entry) → IsFile e → (double_pointer e ≢ 0 → (first ≤ double_pointer e) × (double_pointer e < count))
+pub can_read : (first count : ℕ) (e : FileEntry) → IsFile e → (double_pointer e ≢ 0
+    → (first ≤ double_pointer e) × (double_pointer e < count))
     → ((p : ℕ) → p < indirect_count e → (first ≤ indirect_pointer e p) × (indirect_pointer e p < count)) → CanRead first count e
 can_read first count e file double table = record {
   double = elim (cases_lt 1 (indirect_count e)) [
@@ -86,5 +87,5 @@ most_few format = by_test (eqb format 1) where
   by_test false = omega arith
 
 -- a free entry is small
-pub free_small : (most : ℕ) (e : Entry) → IsFree e → size e ≤ most
+pub free_small : (most : ℕ) (e : FileEntry) → IsFree e → size e ≤ most
 free_small most e free = let none = zero_number 4 8 e.inode free.inode_zeros in omega (arith, none)

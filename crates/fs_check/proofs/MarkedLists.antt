@@ -10,7 +10,7 @@ use Rattle.model.specs.Stream.{Octets}
 use Rattle.model.specs.Volume.{AreDistinct}
 use Rattle.volume.proofs.Index.{distinct_push}
 use Rattle.fs_layout.specs.Bits.{bit_of, SetsBit}
-use Rattle.fs_layout.proofs.Distinct.{distinct_apart, distinct_append, distinct_left, distinct_right}
+use Rattle.model.proofs.Distinct.{distinct_apart, distinct_append, distinct_left, distinct_right}
 use Rattle.fs_layout.proofs.Touching.{one_number}
 use Rattle.fs_check.specs.Checking.{CanMark, Marks}
 

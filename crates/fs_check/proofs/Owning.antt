@@ -5,12 +5,12 @@ use Rattle.std.specs.List.{Contains, range_with_len}
 use Rattle.std.proofs.lemmas.Bool.{cases_lt, false≢true, false_from_ne_true, ne_eqb, eq-eqb}
 use Rattle.model.specs.Stream.{Octets}
 use Rattle.model.specs.Volume.{number_at, AreDistinct}
-use Rattle.model.specs.Files.{Entry, size, double_pointer, indirect_count, indirect_pointer, owned, entry, first_data}
+use Rattle.model.specs.Files.{FileEntry, size, double_pointer, indirect_count, indirect_pointer, owned, entry, first_data}
 use Rattle.model.proofs.Owning.{zero_number}
 use Rattle.fs_layout.specs.Bits.{bit_of, SetsBit}
 use Rattle.fs_check.specs.Checking.{IsEntry, CanMark, HasNumber, Marks, HasOwners, IsUsedBelow, MarksUsed}
 
-pub entry_small : (first count : ℕ) (e : Entry) → IsEntry first count e → size e ≤ 268435456
+pub entry_small : (first count : ℕ) (e : FileEntry) → IsEntry first count e → size e ≤ 268435456
 entry_small first count e (inl free) = omega (arith, zero_number 4 8 e.inode free.inode_zeros)
 entry_small first count e (inr file) = omega (arith, file.0.small)
 
@@ -19,12 +19,12 @@ pub number_there : (first count place many n : ℕ) → 0 < first → HasNumber 
 number_there first count place many n some (inl there) low = ((λ none. absurd (omega (arith, some, none, there.1))), there.2)
 number_there first count place many n some (inr none) low = absurd (omega (arith, low, none.0))
 
-pub entry_double : (first count : ℕ) (e : Entry) → 0 < first → IsEntry first count e → 1 < indirect_count e
+pub entry_double : (first count : ℕ) (e : FileEntry) → 0 < first → IsEntry first count e → 1 < indirect_count e
     → (double_pointer e ≢ 0) × (double_pointer e < count)
 entry_double first count e some (inl free) more = let none = zero_number 4 8 e.inode free.inode_zeros in absurd (omega (arith, none, more))
 entry_double first count e some (inr file) more = number_there first count 1 (indirect_count e) (double_pointer e) some file.1.double more
 
-pub entry_table : (first count : ℕ) (e : Entry) → 0 < first → IsEntry first count e → (p : ℕ) → p < indirect_count e
+pub entry_table : (first count : ℕ) (e : FileEntry) → 0 < first → IsEntry first count e → (p : ℕ) → p < indirect_count e
     → (indirect_pointer e p ≢ 0) × (indirect_pointer e p < count)
 entry_table first count e some (inl free) p less = let none = zero_number 4 8 e.inode free.inode_zeros in absurd (omega (arith, none, less))
 entry_table first count e some (inr file) p less =

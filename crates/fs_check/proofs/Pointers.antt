@@ -7,7 +7,7 @@ use Rattle.std.proofs.lemmas.Bool.{le-ltb, ne_eqb}
 use Rattle.byteorder.specs.Endian.{little_from}
 use Rattle.model.specs.Stream.{Octets}
 use Rattle.model.specs.Volume.{number_at}
-use Rattle.model.specs.Files.{Entry, entry_of, indirect_of, indirect_pointer, pointer}
+use Rattle.model.specs.Files.{FileEntry, entry_of, indirect_of, indirect_pointer, pointer}
 use Rattle.model.proofs.Formats.{no_block}
 use Rattle.fs_check.specs.Checking.{HasNumber, HasTables}
 
@@ -24,7 +24,7 @@ past_number at n octets past = from 0 n
         omega (arith, first, rest)
 
 module _ (first tables : ℕ) (blocks : List Octets) (inode : Octets) (whole : All (λ b. length b ≡ 4096) blocks) (some : 0 < first) where
-  abbrev e : Entry
+  abbrev e : FileEntry
   e = entry_of blocks inode []
 
   long : HasNumber first (length blocks) 1 tables (number_at 56 4 inode) → length (indirect_of blocks (number_at 56 4 inode)) ≤ 4096

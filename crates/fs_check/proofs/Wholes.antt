@@ -3,7 +3,8 @@ use Rattle.std.proofs.Common.{◌≡◌, ◌≢◌, ◌<◌, ◌≤◌, ℕ, ◌
 use Rattle.std.specs.List.{range_with_len}
 use Rattle.model.specs.Stream.{Octets}
 use Rattle.model.specs.Volume.{number_at}
-use Rattle.model.specs.Files.{Entry, block_count, double_blocks, double_pointer, entry, entry_of, first_data, indirect_count, indirect_for}
+use Rattle.model.specs.Files.{FileEntry, block_count, double_blocks, double_pointer, entry, entry_of, first_data, indirect_count}
+use Rattle.model.specs.Files.{indirect_for}
 use Rattle.model.specs.Files.{indirect_pointer, inode_of, owned, pointer}
 use Rattle.fs_check.specs.Checking.{CanMark, IsEntry, Marks}
 use Rattle.fs_check.proofs.MarkedLists.{cannot_left, cannot_right, marks_append}
@@ -13,7 +14,7 @@ module _ (inodes at : ℕ) (blocks : List Octets) (inode : Octets) (is : inode �
     (has : IsEntry (first_data inodes) (length blocks) (entry inodes blocks at)) (count tables number : ℕ)
     (count_is : count ≡ (number_at 4 8 inode + 4095) / 4096) (tables_is : tables ≡ indirect_for count)
     (number_is : number ≡ number_at 56 4 inode) where
-  abbrev e : Entry
+  abbrev e : FileEntry
   e = entry inodes blocks at
 
   abbrev all : ℕ

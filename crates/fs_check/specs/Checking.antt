@@ -2,7 +2,8 @@
 use Rattle.std.specs.Prelude.{◌≡◌, ◌≢◌, ◌⊎◌, ◌<◌, ◌≤◌, ◌↔◌, ℕ, ◌==◌, if◌then◌else◌, false, List, length, Contains, IsTrue}
 use Rattle.model.specs.Stream.{Octets}
 use Rattle.model.specs.Volume.{number_at, AreDistinct}
-use Rattle.model.specs.Files.{Entry, IsFile, IsFree, size, block_count, double_pointer, indirect_count, indirect_pointer, pointer, owned}
+use Rattle.model.specs.Files.{FileEntry, IsFile, IsFree, size, block_count, double_pointer, indirect_count, indirect_pointer, pointer}
+use Rattle.model.specs.Files.{owned}
 use Rattle.model.specs.Files.{name_in, slot_octets, entry, slot_of, first_data}
 use Rattle.fs_layout.specs.Bits.{bit_of}
 
@@ -21,11 +22,11 @@ abbrev pub HasNumber : ℕ → ℕ → ℕ → ℕ → ℕ → Type 0
 HasNumber first count place many number = ((place < many) × (first ≤ number) × (number < count)) ⊎ ((many ≤ place) × (number ≡ 0))
 
 -- exactly this many blocks of pointers, all within the data
-abbrev pub HasTables : ℕ → ℕ → ℕ → Entry → Type 0
+abbrev pub HasTables : ℕ → ℕ → ℕ → FileEntry → Type 0
 HasTables first count tables e = (p : ℕ) → HasNumber first count p tables (indirect_pointer e p)
 
 -- the inode and the pointers of a file of at most `most` octets
-pub record HasPointers (most first count : ℕ) (e : Entry) : Type 0 where
+pub record HasPointers (most first count : ℕ) (e : FileEntry) : Type 0 where
   pub small : size e ≤ most
   pub spare : number_at 60 4 e.inode ≡ 0
   pub double : HasNumber first count 1 (indirect_count e) (double_pointer e)
@@ -33,12 +34,12 @@ pub record HasPointers (most first count : ℕ) (e : Entry) : Type 0 where
   pub no_other_pointer : (i : ℕ) → block_count e ≤ i → pointer e i ≡ 0
 
 -- the pointers of a file can be read
-pub record CanRead (first count : ℕ) (e : Entry) : Type 0 where
+pub record CanRead (first count : ℕ) (e : FileEntry) : Type 0 where
   pub double : HasNumber first count 1 (indirect_count e) (double_pointer e)
   pub tables : HasTables first count (indirect_count e) e
 
 -- a free entry, or that of a file whose pointers can be read
-abbrev pub IsEntry : ℕ → ℕ → Entry → Type 0
+abbrev pub IsEntry : ℕ → ℕ → FileEntry → Type 0
 IsEntry first count e = IsFree e ⊎ (IsFile e × CanRead first count e)
 
 abbrev pub HasEntry : ℕ → List Octets → ℕ → Type 0

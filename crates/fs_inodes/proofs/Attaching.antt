@@ -4,7 +4,8 @@ use Rattle.std.proofs.Common.{get_or, sym, ◌∙◌, ap, subst, arith, append_a
 use Rattle.std.proofs.lemmas.Bool.{cases_lt}
 use Rattle.model.specs.Stream.{Octets}
 use Rattle.model.specs.Volume.{number_at}
-use Rattle.model.specs.Files.{Entry, double_blocks, double_pointer, indirect_for, indirect_pointer, pointer, is_marked_used, free_blocks}
+use Rattle.model.specs.Files.{FileEntry, double_blocks, double_pointer, indirect_for, indirect_pointer, pointer, is_marked_used}
+use Rattle.model.specs.Files.{free_blocks}
 use Rattle.fs_inodes.specs.Growing.{AddsBlock, AddsTable, IsApart, IsTaken, NamesBlocks, PutsPointer, TakesBlocks, inode_entry, tables_to}
 use Rattle.fs_inodes.specs.Growing.{with_double, with_indirect}
 use Rattle.fs_layout.specs.Marks.{TakesBlock}
@@ -51,10 +52,10 @@ module _ (i number : ℕ) (inode : Octets) (old mid : List Octets) (few : length
     table_apart high = is_apart (indirect_for (i + 1)) (inode_entry then inode1) then table.names ((i - 10) / 1024) (omega (arith, high))
 
     module _ (inode2 : Octets) (new : List Octets) (puts : PutsPointer i number inode1 inode2 then new) where
-      abbrev e : Entry
+      abbrev e : FileEntry
       e = inode_entry old inode
 
-      abbrev f : Entry
+      abbrev f : FileEntry
       f = inode_entry new inode2
 
       double_is : number_at 56 4 inode2 ≡ number_at 56 4 inode1
@@ -95,23 +96,23 @@ module _ (i number : ℕ) (inode : Octets) (old mid : List Octets) (few : length
         whole = λ all. puts.whole (table.whole (first.sets.whole all));
         size = puts.size ∙ table.size;
         here = puts.here;
-        other = λ j apart. puts.other j apart ∙ table.same j ∙ ap (λ (e : Entry). pointer e j) mid_is;
+        other = λ j apart. puts.other j apart ∙ table.same j ∙ ap (λ (e : FileEntry). pointer e j) mid_is;
         head = λ a w before. puts.head a w before ∙ table.head a w (omega (arith, before));
         tail = λ a w behind. puts.tail a w (omega (arith, behind)) ∙ table.tail a w behind;
         names = names_same (indirect_for (i + 1)) (inode_entry then inode1) then table.names f new puts.indirect double_is from_then;
         double_stays = elim table.double_stays [ inl none ↦ inl none | inr stays ↦ inr (double_is ∙ stays) ];
         tables_stay = λ p. elim (table.tables_stay p) [
-          | inl none ↦ inl (sym (ap (λ (e : Entry). indirect_pointer e p) mid_is) ∙ none)
-          | inr stays ↦ inr (puts.indirect p ∙ stays ∙ ap (λ (e : Entry). indirect_pointer e p) mid_is)
+          | inl none ↦ inl (sym (ap (λ (e : FileEntry). indirect_pointer e p) mid_is) ∙ none)
+          | inr stays ↦ inr (puts.indirect p ∙ stays ∙ ap (λ (e : FileEntry). indirect_pointer e p) mid_is)
         ];
         doubles = table.doubles;
         doubles_are = ap (λ (m : ℕ). cond (eqb m 0) [] (m ∷ [])) double_is ∙ table.doubles_are
-            ∙ ap (λ (e : Entry). double_blocks e ++ table.doubles) mid_is;
+            ∙ ap (λ (e : FileEntry). double_blocks e ++ table.doubles) mid_is;
         tables = table.tables;
         tables_are =
             map_same_below (λ p. indirect_pointer f p) (λ p. indirect_pointer (inode_entry then inode1) p) 0 (indirect_for (i + 1))
             (λ p low. puts.indirect p)
-            ∙ table.tables_are ∙ ap (λ (e : Entry). tables_to e (indirect_for i) ++ table.tables) mid_is;
+            ∙ table.tables_are ∙ ap (λ (e : FileEntry). tables_to e (indirect_for i) ++ table.tables) mid_is;
         takes = subst (λ (l : List ℕ). TakesBlocks l old new) (append_assoc table.doubles table.tables (number ∷ [])) all_taken;
         fewer = fewer_new;
         blocks = λ b some apart second.

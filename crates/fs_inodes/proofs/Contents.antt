@@ -8,7 +8,7 @@ use Rattle.std.proofs.Math.Seq.{take-add}
 use Rattle.std.proofs.lemmas.List.FromFn.{get_or-range_with_len, get_or-map-range_with_len, length-range_with_len}
 use Rattle.model.specs.Stream.{Octets}
 use Rattle.model.specs.Volume.{block, blocks_from}
-use Rattle.model.specs.Files.{Entry, size, block_count, pointer, owned, content_of}
+use Rattle.model.specs.Files.{FileEntry, size, block_count, pointer, owned, content_of}
 use Rattle.model.proofs.Owning.{owns_pointer}
 use Rattle.model.proofs.Blocks.{get_or-blocks_from}
 use Rattle.volume.proofs.Octets.{blocks_from-flat_map}
@@ -21,7 +21,7 @@ part_of_front r n m octets fits =
     ∙ ap (λ (l : Octets). take n l) (drop-take r (m - r) octets)
     ∙ take-take n (m - r) (drop r octets) (omega arith)
 
-module _ (blocks : List Octets) (e : Entry) (whole : All (λ b. length b ≡ 4096) blocks) (within : (b : ℕ) → Contains (owned e) b
+module _ (blocks : List Octets) (e : FileEntry) (whole : All (λ b. length b ≡ 4096) blocks) (within : (b : ℕ) → Contains (owned e) b
     → b < length blocks) where
   abbrev blocks_of : Octets
   blocks_of = flat_map (λ i. get_or blocks (pointer e i) []) (range_with_len 0 (block_count e))

@@ -7,7 +7,7 @@ use Rattle.disk.specs.Image.{overwritten}
 use Rattle.volume_format.proofs.Numbers.{number_at_apart, number_at_written}
 use Rattle.model.specs.Stream.{Octets}
 use Rattle.model.specs.Volume.{number_at}
-use Rattle.model.specs.Files.{Entry, HasRoom, IsFile, size, block_count, pointer, owned, double_blocks, double_pointer, indirect_count}
+use Rattle.model.specs.Files.{FileEntry, HasRoom, IsFile, size, block_count, pointer, owned, double_blocks, double_pointer, indirect_count}
 use Rattle.model.specs.Files.{indirect_for, indirect_pointer, content_of, entry, entry_of, inode_of, slot_of, indirect_of, IsFileSystem}
 use Rattle.model.proofs.Owning.{owns_pointer}
 use Rattle.fs_layout.specs.Blocks.{PutsRecord}
@@ -24,13 +24,13 @@ module _ (inodes k end : ℕ) (old new : List Octets) (room : HasRoom inodes old
     (file : IsFile (entry inodes old k)) (shorter : end ≤ size (entry inodes old k))
     (same_count : (end + 4095) / 4096 ≡ block_count (entry inodes old k))
     (put : PutsRecord 2 k (overwritten 4 (little_bytes 8 end) (inode_of old k)) old new) where
-  abbrev e : Entry
+  abbrev e : FileEntry
   e = entry inodes old k
 
   abbrev inode : Octets
   inode = overwritten 4 (little_bytes 8 end) (inode_of old k)
 
-  abbrev cut : Entry
+  abbrev cut : FileEntry
   cut = entry_of old (overwritten 4 (little_bytes 8 end) (inode_of old k)) (slot_of inodes old k)
 
   wide : length (inode_of old k) ≡ 64
@@ -130,7 +130,7 @@ module _ (inodes k end : ℕ) (old new : List Octets) (room : HasRoom inodes old
       ap (λ (n : ℕ). take n (content_of old e)) (sym sized)
       ∙ content_front old new e cut room.blocks_whole inside whole inside_now (omega (arith, sized)) (λ i below.
       ap (λ (n : ℕ). get_or new n []) (same_pointer i) ∙ data_same (pointer e i) (owns_pointer e i (omega (arith, counted))))
-      ∙ ap (λ (f : Entry). content_of new f) (sym here)
+      ∙ ap (λ (f : FileEntry). content_of new f) (sym here)
 
   pub cuts_marks : SameMarks old new
   cuts_marks = record { count = put.count; marks = inode_keeps_marks inodes k inode old new room.whole low put }
@@ -147,6 +147,6 @@ module _ (inodes k end : ℕ) (old new : List Octets) (room : HasRoom inodes old
   pub cuts_touches : TouchesInode k ((end + 4095) / 4096) ((end + 4095) / 4096) old new
   cuts_touches = record {
     same = λ b some other named. put.blocks b other;
-    double = inl (ap (λ (g : Entry). double_pointer g) here ∙ same_double);
-    tables = λ p. inl (ap (λ (g : Entry). indirect_pointer g p) here ∙ same_table p);
+    double = inl (ap (λ (g : FileEntry). double_pointer g) here ∙ same_double);
+    tables = λ p. inl (ap (λ (g : FileEntry). indirect_pointer g p) here ∙ same_table p);
   }

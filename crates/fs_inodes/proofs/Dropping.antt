@@ -10,7 +10,7 @@ use Rattle.disk.specs.Image.{overwritten, part}
 use Rattle.volume_format.proofs.Numbers.{number_at_apart, number_at_written}
 use Rattle.model.specs.Stream.{Octets}
 use Rattle.model.specs.Volume.{number_at, AreDistinct}
-use Rattle.model.specs.Files.{Entry, HasRoom, IsFile, IsFileSystem, size, block_count, content_of, double_blocks, double_pointer, entry}
+use Rattle.model.specs.Files.{FileEntry, HasRoom, IsFile, IsFileSystem, size, block_count, content_of, double_blocks, double_pointer, entry}
 use Rattle.model.specs.Files.{entry_of, first_data, indirect_count, indirect_for, indirect_of, indirect_pointer, inode_of, is_marked_used}
 use Rattle.model.specs.Files.{owned, pointer, slot_of}
 use Rattle.model.proofs.Owning.{owns_pointer}
@@ -36,17 +36,17 @@ module _ (inodes k last number : ℕ) (inode1 : Octets) (old mid later new : Lis
     (counted : last + 1 ≡ block_count (entry inodes old k)) (number_is : number ≡ pointer (entry inodes old k) last)
     (drop : DropsPointer last (inode_of old k) inode1 old mid) (unmarks : SetsMark number false mid later)
     (put : PutsRecord 2 k (overwritten 4 (little_bytes 8 (4096 * last)) inode1) later new) where
-  abbrev e : Entry
+  abbrev e : FileEntry
   e = entry inodes old k
 
-  abbrev f : Entry
+  abbrev f : FileEntry
   f = inode_entry mid inode1
 
   abbrev inode : Octets
   inode = overwritten 4 (little_bytes 8 (4096 * last)) inode1
 
   -- the entry with its new size
-  abbrev after : Entry
+  abbrev after : FileEntry
   after = entry_of mid inode (slot_of inodes old k)
 
   wide : length inode1 ≡ 64
@@ -377,7 +377,7 @@ module _ (inodes k last number : ℕ) (inode1 : Octets) (old mid later new : Lis
       ∙ content_front old new e after room.blocks_whole (λ b has. (owned_within b has).1) whole
       (λ b has. omega (arith, (owned_within b (owned_still b (subst (λ (o : List ℕ). Contains o b) owned_after has))).1, puts.count))
       (omega (arith, sized, counted)) (λ i below. same_block i (omega (arith, below, count_after)))
-      ∙ ap (λ (g : Entry). content_of new g) (sym entry_is)
+      ∙ ap (λ (g : FileEntry). content_of new g) (sym entry_is)
 
   pub drops : ReplacesContent inodes k (take (4096 * last) (content_of old (entry inodes old k))) old new
   drops = replaces inodes k inode touched old new room fs low file puts untouched_others file_now
@@ -389,7 +389,7 @@ module _ (inodes k last number : ℕ) (inode1 : Octets) (old mid later new : Lis
   double_new = ap (λ (o : Octets). number_at 56 4 o) put.here ∙ same_double
 
   table_new : (p : ℕ) → table_of new k p ≡ indirect_pointer f p
-  table_new p = ap (λ (g : Entry). indirect_pointer g p) entry_is ∙ table_after p
+  table_new p = ap (λ (g : FileEntry). indirect_pointer g p) entry_is ∙ table_after p
 
   pub drops_touches : TouchesInode k last (last + 1) old new
   drops_touches = record {

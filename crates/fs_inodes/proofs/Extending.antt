@@ -8,7 +8,7 @@ use Rattle.std.proofs.lemmas.List.Concat.{flat_map-append}
 use Rattle.std.proofs.Math.Seq.{take-add}
 use Rattle.disk.specs.Image.{overwritten}
 use Rattle.model.specs.Stream.{Octets}
-use Rattle.model.specs.Files.{Entry, size, pointer, content_of}
+use Rattle.model.specs.Files.{FileEntry, size, pointer, content_of}
 use Rattle.volume.proofs.Octets.{blocks_from-flat_map}
 
 -- ---- contents
@@ -24,10 +24,11 @@ take_past xs ys n r long =
     ∙ ap (λ (l : Octets). xs ++ take r l) (drop_at xs ys n long)
 
 -- the octets of the first so many blocks
-abbrev pub blocks_octets : List Octets → Entry → ℕ → Octets
+abbrev pub blocks_octets : List Octets → FileEntry → ℕ → Octets
 blocks_octets blocks e n = flat_map (λ i. get_or blocks (pointer e i) []) (range_with_len 0 n)
 
-pub length-blocks_octets : (blocks : List Octets) (e : Entry) (n : ℕ) → ((i : ℕ) → i < n → length (get_or blocks (pointer e i) []) ≡ 4096)
+pub length-blocks_octets : (blocks : List Octets) (e : FileEntry) (n : ℕ) → ((i : ℕ) → i < n
+    → length (get_or blocks (pointer e i) []) ≡ 4096)
     → length (blocks_octets blocks e n) ≡ 4096 * n
 length-blocks_octets blocks e n whole =
     (blocks_from-flat_map (λ i. get_or blocks (pointer e i) []) (range_with_len 0 n) each).0
@@ -40,7 +41,7 @@ length-blocks_octets blocks e n whole =
         ap (λ (i : ℕ). length (get_or blocks (pointer e i) [])) (get_or-range_with_len 0 n k d inside ∙ none) ∙ whole k inside
 
 -- whole blocks, and the front of one more
-pub content_front : (blocks : List Octets) (e : Entry) (n r : ℕ) → size e ≡ 4096 * n + r → r ≤ 4096
+pub content_front : (blocks : List Octets) (e : FileEntry) (n r : ℕ) → size e ≡ 4096 * n + r → r ≤ 4096
     → ((i : ℕ) → i < n → length (get_or blocks (pointer e i) []) ≡ 4096)
     → content_of blocks e ≡ blocks_octets blocks e n ++ take r (get_or blocks (pointer e n) [])
 content_front blocks e n zero is few whole =

@@ -7,7 +7,7 @@ use Rattle.std.proofs.lemmas.Bool.{cases_lt, false≢true}
 use Rattle.disk.proofs.Images.{length-part}
 use Rattle.model.specs.Stream.{Octets}
 use Rattle.model.specs.Volume.{AreDistinct}
-use Rattle.model.specs.Files.{Entry, HasRoom, IsFile, size, block_count, double_blocks, indirect_for, pointer, owned, entry, inode_of}
+use Rattle.model.specs.Files.{FileEntry, HasRoom, IsFile, size, block_count, double_blocks, indirect_for, pointer, owned, entry, inode_of}
 use Rattle.model.specs.Files.{first_data, is_marked_used, free_blocks, IsFileSystem}
 use Rattle.fs_inodes.specs.Growing.{AddsBlock, NamesBlocks, inode_entry, tables_to, with_indirect}
 use Rattle.fs_layout.proofs.Distinct.{three_cases, three_distinct, three_new, three_were}
@@ -18,7 +18,7 @@ use Rattle.fs_inodes.proofs.Tables.{map_same_below}
 
 module _ (inodes k n : ℕ) (old : List Octets) (room : HasRoom inodes old) (fs : IsFileSystem inodes old) (low : k < inodes)
     (file : IsFile (entry inodes old k)) (few : n < 65536) where
-  abbrev e : Entry
+  abbrev e : FileEntry
   e = entry inodes old k
 
   inode_size : length (inode_of old k) ≡ 64
@@ -74,7 +74,7 @@ module _ (inodes k n : ℕ) (old : List Octets) (room : HasRoom inodes old) (fs 
     count_was : block_count (entry inodes old k) ≡ n
     count_was = omega arith
 
-    abbrev f : Entry
+    abbrev f : FileEntry
     f = inode_entry mid inode
 
     abbrev were : List ℕ

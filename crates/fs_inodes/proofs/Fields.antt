@@ -5,7 +5,7 @@ use Rattle.std.proofs.lemmas.List.{ext_get_or, get_or-take, length-take-le}
 use Rattle.std.proofs.lemmas.List.FromFn.{length-map-range_with_len, get_or-map-range_with_len}
 use Rattle.disk.proofs.Images.{length-part}
 use Rattle.model.specs.Stream.{Octets}
-use Rattle.model.specs.Files.{Entry, HasRoom, size, block_count, pointer, owned, content_of, inode_of}
+use Rattle.model.specs.Files.{FileEntry, HasRoom, size, block_count, pointer, owned, content_of, inode_of}
 use Rattle.model.proofs.Owning.{content_size}
 use Rattle.fs_inodes.proofs.Places.{get_or-content}
 
@@ -24,7 +24,7 @@ map_same f g n m is same =
     ∙ sym (get_or-map-range_with_len g 0 m i i 0 (omega arith) (omega arith)))
 
 -- a prefix of the same blocks
-pub content_front : (old new : List Octets) (e f : Entry) → All (λ b. length b ≡ 4096) old
+pub content_front : (old new : List Octets) (e f : FileEntry) → All (λ b. length b ≡ 4096) old
     → ((b : ℕ) → Contains (owned e) b → b < length old) → All (λ b. length b ≡ 4096) new → ((b : ℕ) → Contains (owned f) b → b < length new)
     → size f ≤ size e → ((i : ℕ) → i < block_count f → get_or new (pointer f i) [] ≡ get_or old (pointer e i) [])
     → take (size f) (content_of old e) ≡ content_of new f

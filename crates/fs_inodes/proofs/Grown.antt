@@ -14,20 +14,16 @@ use Rattle.model.proofs.Owning.{content_size}
 use Rattle.fs_layout.specs.Touches.{TouchesData, double_of, table_of}
 use Rattle.fs_inodes.proofs.Named.{file_names}
 use Rattle.fs_inodes.proofs.Sizes.{blocks_for_le}
-use Rattle.fs_layout.proofs.Tables.{get_or-table, file_at_file, named_from_there}
-
-abbrev the_file : Option File → File
-the_file None = record { name = []; content = [] }
-the_file (Some f) = f
+use Rattle.fs_layout.proofs.Tables.{get_or-table, file_at_file, file_or, named_from_there}
 
 -- an inode has one file
 pub one_name : (files : List (Option File)) (k : ℕ) (name name' content content' : Octets) → IsFileAt files k name content
     → IsFileAt files k name' content' → name ≡ name'
-one_name files k name name' content content' first second = ap (λ (o : Option File). (the_file o).name) (sym first ∙ second)
+one_name files k name name' content content' first second = ap (λ (o : Option File). (file_or o).name) (sym first ∙ second)
 
 pub one_content : (files : List (Option File)) (k : ℕ) (name name' content content' : Octets) → IsFileAt files k name content
     → IsFileAt files k name' content' → content ≡ content'
-one_content files k name name' content content' first second = ap (λ (o : Option File). (the_file o).content) (sym first ∙ second)
+one_content files k name name' content content' first second = ap (λ (o : Option File). (file_or o).content) (sym first ∙ second)
 
 pub below_table : (files : List (Option File)) (k : ℕ) (name content : Octets) → IsFileAt files k name content → k < length files
 below_table files k name content is = elim (cases_lt k (length files)) [

@@ -13,7 +13,7 @@ use Rattle.disk.proofs.Images.{length-overwritten}
 use Rattle.volume_format.proofs.Numbers.{number_at_apart, number_at_written}
 use Rattle.model.specs.Stream.{Octets}
 use Rattle.model.specs.Volume.{number_at, AreDistinct}
-use Rattle.model.specs.Files.{Entry, HasRoom, IsFile, kind, size, block_count, double_blocks, double_pointer, entry_of, indirect_count}
+use Rattle.model.specs.Files.{FileEntry, HasRoom, IsFile, kind, size, block_count, double_blocks, double_pointer, entry_of, indirect_count}
 use Rattle.model.specs.Files.{indirect_for, indirect_pointer, pointer, owned, name_in, content_of, entry, inode_of, slot_of, indirect_of}
 use Rattle.model.specs.Files.{first_data, is_marked_used, free_blocks, IsFileSystem, file_at}
 use Rattle.model.specs.Room.{content_blocks}
@@ -32,8 +32,8 @@ use Rattle.fs_layout.proofs.Marking.{same_free}
 use Rattle.fs_inodes.proofs.Owners.{Reowns, contained, names_kept, reowned_makes}
 use Rattle.fs_layout.proofs.Tables.{get_or-table, file_at_file}
 
--- Entry f has block `number` as its n-th, and may own more blocks than e: these fresh ones. No octets of data changed.
-pub record Extends (first n number : ℕ) (e f : Entry) (old mid : List Octets) : Type 0 where
+-- FileEntry f has block `number` as its n-th, and may own more blocks than e: these fresh ones. No octets of data changed.
+pub record Extends (first n number : ℕ) (e f : FileEntry) (old mid : List Octets) : Type 0 where
   pub count : length mid ≡ length old
   pub whole : All (λ b. length b ≡ 4096) mid
   pub inode_size : length f.inode ≡ 64
@@ -65,17 +65,17 @@ module _ (inodes k n r number : ℕ) (piece block inode : Octets) (old mid new :
     (front : take r block ≡ take r (get_or old (pointer (entry inodes old k) n) []))
     (put : PutsRecord 2 k (overwritten 4 (little_bytes 8 (size (entry inodes old k) + length piece)) inode)
     (set mid number (overwritten r piece block)) new) where
-  e : Entry
+  e : FileEntry
   e = entry inodes old k
 
   abbrev inode_after : Octets
   inode_after = overwritten 4 (little_bytes 8 (size (entry inodes old k) + length piece)) inode
 
-  abbrev f : Entry
+  abbrev f : FileEntry
   f = inode_entry mid inode
 
   -- the entry with its new size
-  abbrev after : Entry
+  abbrev after : FileEntry
   after = entry_of mid inode_after (slot_of inodes old k)
 
   n_few : n < 65536
@@ -377,7 +377,7 @@ module _ (inodes k n r number : ℕ) (piece block inode : Octets) (old mid new :
       file_at_file inodes new k (subst IsFile (sym entry_is) is_file)
       ∙ ap (λ (s : Octets). Some (record { name = name_in s; content = content_of new (entry inodes new k) })) (slot_same k low)
       ∙ ap (λ (c : Octets). Some (record { name = name_in (slot_of inodes old k); content = c }))
-      (ap (λ (g : Entry). content_of new g) entry_is ∙ content_after)
+      (ap (λ (g : FileEntry). content_of new g) entry_is ∙ content_after)
 
   free_is : free_blocks new + blocks_for (size (entry inodes old k) + length piece) ≡ free_blocks old + blocks_for
       (size (entry inodes old k))
@@ -418,7 +418,7 @@ module _ (inodes k n r number : ℕ) (piece block inode : Octets) (old mid new :
   double_new = ap (λ (o : Octets). number_at 56 4 o) put.here ∙ same_double
 
   table_new : (p : ℕ) → table_of new k p ≡ indirect_pointer f p
-  table_new p = ap (λ (g : Entry). indirect_pointer g p) entry_is ∙ table_after p
+  table_new p = ap (λ (g : FileEntry). indirect_pointer g p) entry_is ∙ table_after p
 
   pub touches : TouchesData k (number ∷ []) (content_blocks (size (entry inodes old k)))
       (content_blocks (size (entry inodes old k) + length piece)) old new

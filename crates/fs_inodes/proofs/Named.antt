@@ -3,7 +3,7 @@ use Rattle.std.proofs.Common.{◌≡◌, ◌≢◌, inl, inr, ◌<◌, ◌≤◌
 use Rattle.std.specs.List.{Contains}
 use Rattle.std.proofs.lemmas.Bool.{cases_eq, cases_lt, cases_order}
 use Rattle.model.specs.Stream.{Octets}
-use Rattle.model.specs.Files.{Entry, HasRoom, IsFile, IsFileSystem, block_count, double_pointer, entry, first_data, indirect_count}
+use Rattle.model.specs.Files.{FileEntry, HasRoom, IsFile, IsFileSystem, block_count, double_pointer, entry, first_data, indirect_count}
 use Rattle.model.specs.Files.{indirect_for, indirect_pointer, inode_of, is_marked_used, owned}
 use Rattle.fs_layout.specs.Blocks.{IsThere}
 use Rattle.fs_inodes.specs.Growing.{IsTaken, NamesBlocks, inode_entry}
@@ -11,7 +11,7 @@ use Rattle.fs_layout.proofs.Entries.{owns_double, owns_indirect}
 use Rattle.fs_inodes.proofs.Owned.{double_not_table, tables_differ}
 
 module _ (inodes k : ℕ) (old : List Octets) (room : HasRoom inodes old) (fs : IsFileSystem inodes old) (low : k < inodes) where
-  abbrev e : Entry
+  abbrev e : FileEntry
   e = entry inodes old k
 
   pub owned_marked : (b : ℕ) → Contains (owned (entry inodes old k)) b → is_marked_used old b ≡ true

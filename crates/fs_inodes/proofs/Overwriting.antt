@@ -9,7 +9,8 @@ use Rattle.disk.specs.Image.{part, overwritten}
 use Rattle.disk.proofs.Images.{length-overwritten, overwritten_below, overwritten_inside, overwritten_above}
 use Rattle.model.specs.Stream.{Octets}
 use Rattle.model.specs.Volume.{number_at}
-use Rattle.model.specs.Files.{Entry, HasRoom, IsFile, size, block_count, double_pointer, indirect_count, indirect_pointer, pointer, owned}
+use Rattle.model.specs.Files.{FileEntry, HasRoom, IsFile, size, block_count, double_pointer, indirect_count, indirect_pointer, pointer}
+use Rattle.model.specs.Files.{owned}
 use Rattle.model.specs.Files.{content_of, entry, inode_of, slot_of, indirect_of, first_data, IsFileSystem}
 use Rattle.model.proofs.Owning.{content_size, owns_pointer}
 use Rattle.fs_inodes.specs.Changes.{ReplacesContent, SameMarks}
@@ -48,7 +49,7 @@ module _ (inodes k n : ℕ) (octets : Octets) (old : List Octets) (whole : inode
 module _ (inodes k : ℕ) (place : ℕ) (octets : Octets) (old : List Octets) (room : HasRoom inodes old) (fs : IsFileSystem inodes old)
     (low : k < inodes) (file : IsFile (entry inodes old k)) (some : 0 < length octets)
     (fits : place + length octets ≤ size (entry inodes old k)) (one_block : place % 4096 + length octets ≤ 4096) where
-  abbrev e : Entry
+  abbrev e : FileEntry
   e = entry inodes old k
 
   abbrev number : ℕ
@@ -181,7 +182,7 @@ module _ (inodes k : ℕ) (place : ℕ) (octets : Octets) (old : List Octets) (r
         | inl same ↦ in_this j small same ∙ sym (get_or-content new e whole inside_new j small)
         | inr other ↦ in_other j small other ∙ sym (get_or-content new e whole inside_new j small)
       ])
-      ∙ ap (λ (f : Entry). content_of new f) (sym same_here)
+      ∙ ap (λ (f : FileEntry). content_of new f) (sym same_here)
 
   pub overwrites : ReplacesContent inodes k (overwritten place octets (content_of old e)) old new
   overwrites =

@@ -6,9 +6,9 @@ use Rattle.std.proofs.lemmas.List.Elements.{Contains-append_cases, Contains-appe
 use Rattle.std.proofs.lemmas.List.FromFn.{length-map-range_with_len, get_or-map-range_with_len}
 use Rattle.std.proofs.lemmas.Bool.{cases_eq, eq-eqb, ne_eqb, lt-ltb, le-ltb}
 use Rattle.model.specs.Volume.{number_at, AreDistinct}
-use Rattle.model.specs.Files.{Entry, block_count, double_blocks, double_pointer, indirect_for, indirect_pointer, pointer, owned}
+use Rattle.model.specs.Files.{FileEntry, block_count, double_blocks, double_pointer, indirect_for, indirect_pointer, pointer, owned}
 use Rattle.fs_inodes.specs.Growing.{tables_to}
-use Rattle.fs_layout.proofs.Distinct.{distinct_append, distinct_apart, distinct_left, distinct_none, distinct_one, distinct_right}
+use Rattle.model.proofs.Distinct.{distinct_append, distinct_apart, distinct_left, distinct_none, distinct_one, distinct_right}
 use Rattle.fs_layout.proofs.Entries.{in_range}
 
 -- ---- numbers of a range
@@ -33,10 +33,10 @@ module _ (f : ℕ → ℕ) (n : ℕ) where
 
 -- ---- what an entry owns if its octets take this many blocks
 
-abbrev pub owned_to : Entry → ℕ → List ℕ
+abbrev pub owned_to : FileEntry → ℕ → List ℕ
 owned_to e count = double_blocks e ++ (tables_to e (indirect_for count) ++ map (λ i. pointer e i) (range_with_len 0 count))
 
-module _ (e : Entry) (count : ℕ) where
+module _ (e : FileEntry) (count : ℕ) where
   abbrev pointers : List ℕ
   pointers = map (λ i. pointer e i) (range_with_len 0 count)
 

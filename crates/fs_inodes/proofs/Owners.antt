@@ -5,7 +5,7 @@ use Rattle.std.specs.List.{All, Contains}
 use Rattle.std.proofs.lemmas.Bool.{cases_eq, false≢true}
 use Rattle.model.specs.Stream.{Octets}
 use Rattle.model.specs.Volume.{AreDistinct}
-use Rattle.model.specs.Files.{Entry, File, HasRoom, IsFile, IsFree, owned, name_in, entry, slot_of, first_data, is_marked_used, IsUsed}
+use Rattle.model.specs.Files.{FileEntry, File, HasRoom, IsFile, IsFree, owned, name_in, entry, slot_of, first_data, is_marked_used, IsUsed}
 use Rattle.model.specs.Files.{IsFileSystem, file_at, table}
 use Rattle.model.proofs.Owning.{free_kind}
 use Rattle.fs_layout.specs.Table.{Makes}
@@ -27,7 +27,7 @@ contained (y ∷ xs) x = elim (cases_eq y x) [
   ]
 ]
 
--- Entry k owns other blocks than before, and the marks say so. Each that is new to it had no mark. What it no longer
+-- FileEntry k owns other blocks than before, and the marks say so. Each that is new to it had no mark. What it no longer
 -- owns has none, and no block of another entry is touched.
 pub record Reowns (inodes k : ℕ) (touched : ℕ → Type 0) (old new : List Octets) : Type 0 where
   pub here : IsFree (entry inodes new k) ⊎ IsFile (entry inodes new k)
@@ -53,10 +53,10 @@ module _ (inodes k : ℕ) (inode slot : Octets) (touched : ℕ → Type 0) (old 
 
   -- what another entry owns, it owned
   was_owned : (l b : ℕ) → l < inodes → l ≢ k → Contains (owned (entry inodes new l)) b → Contains (owned (entry inodes old l)) b
-  was_owned l b below other = subst (λ (e : Entry). Contains (owned e) b) (others l below other)
+  was_owned l b below other = subst (λ (e : FileEntry). Contains (owned e) b) (others l below other)
 
   still_owned : (l b : ℕ) → l < inodes → l ≢ k → Contains (owned (entry inodes old l)) b → Contains (owned (entry inodes new l)) b
-  still_owned l b below other = subst (λ (e : Entry). Contains (owned e) b) (sym (others l below other))
+  still_owned l b below other = subst (λ (e : FileEntry). Contains (owned e) b) (sym (others l below other))
 
   -- a mark in the old blocks
   was_marked : (b : ℕ) → b < 65536 → IsUsed inodes old b → is_marked_used old b ≡ true
@@ -127,7 +127,7 @@ module _ (inodes k : ℕ) (inode slot : Octets) (touched : ℕ → Type 0) (old 
     reowned_rule names = record {
       each = λ l below. elim (cases_eq l k) [
         | inl is ↦ subst (λ (n : ℕ). IsFree (entry inodes new n) ⊎ IsFile (entry inodes new n)) (sym is) owns.here
-        | inr other ↦ subst (λ (e : Entry). IsFree e ⊎ IsFile e) (sym (others l below other)) (fs.each l below)
+        | inr other ↦ subst (λ (e : FileEntry). IsFree e ⊎ IsFile e) (sym (others l below other)) (fs.each l below)
       ];
       within = λ l b below has. elim (cases_eq l k) [
         | inl is ↦ let inside = owns.within b (subst (λ (n : ℕ). Contains (owned (entry inodes new n)) b) is has) in
@@ -136,7 +136,7 @@ module _ (inodes k : ℕ) (inode slot : Octets) (touched : ℕ → Type 0) (old 
       ];
       distinct = λ l below. elim (cases_eq l k) [
         | inl is ↦ subst (λ (n : ℕ). AreDistinct (owned (entry inodes new n))) (sym is) owns.distinct
-        | inr other ↦ subst (λ (e : Entry). AreDistinct (owned e)) (sym (others l below other)) (fs.distinct l below)
+        | inr other ↦ subst (λ (e : FileEntry). AreDistinct (owned e)) (sym (others l below other)) (fs.distinct l below)
       ];
       one_owner = one_owner;
       bits = λ b small. (used_if_marked b small, marked_if_used b small);

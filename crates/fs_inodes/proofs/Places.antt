@@ -8,7 +8,7 @@ use Rattle.std.proofs.lemmas.Bool.{ne_eqb}
 use Rattle.disk.specs.Image.{part}
 use Rattle.disk.proofs.Images.{get_or-part}
 use Rattle.model.specs.Stream.{Octets}
-use Rattle.model.specs.Files.{Entry, size, block_count, pointer, owned, indirect_pointer, indirect_blocks, content_of}
+use Rattle.model.specs.Files.{FileEntry, size, block_count, pointer, owned, indirect_pointer, indirect_blocks, content_of}
 use Rattle.fs_inodes.proofs.Contents.{content_part}
 
 -- the first octet of a part
@@ -17,7 +17,7 @@ first_of at octets =
     let none : at + 0 ≡ at = omega arith in
     get_or-part at 1 octets 0 0 (omega arith) ∙ ap (λ (n : ℕ). get_or octets n 0) none
 
-module _ (blocks : List Octets) (e : Entry) (whole : All (λ b. length b ≡ 4096) blocks) (within : (b : ℕ) → Contains (owned e) b
+module _ (blocks : List Octets) (e : FileEntry) (whole : All (λ b. length b ≡ 4096) blocks) (within : (b : ℕ) → Contains (owned e) b
     → b < length blocks) where
   pub get_or-content : (k : ℕ) → k < size e
       → get_or (content_of blocks e) k 0 ≡ get_or (get_or blocks (pointer e (k / 4096)) []) (k % 4096) 0

@@ -11,7 +11,7 @@ use Rattle.disk.proofs.Images.{length-overwritten}
 use Rattle.volume_format.proofs.Numbers.{number_at_apart, number_at_written}
 use Rattle.model.specs.Stream.{Octets}
 use Rattle.model.specs.Volume.{number_at}
-use Rattle.model.specs.Files.{Entry, double_pointer, indirect_of, indirect_pointer, pointer}
+use Rattle.model.specs.Files.{FileEntry, double_pointer, indirect_of, indirect_pointer, pointer}
 use Rattle.fs_inodes.specs.Growing.{IsApart, PutsIndirect, PutsPointer, inode_entry}
 use Rattle.fs_layout.proofs.Keeps.{indirect_same}
 

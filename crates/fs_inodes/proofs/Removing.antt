@@ -5,7 +5,7 @@ use Rattle.std.specs.List.{All, Contains, range_with_len}
 use Rattle.std.proofs.lemmas.List.Elements.{All-replicate}
 use Rattle.std.proofs.lemmas.Bool.{cases_eq}
 use Rattle.model.specs.Stream.{Octets}
-use Rattle.model.specs.Files.{Entry, HasRoom, IsFile, IsFree, size, block_count, owned, double_pointer, entry, IsFileSystem, table}
+use Rattle.model.specs.Files.{FileEntry, HasRoom, IsFile, IsFree, size, block_count, owned, double_pointer, entry, IsFileSystem, table}
 use Rattle.model.proofs.Owning.{free_owns}
 use Rattle.fs_layout.specs.Blocks.{PutsRecord}
 use Rattle.fs_layout.specs.Table.{Makes}
@@ -14,7 +14,7 @@ use Rattle.fs_layout.proofs.Keeps.{PutsEntry, puts_inode, puts_slot, inode_keeps
 use Rattle.fs_inodes.proofs.Owned.{owned_to}
 use Rattle.fs_inodes.proofs.Owners.{Reowns, names_left, reowned_makes}
 
-empty_owns : (e : Entry) → IsFile e → size e ≡ 0 → owned e ≡ []
+empty_owns : (e : FileEntry) → IsFile e → size e ≡ 0 → owned e ≡ []
 empty_owns e file empty =
     ap (λ (n : ℕ). owned_to e ((n + 4095) / 4096)) empty
     ∙ ap (λ (l : List ℕ). l ++ []) (elim (cases_eq (double_pointer e) 0) [

@@ -5,7 +5,8 @@ use Rattle.std.specs.List.{All, Contains}
 use Rattle.std.proofs.lemmas.List.{set-set, get_or-set_same}
 use Rattle.std.proofs.lemmas.Bool.{cases_eq}
 use Rattle.model.specs.Stream.{Octets}
-use Rattle.model.specs.Files.{Entry, File, HasRoom, IsFile, IsFree, size, owned, name_in, content_of, entry, slot_of, IsFileSystem, table}
+use Rattle.model.specs.Files.{FileEntry, File, HasRoom, IsFile, IsFree, size, owned, name_in, content_of, entry, slot_of, IsFileSystem}
+use Rattle.model.specs.Files.{table}
 use Rattle.model.proofs.Owning.{content_size}
 use Rattle.fs_layout.specs.Table.{IsFileAt}
 use Rattle.fs_inodes.specs.Changes.{ReplacesContent, SameMarks}
@@ -22,7 +23,7 @@ module _ (inodes k : ℕ) (inode : Octets) (touched : ℕ → Type 0) (old new :
   pub each_keeps : (l : ℕ) → l < inodes → IsFree (entry inodes new l) ⊎ IsFile (entry inodes new l)
   each_keeps l below = elim (cases_eq l k) [
     | inl same ↦ inr (subst (λ (m : ℕ). IsFile (entry inodes new m)) (sym same) file')
-    | inr other ↦ subst (λ (e : Entry). IsFree e ⊎ IsFile e) (sym (others l below other)) (fs.each l below)
+    | inr other ↦ subst (λ (e : FileEntry). IsFree e ⊎ IsFile e) (sym (others l below other)) (fs.each l below)
   ]
 
   was_file : (l : ℕ) → l < inodes → IsFile (entry inodes new l) → IsFile (entry inodes old l)

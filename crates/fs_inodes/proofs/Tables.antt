@@ -13,7 +13,8 @@ use Rattle.disk.proofs.Images.{length-overwritten}
 use Rattle.volume_format.proofs.Numbers.{number_at_apart, number_at_written}
 use Rattle.model.specs.Stream.{Octets}
 use Rattle.model.specs.Volume.{number_at}
-use Rattle.model.specs.Files.{Entry, double_blocks, double_pointer, indirect_for, indirect_of, indirect_pointer, pointer, is_marked_used}
+use Rattle.model.specs.Files.{FileEntry, double_blocks, double_pointer, indirect_for, indirect_of, indirect_pointer, pointer}
+use Rattle.model.specs.Files.{is_marked_used}
 use Rattle.model.specs.Files.{free_blocks}
 use Rattle.model.proofs.Owning.{zero_number}
 use Rattle.model.proofs.Formats.{none_number, no_block}
@@ -37,7 +38,7 @@ block_of blocks n some = ap (λ (t : Bool). cond t [] (get_or blocks n [])) (ne_
 
 -- ---- what is named
 
-module _ (tables : ℕ) (e : Entry) (blocks : List Octets) (names : NamesBlocks tables e blocks) where
+module _ (tables : ℕ) (e : FileEntry) (blocks : List Octets) (names : NamesBlocks tables e blocks) where
   pub double_taken : double_pointer e ≢ 0 → IsTaken blocks (double_pointer e)
   double_taken some = elim (cases_lt 1 tables) [ inl more ↦ names.double more | inr less ↦ absurd (some (names.no_double less)) ]
 
@@ -45,7 +46,7 @@ module _ (tables : ℕ) (e : Entry) (blocks : List Octets) (names : NamesBlocks 
   table_taken p some = elim (cases_lt p tables) [ inl low ↦ names.there p low | inr high ↦ absurd (some (names.none p high)) ]
 
   -- another entry that names the same
-  pub names_same : (f : Entry) (new : List Octets) → ((p : ℕ) → indirect_pointer f p ≡ indirect_pointer e p)
+  pub names_same : (f : FileEntry) (new : List Octets) → ((p : ℕ) → indirect_pointer f p ≡ indirect_pointer e p)
       → double_pointer f ≡ double_pointer e → ((b : ℕ) → IsTaken blocks b → IsTaken new b) → NamesBlocks tables f new
   names_same f new same same_double keep = record {
     there = λ p low. subst (IsTaken new) (sym (same p)) (keep (indirect_pointer e p) (names.there p low));
@@ -79,7 +80,7 @@ pub names_stay : (tables : ℕ) (inode : Octets) (old mid : List Octets) → Nam
     → NamesBlocks tables (inode_entry mid inode) mid
 names_stay tables inode old mid names same keep =
     names_same tables (inode_entry old inode) old names (inode_entry mid inode) mid
-    (λ p. ap (λ (e : Entry). indirect_pointer e p) (entry_stays tables inode old mid names same)) refl keep
+    (λ p. ap (λ (e : FileEntry). indirect_pointer e p) (entry_stays tables inode old mid names same)) refl keep
 
 -- a block that the inode does not name gets zeros
 module _ (tables number : ℕ) (inode : Octets) (old mid : List Octets) (few : length old ≤ 65536)
@@ -216,7 +217,7 @@ module _ (i p table : ℕ) (inode inode1 : Octets) (old mid then : List Octets) 
   to_then = taken_still double.doubles mid then few_mid double.count double.takes
 
   then_number : (q : ℕ) → indirect_pointer (inode_entry then inode1) q ≡ indirect_pointer (inode_entry old inode) q
-  then_number q = double.same q ∙ ap (λ (e : Entry). indirect_pointer e q) mid_is
+  then_number q = double.same q ∙ ap (λ (e : FileEntry). indirect_pointer e q) mid_is
 
   -- a block taken before is not the double-indirect block, if that is new
   not_double : (b : ℕ) → IsTaken mid b → p ≡ 1 → double.doubles ≡ number_at 56 4 inode1 ∷ [] → b ≢ number_at 56 4 inode1
@@ -259,10 +260,10 @@ module _ (i p table : ℕ) (inode inode1 : Octets) (old mid then : List Octets) 
   ]
 
   module _ (inode2 : Octets) (new : List Octets) (puts : PutsIndirect p table inode1 inode2 then new) where
-    abbrev e : Entry
+    abbrev e : FileEntry
     e = inode_entry old inode
 
-    abbrev f : Entry
+    abbrev f : FileEntry
     f = inode_entry new inode2
 
     double_is : number_at 56 4 inode2 ≡ number_at 56 4 inode1
@@ -272,7 +273,7 @@ module _ (i p table : ℕ) (inode inode1 : Octets) (old mid then : List Octets) 
     same_number q other = puts.other q other ∙ then_number q
 
     same_octets : (q : ℕ) → q ≢ p → f.pointers q ≡ e.pointers q
-    same_octets q other = puts.octets q other ∙ double.octets q ∙ ap (λ (e : Entry). e.pointers q) mid_is
+    same_octets q other = puts.octets q other ∙ double.octets q ∙ ap (λ (e : FileEntry). e.pointers q) mid_is
 
     table_octets : indirect_of new (indirect_pointer f p) ≡ replicate 4096 0
     table_octets =

@@ -11,7 +11,7 @@ use Rattle.fs_inodes.specs.Growing.{IsTaken, TakesBlocks, TakesZeros}
 use Rattle.fs_layout.specs.Marks.{NoneFreeBelow, TakesBlock}
 use Rattle.fs_layout.proofs.Keeps.{marks_same}
 use Rattle.fs_layout.proofs.Marking.{one_less_free, same_free}
-use Rattle.fs_layout.proofs.Distinct.{distinct_append, distinct_none, distinct_one}
+use Rattle.model.proofs.Distinct.{distinct_append, distinct_none, distinct_one}
 use Rattle.fs_layout.proofs.Touching.{one_number}
 use Rattle.fs_inodes.proofs.Owners.{contained}
 

@@ -12,7 +12,7 @@ use Rattle.disk.proofs.Images.{length-overwritten}
 use Rattle.volume_format.proofs.Numbers.{number_at_apart, number_at_written}
 use Rattle.model.specs.Stream.{Octets}
 use Rattle.model.specs.Volume.{number_at}
-use Rattle.model.specs.Files.{Entry, double_blocks, indirect_for, indirect_of, indirect_pointer, pointer, is_marked_used}
+use Rattle.model.specs.Files.{FileEntry, double_blocks, indirect_for, indirect_of, indirect_pointer, pointer, is_marked_used}
 use Rattle.model.proofs.Formats.{none_number, no_block}
 use Rattle.fs_inodes.specs.Growing.{IsTaken, NamesBlocks, PutsIndirect, PutsPointer, inode_entry, tables_to}
 use Rattle.fs_inodes.specs.Shrinking.{DropsPointer, DropsTable, GivesUp}
@@ -28,7 +28,7 @@ use Rattle.fs_inodes.proofs.Tables.{entry_stays, map_same_below, table_taken}
 module _ (p : ℕ) (inode : Octets) (old mid : List Octets) (few : length old ≤ 65536) (size : length inode ≡ 64)
     (names : NamesBlocks (p + 1) (inode_entry old inode) old)
     (first : SetsMark (indirect_pointer (inode_entry old inode) p) false old mid) where
-  abbrev e : Entry
+  abbrev e : FileEntry
   e = inode_entry old inode
 
   mid_is : inode_entry mid inode ≡ inode_entry old inode
@@ -48,7 +48,7 @@ module _ (p : ℕ) (inode : Octets) (old mid : List Octets) (few : length old �
   ]
     where
       is : indirect_pointer (inode_entry mid inode) q ≡ indirect_pointer (inode_entry old inode) q
-      is = ap (λ (e : Entry). indirect_pointer e q) mid_is
+      is = ap (λ (e : FileEntry). indirect_pointer e q) mid_is
 
   -- the double-indirect block is not dropped
   module _ (inode' : Octets) (new : List Octets) (not_one : p ≢ 1) (puts : PutsIndirect p 0 inode inode' mid new) where
@@ -63,8 +63,8 @@ module _ (p : ℕ) (inode : Octets) (old mid : List Octets) (few : length old �
       head = puts.head;
       tail = λ a w behind. puts.tail a w (omega (arith, behind));
       here = puts.here;
-      other = λ q other. puts.other q other ∙ ap (λ (e : Entry). indirect_pointer e q) mid_is;
-      octets = λ q other. puts.octets q other ∙ ap (λ (e : Entry). e.pointers q) mid_is;
+      other = λ q other. puts.other q other ∙ ap (λ (e : FileEntry). indirect_pointer e q) mid_is;
+      octets = λ q other. puts.octets q other ∙ ap (λ (e : FileEntry). e.pointers q) mid_is;
       doubles = [];
       double = inl (not_one, refl, puts.tail 56 4 (omega arith));
       gives_up = record {
@@ -81,7 +81,7 @@ module _ (p : ℕ) (inode : Octets) (old mid : List Octets) (few : length old �
     abbrev without : Octets
     without = overwritten 56 (little_bytes 4 0) inode
 
-    abbrev f : Entry
+    abbrev f : FileEntry
     f = inode_entry then without
 
     zeroed : number_at 56 4 without ≡ 0
@@ -139,10 +139,10 @@ module _ (p : ℕ) (inode : Octets) (old mid : List Octets) (few : length old �
 
 module _ (i : ℕ) (inode inode' : Octets) (old new : List Octets)
     (names : NamesBlocks (indirect_for (i + 1)) (inode_entry old inode) old) where
-  abbrev was : Entry
+  abbrev was : FileEntry
   was = inode_entry old inode
 
-  abbrev now : Entry
+  abbrev now : FileEntry
   now = inode_entry new inode'
 
   -- its block of pointers has others

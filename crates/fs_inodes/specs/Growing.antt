@@ -5,7 +5,7 @@ use Rattle.std.specs.List.{All, Contains, range_with_len}
 use Rattle.disk.specs.Image.{overwritten}
 use Rattle.model.specs.Stream.{Octets}
 use Rattle.model.specs.Volume.{number_at, AreDistinct}
-use Rattle.model.specs.Files.{Entry, double_blocks, double_pointer, entry_of, indirect_for, indirect_pointer, pointer, table}
+use Rattle.model.specs.Files.{FileEntry, double_blocks, double_pointer, entry_of, indirect_for, indirect_pointer, pointer, table}
 use Rattle.model.specs.Files.{is_marked_used, free_blocks}
 pub use Rattle.model.specs.Room.{blocks_for}
 use Rattle.fs_layout.specs.Table.{IsFileAt, Makes}
@@ -28,11 +28,11 @@ HasRoomFor blocks was size = (size ≤ 268435456) × (blocks_for size ≤ free_b
 -- ---- one more block
 
 -- what an inode says of its blocks
-abbrev pub inode_entry : List Octets → Octets → Entry
+abbrev pub inode_entry : List Octets → Octets → FileEntry
 inode_entry blocks inode = entry_of blocks inode []
 
 -- the p-th block of pointers is neither another one nor the double-indirect block
-pub record IsApart (p : ℕ) (e : Entry) : Type 0 where
+pub record IsApart (p : ℕ) (e : FileEntry) : Type 0 where
   pub double : double_pointer e ≢ indirect_pointer e p
   pub others : (q : ℕ) → q ≢ p → indirect_pointer e q ≢ indirect_pointer e p
 
@@ -79,7 +79,7 @@ pub record IsTaken (blocks : List Octets) (b : ℕ) : Type 0 where
 
 -- an inode names exactly this many blocks of pointers: they are taken, no two are the same, and none is the
 -- double-indirect block, which the inode names exactly if there is more than one of them
-pub record NamesBlocks (tables : ℕ) (e : Entry) (blocks : List Octets) : Type 0 where
+pub record NamesBlocks (tables : ℕ) (e : FileEntry) (blocks : List Octets) : Type 0 where
   pub there : (p : ℕ) → p < tables → IsTaken blocks (indirect_pointer e p)
   pub none : (p : ℕ) → tables ≤ p → indirect_pointer e p ≡ 0
   pub differ : (p q : ℕ) → p < tables → q < tables → indirect_pointer e p ≡ indirect_pointer e q → p ≡ q
@@ -88,7 +88,7 @@ pub record NamesBlocks (tables : ℕ) (e : Entry) (blocks : List Octets) : Type 
   pub apart : (p : ℕ) → p < tables → indirect_pointer e p ≢ double_pointer e
 
 -- the first `tables` blocks of pointers
-abbrev pub tables_to : Entry → ℕ → List ℕ
+abbrev pub tables_to : FileEntry → ℕ → List ℕ
 tables_to e tables = map (λ p. indirect_pointer e p) (range_with_len 0 tables)
 
 -- each block that is taken is below each that stays free

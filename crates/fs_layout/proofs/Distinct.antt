@@ -1,52 +1,9 @@
--- Lists of numbers with no two equal, one after the other.
-use Rattle.std.proofs.Common.{◌≡◌, ◌⊎◌, inl, inr, ◌<◌, ℕ, zero, suc, ◌+◌, List, [], ◌∷◌, ◌++◌, length, refl, sym, ◌∙◌, subst, arith}
+-- Lists of numbers with no two equal, one after the other, where each gets more.
+use Rattle.std.proofs.Common.{◌⊎◌, inl, inr, ℕ, List, ◌++◌}
 use Rattle.std.specs.List.{Contains}
-use Rattle.std.proofs.lemmas.List.{get_or_default}
 use Rattle.std.proofs.lemmas.List.Elements.{Contains-append_left, Contains-append_right, Contains-append_cases}
 use Rattle.model.specs.Volume.{AreDistinct}
-use Rattle.volume.proofs.Laid.{distinct_tail}
-
-pub distinct_head : (x : ℕ) (xs : List ℕ) → AreDistinct (x ∷ xs) → ¬ (Contains xs x)
-distinct_head x xs distinct (k, low, is) = distinct 0 (suc k) (omega arith) (omega arith) (sym is ∙ get_or_default xs k x 0 low)
-
-pub distinct_cons : (x : ℕ) (xs : List ℕ) → ¬ (Contains xs x) → AreDistinct xs → AreDistinct (x ∷ xs)
-distinct_cons x xs other distinct zero zero less low = absurd (omega arith)
-distinct_cons x xs other distinct zero (suc j) less low = λ same. other (j, omega arith, get_or_default xs j x 0 (omega arith) ∙ sym same)
-distinct_cons x xs other distinct (suc i) zero less low = absurd (omega arith)
-distinct_cons x xs other distinct (suc i) (suc j) less low = distinct i j (omega arith) (omega arith)
-
-pub distinct_none : AreDistinct []
-distinct_none i j less low = absurd (omega arith)
-
-pub distinct_one : (x : ℕ) → AreDistinct (x ∷ [])
-distinct_one x i j less low = absurd (omega arith)
-
-pub distinct_append : (xs ys : List ℕ) → AreDistinct xs → AreDistinct ys → ((b : ℕ) → Contains xs b → ¬ (Contains ys b))
-    → AreDistinct (xs ++ ys)
-distinct_append [] ys first second apart = second
-distinct_append (x ∷ xs) ys first second apart =
-    distinct_cons x (xs ++ ys)
-    (λ has. elim (Contains-append_cases xs ys x has) [
-      | inl early ↦ distinct_head x xs first early
-      | inr late ↦ apart x (0, omega arith, refl) late
-    ])
-    (distinct_append xs ys (distinct_tail x xs first) second (λ b has. apart b (Contains-append_right (x ∷ []) xs b has)))
-
-pub distinct_left : (xs ys : List ℕ) → AreDistinct (xs ++ ys) → AreDistinct xs
-distinct_left [] ys all = distinct_none
-distinct_left (x ∷ xs) ys all =
-    distinct_cons x xs (λ has. distinct_head x (xs ++ ys) all (Contains-append_left xs ys x has))
-    (distinct_left xs ys (distinct_tail x (xs ++ ys) all))
-
-pub distinct_right : (xs ys : List ℕ) → AreDistinct (xs ++ ys) → AreDistinct ys
-distinct_right [] ys all = all
-distinct_right (x ∷ xs) ys all = distinct_right xs ys (distinct_tail x (xs ++ ys) all)
-
-pub distinct_apart : (xs ys : List ℕ) → AreDistinct (xs ++ ys) → (b : ℕ) → Contains xs b → ¬ (Contains ys b)
-distinct_apart [] ys all b has there = absurd (omega (arith, has.1))
-distinct_apart (x ∷ xs) ys all b (zero, low, is) there =
-    distinct_head x (xs ++ ys) all (subst (λ (n : ℕ). Contains (xs ++ ys) n) (sym is) (Contains-append_right xs ys b there))
-distinct_apart (x ∷ xs) ys all b (suc k, low, is) there = distinct_apart xs ys (distinct_tail x (xs ++ ys) all) b (k, omega arith, is) there
+use Rattle.model.proofs.Distinct.{distinct_append, distinct_apart, distinct_left, distinct_right}
 
 -- ---- numbers added after the first part of a list, and others within the rest
 

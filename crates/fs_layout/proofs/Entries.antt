@@ -7,13 +7,13 @@ use Rattle.std.proofs.lemmas.List.Elements.{Contains-append_left, Contains-appen
 use Rattle.std.proofs.lemmas.List.FromFn.{length-map-range_with_len, get_or-map-range_with_len}
 use Rattle.std.proofs.lemmas.Bool.{ne_eqb}
 use Rattle.model.specs.Stream.{Octets}
-use Rattle.model.specs.Files.{Entry, IsFree, block_count, double_blocks, double_pointer, indirect_blocks, indirect_count}
+use Rattle.model.specs.Files.{FileEntry, IsFree, block_count, double_blocks, double_pointer, indirect_blocks, indirect_count}
 use Rattle.model.specs.Files.{indirect_pointer, pointer, owned, name_in, slot_octets, slot_of, IsFileSystem}
 use Rattle.model.proofs.Owning.{zero_at}
 
 -- ---- a free entry
 
-module _ (e : Entry) (free : IsFree e) where
+module _ (e : FileEntry) (free : IsFree e) where
   pub free_slot : (name : Octets) → 1 ≤ length name → e.slot ≢ slot_octets name
   free_slot name some same =
       let none = zero_at e.slot 0 free.slot_zeros in
@@ -41,14 +41,14 @@ in_range f n i low =
     (get_or-map-range_with_len f 0 n i i 0 low (omega arith))
     (Contains-get_or (map f (range_with_len 0 n)) i 0 (omega (arith, length-map-range_with_len f 0 n)))
 
-pub owns_indirect : (e : Entry) (p : ℕ) → p < indirect_count e → Contains (owned e) (indirect_pointer e p)
+pub owns_indirect : (e : FileEntry) (p : ℕ) → p < indirect_count e → Contains (owned e) (indirect_pointer e p)
 owns_indirect e p low =
     Contains-append_right (double_blocks e) (indirect_blocks e ++ map (λ i. pointer e i) (range_with_len 0 (block_count e)))
     (indirect_pointer e p)
     (Contains-append_left (indirect_blocks e) (map (λ i. pointer e i) (range_with_len 0 (block_count e))) (indirect_pointer e p)
     (in_range (λ q. indirect_pointer e q) (indirect_count e) p low))
 
-pub owns_double : (e : Entry) → double_pointer e ≢ 0 → Contains (owned e) (double_pointer e)
+pub owns_double : (e : FileEntry) → double_pointer e ≢ 0 → Contains (owned e) (double_pointer e)
 owns_double e some =
     Contains-append_left (double_blocks e) (indirect_blocks e ++ map (λ i. pointer e i) (range_with_len 0 (block_count e)))
     (double_pointer e)

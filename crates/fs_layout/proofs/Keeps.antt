@@ -7,7 +7,7 @@ use Rattle.std.proofs.lemmas.List.Elements.{All-nil}
 use Rattle.disk.specs.Image.{part}
 use Rattle.model.specs.Stream.{Octets}
 use Rattle.model.specs.Volume.{number_at, AreDistinct}
-use Rattle.model.specs.Files.{Entry, HasRoom, IsFile, IsFree, kind, size, block_count, double_pointer, entry_of, indirect_count}
+use Rattle.model.specs.Files.{FileEntry, HasRoom, IsFile, IsFree, kind, size, block_count, double_pointer, entry_of, indirect_count}
 use Rattle.model.specs.Files.{indirect_number, indirect_pointer, pointer, owned, name_in, content_of, entry, inode_of, slot_of, indirect_of}
 use Rattle.model.specs.Files.{first_data, is_marked_used, IsUsed, IsFileSystem, file_at}
 use Rattle.model.proofs.Owning.{zero_number, owns_pointer}
@@ -133,7 +133,7 @@ module _ (inodes k : ℕ) (inode slot : Octets) (touched : ℕ → Type 0) (old 
       (λ p. indirect_same old new (indirect_pointer e p)
       (λ some. stays (indirect_pointer e p) (named_owned old (inode_of old l) (slot_of inodes old l) (fs.each l below) p some)))
     where
-      e : Entry
+      e : FileEntry
       e = entry inodes old l
 
       stays : (n : ℕ) → Contains (owned (entry inodes old l)) n → get_or new n [] ≡ get_or old n []
@@ -141,7 +141,7 @@ module _ (inodes k : ℕ) (inode slot : Octets) (touched : ℕ → Type 0) (old 
 
   pub file_other : (l : ℕ) → l < inodes → l ≢ k → file_at inodes new l ≡ file_at inodes old l
   file_other l below other =
-      ap (λ (e : Entry). cond (eqb (kind e) 0) None (Some (record { name = name_in e.slot; content = content_of new e })))
+      ap (λ (e : FileEntry). cond (eqb (kind e) 0) None (Some (record { name = name_in e.slot; content = content_of new e })))
       (entry_other l below other)
       ∙ ap (λ (c : Octets). cond (eqb (kind (entry inodes old l)) 0) None
       (Some (record { name = name_in (slot_of inodes old l); content = take (size (entry inodes old l)) c })))

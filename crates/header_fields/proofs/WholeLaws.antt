@@ -10,11 +10,8 @@ use Rattle.std.proofs.lemmas.Bool.{and_right, cond-false, eq-eqb, eqb-true, fals
 use Rattle.model.specs.Stream.{Octets, crlf, lines_after}
 use Rattle.model.specs.Article.{has_lines_alone, is_whole_line}
 use Rattle.model.proofs.Ends.{ends_with-append, ends_with-length}
+use Rattle.model.proofs.Stored.{is_plain}
 use Rattle.header_fields.specs.Whole.{ends_whole, may_follow}
-
--- an octet that may stand in a line before its CRLF
-abbrev is_plain : ℕ → Bool
-is_plain x = not (x == 0 || (x == 10 || x == 13))
 
 -- ---- one line
 

@@ -14,7 +14,7 @@ use Rattle.model.specs.Article.{Carried, are_distinct, groups_of, id}
 use Rattle.model.specs.Names.{is_group_name}
 use Rattle.model.specs.Indexed.{GroupIndex, ends_from, group_index, line_start, new_index, value_of, with_article, with_expiry}
 use Rattle.model.specs.Lawful.{IsLawful, MayExpire, MayFile, MayMake}
-use Rattle.model.specs.Spool.{Spool, Entry, entries_from, entries, NewsArticle, NewsGroup, article_filed, articles, by_id, filed_in}
+use Rattle.model.specs.Spool.{Spool, SpoolEntry, entries_from, entries, NewsArticle, NewsGroup, article_filed, articles, by_id, filed_in}
 use Rattle.model.specs.Spool.{group_made, group_named, groups, has_id, is_here, is_name, news_article, news_group}
 use Rattle.model.specs.FileCalls.{next_line}
 use Rattle.model.specs.SpoolFiles.{overview_file, overview_lines, overview_of}
@@ -67,7 +67,7 @@ new_serial S x notes count same is counted = let all : length notes ≡ length S
 notes_more : (S : Spool) (x : IndexView) (c : Change) → Indexes S x
     → x.notes ++ kept (record { serial = length S + 1; change = c }) ∷ [] ≡ map kept (entries (S ++ c ∷ []))
 notes_more S x c is =
-    let e : Entry = record { serial = length S + 1; change = c } in
+    let e : SpoolEntry = record { serial = length S + 1; change = c } in
     ap (λ ns. ns ++ kept e ∷ []) is.notes_are
     ∙ sym (map_push kept (entries S) e)
     ∙ ap (map kept) (sym (entries_more S c))
@@ -254,7 +254,8 @@ module _ (S : Spool) (filing : Filing) (sizes : List ℕ) (distinct : are_distin
   step false false name size at apart is = ap (λ (z : Bool). cond z (with_line (length S + 1) size (group_index S g)) (group_index S g)) at
 
   filed_front : (k : ℕ) → k ≤ length filing.envelope.groups
-      → filed_by (length S + 1) filing.envelope.groups sizes k (group_index S g) ≡ cond (list_any (is_name g.name) (take k filing.envelope.groups))
+      → filed_by (length S + 1) filing.envelope.groups sizes k (group_index S g)
+          ≡ cond (list_any (is_name g.name) (take k filing.envelope.groups))
       (with_article S filing.text (group_index S g)) (group_index S g)
   filed_front zero low = refl
   filed_front (suc k) low =
@@ -305,7 +306,8 @@ article_indexed host S x y filing key sizes note serial may is notes note_is siz
       groups' ∙ ap (λ (n : ℕ). map (filed_by n filing.envelope.groups sizes (length filing.envelope.groups)) x.groups) serial_is
       ∙ ap (map (filed_by (length S + 1) filing.envelope.groups sizes (length filing.envelope.groups))) is.groups_are
       ∙ map_twice (filed_by (length S + 1) filing.envelope.groups sizes (length filing.envelope.groups)) (group_index S) (groups S)
-      ∙ map_same (λ (g : NewsGroup). filed_by (length S + 1) filing.envelope.groups sizes (length filing.envelope.groups) (group_index S g)) (group_index R)
+      ∙ map_same (λ (g : NewsGroup). filed_by (length S + 1) filing.envelope.groups sizes (length filing.envelope.groups)
+          (group_index S g)) (group_index R)
       (groups S) (λ g. filed_all S filing sizes (filed_distinct host S filing may) sized g)
       ∙ ap (map (group_index R)) (sym (groups_more S c ∙ append-nil (groups S)));
   ids_are = λ q.

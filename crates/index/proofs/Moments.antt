@@ -11,7 +11,7 @@ use Rattle.std.proofs.lemmas.Option.{same_Some, unwrap_or-slice_get}
 use Rattle.std.proofs.Math.Nat.{le-max_left, le-max_right}
 use Rattle.std.proofs.Math.Seq.{get_or-append_seam}
 use Rattle.model.specs.Answer.{is_since}
-use Rattle.model.specs.Spool.{Spool, Entry, NewsArticle, article_filed}
+use Rattle.model.specs.Spool.{Spool, SpoolEntry, NewsArticle, article_filed}
 use Rattle.lookups.specs.Held.{article_with}
 use Rattle.index.specs.Finding.{entry_with}
 use Rattle.index.specs.Latest.{AreLatest}
@@ -157,7 +157,7 @@ latest_later moments notes note last its top last_is its_is top_is latest =
 later_note : (S : Spool) (x : IndexView) (k : ℕ) (a : NewsArticle) → Indexes S x → article_with S (suc k) ≡ Some a
     → (n : Note) × (slice_get x.notes k ≡ Some n) × (moment_in n ≡ Some a.moment)
 later_note S x k a is at = by_entry (entry_with S (suc k)) (noted S x (suc k) is) at where
-  by_entry : (o : Option Entry) → slice_get x.notes k ≡ option_map kept o
+  by_entry : (o : Option SpoolEntry) → slice_get x.notes k ≡ option_map kept o
       → option_and_then article_filed o ≡ Some a → (n : Note) × (slice_get x.notes k ≡ Some n) × (moment_in n ≡ Some a.moment)
   by_entry None got none = absurd (cc)
   by_entry (Some e) got filed = (kept e, got, each_moment e ∙ ap (option_map (λ (b : NewsArticle). b.moment)) filed)

@@ -10,7 +10,7 @@ use Rattle.model.specs.Stream.{Octets}
 use Rattle.model.specs.Article.{id}
 use Rattle.model.specs.Indexed.{GroupIndex, group_index}
 use Rattle.model.specs.Lawful.{IsLawful}
-use Rattle.model.specs.Spool.{Spool, Entry, NewsArticle, article_filed, as_it_is, entries, entries_from, expired_at, filed_in, gone_at}
+use Rattle.model.specs.Spool.{Spool, SpoolEntry, NewsArticle, article_filed, as_it_is, entries, entries_from, expired_at, filed_in, gone_at}
 use Rattle.model.specs.Spool.{greatest, group_named, is_gone, is_in, low, news_article}
 use Rattle.model.specs.declared.change.Change.{Change}
 use Rattle.model.specs.declared.change.Change.TheVariants.{Group, Article, Expire}
@@ -40,10 +40,10 @@ with_entry S zero = refl
 with_entry S (suc k) = refl
 
 pub said : {X : Type 0} (says : Note → Option X) (of : NewsArticle → X)
-    → ((e : Entry) → says (kept e) ≡ option_map of (article_filed e)) → (S : Spool) (n : ℕ) (note : Note)
+    → ((e : SpoolEntry) → says (kept e) ≡ option_map of (article_filed e)) → (S : Spool) (n : ℕ) (note : Note)
     → Some note ≡ option_map kept (entry_with S n) → says note ≡ option_map of (article_with S n)
 said says of each S n note is = by_entry (entry_with S n) is ∙ ap (option_map of) (sym (with_entry S n)) where
-  by_entry : (o : Option Entry) → Some note ≡ option_map kept o
+  by_entry : (o : Option SpoolEntry) → Some note ≡ option_map kept o
       → says note ≡ option_map of (option_and_then article_filed o)
   by_entry None same = absurd (cc)
   by_entry (Some e) same = ap says (same_Some note (kept e) same) ∙ each e
@@ -51,12 +51,12 @@ said says of each S n note is = by_entry (entry_with S n) is ∙ ap (option_map 
 pub unsaid : {X : Type 0} (of : NewsArticle → X) (S : Spool) (n : ℕ) → None ≡ option_map kept (entry_with S n)
     → None ≡ option_map of (article_with S n)
 unsaid of S n is = by_entry (entry_with S n) is ∙ ap (option_map of) (sym (with_entry S n)) where
-  by_entry : (o : Option Entry) → None ≡ option_map kept o
+  by_entry : (o : Option SpoolEntry) → None ≡ option_map kept o
       → None ≡ option_map of (option_and_then article_filed o)
   by_entry None same = refl
   by_entry (Some e) same = absurd (cc)
 
-pub each_id : (e : Entry) → id_in (kept e) ≡ option_map (λ (a : NewsArticle). id a.text) (article_filed e)
+pub each_id : (e : SpoolEntry) → id_in (kept e) ≡ option_map (λ (a : NewsArticle). id a.text) (article_filed e)
 each_id e = by_change e.serial e.change where
   by_change : (n : ℕ) (c : Change)
       → id_in (kept (record { serial = n; change = c })) ≡ option_map (λ (a : NewsArticle). id a.text)
@@ -65,7 +65,7 @@ each_id e = by_change e.serial e.change where
   by_change n (Article filing) = refl
   by_change n (Expire expiry) = refl
 
-pub each_size : (e : Entry) → size_in (kept e) ≡ option_map (λ (a : NewsArticle). length a.text) (article_filed e)
+pub each_size : (e : SpoolEntry) → size_in (kept e) ≡ option_map (λ (a : NewsArticle). length a.text) (article_filed e)
 each_size e = by_change e.serial e.change where
   by_change : (n : ℕ) (c : Change)
       → size_in (kept (record { serial = n; change = c })) ≡ option_map (λ (a : NewsArticle). length a.text)
@@ -74,7 +74,7 @@ each_size e = by_change e.serial e.change where
   by_change n (Article filing) = refl
   by_change n (Expire expiry) = refl
 
-pub each_moment : (e : Entry) → moment_in (kept e) ≡ option_map (λ (a : NewsArticle). a.moment) (article_filed e)
+pub each_moment : (e : SpoolEntry) → moment_in (kept e) ≡ option_map (λ (a : NewsArticle). a.moment) (article_filed e)
 each_moment e = by_change e.serial e.change where
   by_change : (n : ℕ) (c : Change)
       → moment_in (kept (record { serial = n; change = c })) ≡ option_map (λ (a : NewsArticle). a.moment)
@@ -83,7 +83,7 @@ each_moment e = by_change e.serial e.change where
   by_change n (Article filing) = refl
   by_change n (Expire expiry) = refl
 
-pub each_groups : (e : Entry) → groups_in (kept e) ≡ option_map (λ (a : NewsArticle). a.groups) (article_filed e)
+pub each_groups : (e : SpoolEntry) → groups_in (kept e) ≡ option_map (λ (a : NewsArticle). a.groups) (article_filed e)
 each_groups e = by_change e.serial e.change where
   by_change : (n : ℕ) (c : Change)
       → groups_in (kept (record { serial = n; change = c })) ≡ option_map (λ (a : NewsArticle). a.groups)
@@ -129,15 +129,15 @@ still_nowhere host S name serial lawful is =
 
 -- ---- articles
 
-entry_serial : (n : ℕ) (S : Spool) (k : ℕ) (e : Entry) → slice_get (entries_from n S) k ≡ Some e → e.serial ≡ n + k
+entry_serial : (n : ℕ) (S : Spool) (k : ℕ) (e : SpoolEntry) → slice_get (entries_from n S) k ≡ Some e → e.serial ≡ n + k
 entry_serial n [] k e is = absurd (cc)
 entry_serial n (c ∷ S) zero e is =
     let one : record { serial = n; change = c } ≡ e = same_Some (record { serial = n; change = c }) e is in
-    let serial : n ≡ e.serial = ap (λ (f : Entry). f.serial) one in
+    let serial : n ≡ e.serial = ap (λ (f : SpoolEntry). f.serial) one in
     omega arith
 entry_serial n (c ∷ S) (suc k) e is = let rest = entry_serial (suc n) S k e is in omega (arith, rest)
 
-filed_serial : (e : Entry) (a : NewsArticle) → article_filed e ≡ Some a → a.serial ≡ e.serial
+filed_serial : (e : SpoolEntry) (a : NewsArticle) → article_filed e ≡ Some a → a.serial ≡ e.serial
 filed_serial e a is = by_change e.serial e.change is where
   by_change : (n : ℕ) (c : Change) → article_filed (record { serial = n; change = c }) ≡ Some a → a.serial ≡ n
   by_change n (Group created) same = absurd (cc)
@@ -149,7 +149,7 @@ with_serial : (S : Spool) (n : ℕ) (a : NewsArticle) → article_with S n ≡ S
 unfolding entries
 with_serial S zero a is = absurd (cc)
 with_serial S (suc k) a is = by_entry (slice_get (entries_from 1 S) k) refl is where
-  by_entry : (o : Option Entry) → slice_get (entries_from 1 S) k ≡ o → option_and_then article_filed o ≡ Some a → a.serial ≡ suc k
+  by_entry : (o : Option SpoolEntry) → slice_get (entries_from 1 S) k ≡ o → option_and_then article_filed o ≡ Some a → a.serial ≡ suc k
   by_entry None at same = absurd (cc)
   by_entry (Some e) at same = let one = entry_serial 1 S k e at in let two = filed_serial e a same in omega (arith, one, two)
 

@@ -1,7 +1,7 @@
 -- Look-ups of changes and articles by serial.
 use Rattle.std.specs.Prelude.{ℕ, zero, suc, nat_le, Bool, List, filter, length, slice_get, Option, None}
 use Rattle.model.specs.Stream.{Octets}
-use Rattle.model.specs.Spool.{Spool, Entry, entries, filed_in, low}
+use Rattle.model.specs.Spool.{Spool, SpoolEntry, entries, filed_in, low}
 use Rattle.index.specs.declared.note.Note.{Note}
 
 -- the note of the change with this serial
@@ -10,7 +10,7 @@ note_at notes zero = None
 note_at notes (suc k) = slice_get notes k
 
 -- the change with this serial
-abbrev pub entry_with : Spool → ℕ → Option Entry
+abbrev pub entry_with : Spool → ℕ → Option SpoolEntry
 entry_with S zero = None
 entry_with S (suc k) = slice_get (entries S) k
 

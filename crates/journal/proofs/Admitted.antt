@@ -4,7 +4,7 @@ use Rattle.std.proofs.Common.{subst, arith}
 use Rattle.std.proofs.lemmas.List.{drop_more}
 use Rattle.model.specs.Volume.{AreDistinct, Batch, IsDescriptor, StandsFor, batch_in, block, descriptor_place, gate_closed, gate_place}
 use Rattle.model.specs.Volume.{home_size, image_place, is_open, laid_over, logical_blocks, number_at, segment_count}
-use Rattle.segment_laws.specs.Held.{AreOpen, HaveLess, Held, IsHomeOfHeld, IsWrittenIn}
+use Rattle.segment_laws.specs.Held.{AreOpen, HaveLess, HeldBatch, IsHomeOfHeld, IsWrittenIn}
 use Rattle.segment_laws.specs.Images.{IsCarried, IsHomeOfOpen, SameBut}
 use Rattle.segment_laws.proofs.Blocks.{first-overwritten, overwritten_same, same_but_back, same_but_more, same_but_then}
 use Rattle.segment_laws.proofs.Gates.{any_shut, closed_or_not, first_is_least, gate_kept, less_than, opened_open, opened_or_not}
@@ -151,7 +151,7 @@ module _ (f : Flight) (x label : List ℕ) (stands : StandsFor x label (logical_
       → StandsFor c label (logical_blocks x)
   finish_case j c bears same =
       let h = held_at (all_of f) j in
-      let are = subst (λ (hs : List Held). AreOpen hs x) (drop_more (all_of f) j none_held bears.0) bears.1 in
+      let are = subst (λ (hs : List HeldBatch). AreOpen hs x) (drop_more (all_of f) j none_held bears.0) bears.1 in
       (closed_or_not x c label (logical_blocks x) h.place stands are.each.0.0 (first_is_least x h (drop (j + 1) (all_of f)) are) bears.2
       same).0
 

@@ -6,7 +6,7 @@ use Rattle.std.proofs.lemmas.Bool.{cases_Bool, cases_eq, eqb-false}
 use Rattle.std.proofs.lemmas.List.{length-take-le, map_more}
 use Rattle.disk.specs.Device.{Device}
 use Rattle.model.specs.Volume.{AreDistinct, StandsFor, descriptor_of, is_open, number_at}
-use Rattle.segment_laws.specs.Held.{AreOpen, HaveLess, Held, IsAmong}
+use Rattle.segment_laws.specs.Held.{AreOpen, HaveLess, HeldBatch, IsAmong}
 use Rattle.segment_laws.proofs.Gates.{among_end}
 use Rattle.journal_segments.specs.Staged.{IsSound, IsStaged, Staged, held_as, none_staged, staged_at}
 use Rattle.journal.specs.Flight.{all_of, flight_in, left_of}
@@ -17,7 +17,7 @@ use Rattle.journal_segments.proofs.Batches.{sound_of}
 use Rattle.journal_segments.proofs.Written.{take_same}
 use Rattle.journal.proofs.Flights.{less_before}
 
-among_last : (s : ℕ) (hs : List Held) (h : Held) → IsAmong s (hs ++ h ∷ []) → IsAmong s hs ⊎ (s ≡ h.place)
+among_last : (s : ℕ) (hs : List HeldBatch) (h : HeldBatch) → IsAmong s (hs ++ h ∷ []) → IsAmong s hs ⊎ (s ≡ h.place)
 among_last s [] h (inl is) = inr is
 among_last s [] h (inr none) = absurd none
 among_last s (g ∷ hs) h (inl is) = inl (inl is)
@@ -31,14 +31,15 @@ among_low : (room : List Staged) (n : ℕ) → n ≤ length room → ((t : ℕ) 
     → IsAmong s (map held_as (take k room)) → s < n
 among_low room n few places zero low s among = absurd among
 among_low room n few places (suc k) low s among =
-    let here = subst (λ (hs : List Held). IsAmong s hs) (ap (λ (m : ℕ). map held_as (take m room)) (let e : suc k ≡ k + 1 = omega arith in
+    let here = subst (λ (hs : List HeldBatch). IsAmong s hs)
+    (ap (λ (m : ℕ). map held_as (take m room)) (let e : suc k ≡ k + 1 = omega arith in
     e) ∙ map_more held_as room k none_staged (omega (arith, low, few))) among in
     elim (among_last s (map held_as (take k room)) (held_as (staged_at room k)) here) [
       | inl before ↦ among_low room n few places k (omega (arith, low)) s before
       | inr is ↦ omega (arith, is, low, places k (omega (arith, low)))
     ]
 
-among_front : (s : ℕ) (hs : List Held) (h : Held) → IsAmong s hs → IsAmong s (hs ++ h ∷ [])
+among_front : (s : ℕ) (hs : List HeldBatch) (h : HeldBatch) → IsAmong s hs → IsAmong s (hs ++ h ∷ [])
 among_front s [] h among = absurd among
 among_front s (g ∷ hs) h (inl is) = inl is
 among_front s (g ∷ hs) h (inr rest) = inr (among_front s hs h rest)
@@ -47,7 +48,7 @@ among_all : (room : List Staged) (n : ℕ) → n ≤ length room → ((t : ℕ) 
     → s < k → IsAmong s (map held_as (take k room))
 among_all room n few places zero low s below = absurd (omega (arith, below))
 among_all room n few places (suc k) low s below =
-    subst (λ (hs : List Held). IsAmong s hs) (sym (map_more held_as room k none_staged (omega (arith, low, few)))
+    subst (λ (hs : List HeldBatch). IsAmong s hs) (sym (map_more held_as room k none_staged (omega (arith, low, few)))
     ∙ ap (λ (m : ℕ). map held_as (take m room)) (let e : k + 1 ≡ suc k = omega arith in e))
     (elim (cases_eq s k) [
       | inl is ↦ among_end s (map held_as (take k room)) (held_as (staged_at room k)) (is ∙ sym (places k (omega (arith, low))))
@@ -116,7 +117,7 @@ module _ (device : Device) (blocks : ℕ) (superblock : List ℕ) (room after : 
   lowest s below = elim (cases_Bool is_last) [
     | inl is ↦ absurd (omega (arith, below, was_last is))
     | inr is ↦
-        subst (λ (hs : List Held). IsAmong s hs) (map_more held_as room filled none_staged kept.there
+        subst (λ (hs : List HeldBatch). IsAmong s hs) (map_more held_as room filled none_staged kept.there
         ∙ ap (λ (b : Bool). cond b [] (all_of (flight_in room filled is_last))) (sym is))
         (among_all room (filled + 1) (omega (arith, kept.there)) (λ t low. (kept.order is t (omega (arith, low))).0) (filled + 1)
         (omega arith) s (omega (arith, below, was_more is)))
@@ -126,7 +127,7 @@ module _ (device : Device) (blocks : ℕ) (superblock : List ℕ) (room after : 
   not_among among = elim (cases_Bool is_last) [
     | inl is ↦ subst (λ (b : Bool). IsAmong m (cond b [] (all_of (flight_in room filled is_last)))) is among
     | inr is ↦
-        let here = subst (λ (hs : List Held). IsAmong m hs) (ap (λ (b : Bool). cond b [] (all_of (flight_in room filled is_last))) is
+        let here = subst (λ (hs : List HeldBatch). IsAmong m hs) (ap (λ (b : Bool). cond b [] (all_of (flight_in room filled is_last))) is
         ∙ sym (map_more held_as room filled none_staged kept.there)) among in
         let low = among_low room (filled + 1) (omega (arith, kept.there)) (λ t low. (kept.order is t (omega (arith, low))).0) (filled + 1)
         (omega arith) m here in
@@ -173,7 +174,7 @@ module _ (device : Device) (blocks : ℕ) (superblock : List ℕ) (room after : 
     ]
 
     pub greatest : HaveLess (number_at 0 8 (staged_at after m).descriptor) (left_of (flight_in room filled is_last))
-    greatest = subst (λ (hs : List Held). HaveLess (number_at 0 8 (staged_at after m).descriptor) hs) held_now
+    greatest = subst (λ (hs : List HeldBatch). HaveLess (number_at 0 8 (staged_at after m).descriptor) hs) held_now
         (less_before after m next_last (omega (arith, size, there)) order_now)
 
     pub begun : IsKept device blocks superblock Descriptor false after m next_last
@@ -202,7 +203,7 @@ module _ (device : Device) (blocks : ℕ) (superblock : List ℕ) (room after : 
             count = told.count ∙ sym size;
             admits = λ c left. inl (stands_at c (told.admits c left));
             holds = λ runs. (
-              subst (λ (hs : List Held). AreOpen hs device.content) (sym held_now) are,
+              subst (λ (hs : List HeldBatch). AreOpen hs device.content) (sym held_now) are,
               subst (λ (k : ℕ). is_open k device.content ≡ false) (sym taken.place_is)
                   (closed device.content are (omega (arith, told.count, there))),
             );

@@ -3,7 +3,7 @@ use Rattle.std.proofs.Common.{◌≡◌, ◌≢◌, ◌⊎◌, inl, inr, ⊎_eli
 use Rattle.std.proofs.Common.{get_or, drop, refl, sym, ◌∙◌, ap, subst, arith, Result, Ok, Err}
 use Rattle.disk.specs.Device.{Device, Elapses, IsTornImage, LeavesNoMore, TearsAt, LeftTornAt}
 use Rattle.disk.specs.Image.{part, overwritten}
-use Rattle.segment_laws.specs.Held.{AreOpen, Held}
+use Rattle.segment_laws.specs.Held.{AreOpen, HeldBatch}
 use Rattle.segment_laws.specs.Images.{SameBut}
 use Rattle.segment_laws.proofs.Writing.{home_of_held}
 use Rattle.journal_segments.specs.Staged.{IsSound, IsStaged, Staged, staged_at}
@@ -303,7 +303,7 @@ module _ (old new : Device) (blocks : ℕ) (superblock : List ℕ) (room : List 
       (λ t. let holds = (was.told t).holds refl in
       after_gate (λ g. Holds f g old.content) n (sizes_of f) j
       (λ e. subst (λ (b : Bool). AreOpen (cond b [] (all_of f)) old.content) (sym last)
-      (subst (λ (hs : List Held). AreOpen hs old.content) (ap (λ (k : ℕ). drop k (all_of f)) (e ∙ length-sizes f last)
+      (subst (λ (hs : List HeldBatch). AreOpen hs old.content) (ap (λ (k : ℕ). drop k (all_of f)) (e ∙ length-sizes f last)
       ∙ drop-length (all_of f)) holds.0))
       (λ e. holds))
       (λ t. after_gate (λ g. without_at g old ≡ without_at (Finish j) old) n (sizes_of f) j (λ e. refl) (λ e. refl))

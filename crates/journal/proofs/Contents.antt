@@ -7,7 +7,7 @@ use Rattle.std.proofs.Math.Seq.{take-length}
 use Rattle.disk.specs.Image.{overwritten}
 use Rattle.model.specs.Volume.{StandsFor, all_laid_over, block, descriptor_place, gate_closed, gate_place, home, home_place, home_size}
 use Rattle.model.specs.Volume.{image_place, is_open, logical_blocks, segment_count}
-use Rattle.segment_laws.specs.Held.{AreOpen, Held, IsHomeOfHeld, IsHomeOnTheWay, batches_of}
+use Rattle.segment_laws.specs.Held.{AreOpen, HeldBatch, IsHomeOfHeld, IsHomeOnTheWay, batches_of}
 use Rattle.segment_laws.specs.Images.{IsInside, SameBut}
 use Rattle.segment_laws.proofs.Blocks.{block-overwritten, first-overwritten, overwritten_same, same_but_more, same_but_then}
 use Rattle.segment_laws.proofs.Carrying.{all_home, none_home, one_home}
@@ -123,7 +123,7 @@ module _ (f : Flight) (x label : List ℕ) (stands : StandsFor x label (logical_
 
   module _ (n j i : ℕ) (last : f.is_last ≡ true) (here : j < length (all_of f)) (sound : IsSound (home_size x) (held_at (all_of f) j).batch)
       (within : i < length (held_at (all_of f) j).batch.numbers) (holds : Holds f (Home j i) x) where
-    abbrev h : Held
+    abbrev h : HeldBatch
     h = held_at (all_of f) j
 
     abbrev place : ℕ
@@ -167,7 +167,7 @@ module _ (f : Flight) (x label : List ℕ) (stands : StandsFor x label (logical_
     ended e =
         all_home first (take j (all_of f)) h z sound.images (subst (λ (k : ℕ). IsHomeOnTheWay first (take j (all_of f)) h.batch k z) (e
         ∙ size_at f j last here) more)
-        ∙ ap (λ (hs : List Held). all_laid_over first (batches_of hs)) (sym (take_more (all_of f) j none_held here))
+        ∙ ap (λ (hs : List HeldBatch). all_laid_over first (batches_of hs)) (sym (take_more (all_of f) j none_held here))
 
     pub holds_home : Holds f (following n (sizes_of f) (Home j i)) z
     holds_home =
@@ -176,7 +176,7 @@ module _ (f : Flight) (x label : List ℕ) (stands : StandsFor x label (logical_
           are,
           (
             first,
-            ended e ∙ ap (λ (hs : List Held). all_laid_over first (batches_of hs))
+            ended e ∙ ap (λ (hs : List HeldBatch). all_laid_over first (batches_of hs))
                 (ap (λ (k : ℕ). take k (all_of f)) (g ∙ length-sizes f last) ∙ take-length (all_of f)),
           ),
         ))
@@ -192,7 +192,7 @@ module _ (f : Flight) (x label : List ℕ) (stands : StandsFor x label (logical_
       → Holds f (Finish j) (overwritten (4096 * gate_place (held_at (all_of f) j).place) (0 ∷ []) x)
   holds_closed j here holds =
       let h = held_at (all_of f) j in
-      let are = subst (λ (hs : List Held). AreOpen hs x) (drop_more (all_of f) j none_held here) holds.0 in
+      let are = subst (λ (hs : List HeldBatch). AreOpen hs x) (drop_more (all_of f) j none_held here) holds.0 in
       let there = are.each.0.0.0 in
       let closed = closed_open x (gate_closed h.place x) label (logical_blocks x) h (drop (j + 1) (all_of f)) stands are holds.1
       (shut_same x label h.place stands there) (is_shut x label h.place stands there) in

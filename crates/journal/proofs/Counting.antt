@@ -2,7 +2,7 @@
 use Rattle.std.proofs.Common.{◌≡◌, ◌≢◌, ℕ, ◌+◌, ◌%◌, ◌^◌, Bool, true, false, if◌then◌else◌, List, sym, ◌∙◌, ap, subst, arith, refl, Ok}
 use Rattle.std.proofs.Math.Nat.{mod-add-mod, mod-mod}
 use Rattle.disk.specs.Device.{Device, IsSync, IsWrite, one_more}
-use Rattle.segment_laws.specs.Held.{Held}
+use Rattle.segment_laws.specs.Held.{HeldBatch}
 use Rattle.journal.specs.Calls.{Does, call_at}
 use Rattle.journal.specs.Order.{IsMore, following, is_sync, syncs_made, writes_made}
 use Rattle.journal.specs.declared.Next.{Next}
@@ -22,7 +22,7 @@ abbrev pub Asks : Bool → Device → Device → Type 0
 Asks true old new = IsSync old new
 Asks false old new = IsWrite old new
 
-pub asks_by : (T E : Type 0) (next : Next) (segments : ℕ) (held : List Held) (place : ℕ) (descriptor : List ℕ) (images : List (List ℕ))
+pub asks_by : (T E : Type 0) (next : Next) (segments : ℕ) (held : List HeldBatch) (place : ℕ) (descriptor : List ℕ) (images : List (List ℕ))
     (x : T) (old new : Device)
     → Does {T = T} {E = E} (call_at next segments held place descriptor images) (Ok x) old new → next ≢ Idle → Asks (is_sync next) old new
 asks_by T E Idle segments held place descriptor images x old new did flies = absurd (flies refl)

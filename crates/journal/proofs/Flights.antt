@@ -3,7 +3,7 @@ use Rattle.std.proofs.Common.{◌≡◌, ◌≢◌, inl, inr, ◌<◌, ◌≤◌
 use Rattle.std.proofs.Common.{get_or, map, take, refl, sym, ◌∙◌, ap, subst, arith}
 use Rattle.std.proofs.lemmas.Bool.{cases_Bool, cond_both, eqb-true, eqb-false}
 use Rattle.std.proofs.lemmas.List.{get_or-map, get_or-take, length-append, length-map, length-take-le, map_more}
-use Rattle.segment_laws.specs.Held.{HaveLess, Held}
+use Rattle.segment_laws.specs.Held.{HaveLess, HeldBatch}
 use Rattle.journal_segments.specs.Staged.{IsSound, IsStaged, Staged, held_as, none_staged, staged_at}
 use Rattle.journal.specs.Flight.{Flight, all_of, counts_of, flight_in, held_at, none_held, sizes_of}
 use Rattle.journal.specs.Inside.{IsWithin}
@@ -73,7 +73,7 @@ length-sizes f is = ap (λ (b : Bool). length (cond b (counts_of (all_of f)) [])
 pub size_at : (f : Flight) (j : ℕ) → f.is_last ≡ true → j < length (all_of f)
     → get_or (sizes_of f) j 0 ≡ length (held_at (all_of f) j).batch.numbers
 size_at f j is within = ap (λ (b : Bool). get_or (cond b (counts_of (all_of f)) []) j 0) is
-    ∙ get_or-map (λ (h : Held). length h.batch.numbers) (all_of f) j none_held 0 within
+    ∙ get_or-map (λ (h : HeldBatch). length h.batch.numbers) (all_of f) j none_held 0 within
 
 pub length-none : (f : Flight) → f.is_last ≡ false → length (sizes_of f) ≡ 0
 length-none f not = ap (λ (b : Bool). length (cond b (counts_of (all_of f)) [])) not
@@ -94,7 +94,7 @@ left_where f none = elim (cases_Bool f.is_last) [
 pub there_of : (f : Flight) (j : ℕ) → j < length (sizes_of f) → j < length (all_of f)
 there_of f j there = omega (arith, there, length-sizes f (last_where f (omega (arith, there))))
 
-less_up : (n : ℕ) (hs : List Held) (h : Held) → HaveLess n hs → h.batch.number < n → HaveLess n (hs ++ h ∷ [])
+less_up : (n : ℕ) (hs : List HeldBatch) (h : HeldBatch) → HaveLess n hs → h.batch.number < n → HaveLess n (hs ++ h ∷ [])
 less_up n [] h less last = (last, tt)
 less_up n (g ∷ hs) h less last = (less.0, less_up n hs h less.1 last)
 
@@ -114,7 +114,7 @@ module _ (room : List Staged) (filled : ℕ) (is_last : Bool) (there : filled < 
 
   pub held_in_room : (j : ℕ) → j ≤ filled → held_at (all_of flight) j ≡ held_as (staged_at room j)
   held_in_room j low =
-      ap (λ (hs : List Held). get_or hs j none_held) (sym (map_more held_as room filled none_staged there))
+      ap (λ (hs : List HeldBatch). get_or hs j none_held) (sym (map_more held_as room filled none_staged there))
       ∙ get_or-map held_as (take (filled + 1) room) j none_staged none_held
       (omega (arith, low, length-take-le (filled + 1) room (omega (arith, there))))
       ∙ ap held_as (get_or-take (filled + 1) room j none_staged (omega (arith, low)))
@@ -123,7 +123,7 @@ module _ (room : List Staged) (filled : ℕ) (is_last : Bool) (there : filled < 
       → IsSound blocks (held_at (all_of flight) j).batch
   sound_all blocks staged j within =
       let low : j ≤ filled = omega (arith, within, length-all) in
-      subst (λ (h : Held). IsSound blocks h.batch) (sym (held_in_room j low)) (staged j low).sound
+      subst (λ (h : HeldBatch). IsSound blocks h.batch) (sym (held_in_room j low)) (staged j low).sound
 
   pub sizes_some : (blocks : ℕ) → ((t : ℕ) → t ≤ filled → IsStaged blocks (staged_at room t)) → AreSome (sizes_of flight)
   sizes_some blocks staged j within =
@@ -142,7 +142,7 @@ module _ (room : List Staged) (filled : ℕ) (is_last : Bool) (there : filled < 
           arith,
           here.1,
           size_at flight j (last_where flight (omega (arith, here.0))) among,
-          ap (λ (h : Held). length h.batch.numbers) (held_in_room j low),
+          ap (λ (h : HeldBatch). length h.batch.numbers) (held_in_room j low),
         ),
       )
 

@@ -9,7 +9,7 @@ use Rattle.std.proofs.lemmas.List.Sums.{sum_by-cons}
 use Rattle.std.proofs.Math.Nat.{mod-add-mod}
 use Rattle.disk.specs.Device.{Device, Elapses, LeavesOnly}
 use Rattle.disk.specs.Image.{part}
-use Rattle.segment_laws.specs.Held.{AreOpen, AreRising, Held, IsAmong, held_at as held_in_places, held_in, sorted_held}
+use Rattle.segment_laws.specs.Held.{AreOpen, AreRising, HeldBatch, IsAmong, held_at as held_in_places, held_in, sorted_held}
 use Rattle.segment_laws.specs.Images.{IsOpenIn}
 use Rattle.segment_laws.proofs.Judging.{length-sorted, stands_rising, writes_of, writes_sorted}
 use Rattle.segment_laws.proofs.Sorting.{all_found, found_open}
@@ -69,7 +69,7 @@ writes_at x (s ∷ ss) =
       length-range_with_len 0 (number_at 16 4 d),
     )
 
-writes_counted : (held : List Held) → writes_of held ≡ sum (counts_of held) + length (counts_of held)
+writes_counted : (held : List HeldBatch) → writes_of held ≡ sum (counts_of held) + length (counts_of held)
 writes_counted [] = refl
 writes_counted (h ∷ held) = omega (arith, writes_counted held, sum_by-cons (λ n. n) (length h.batch.numbers) (counts_of held))
 
@@ -87,7 +87,7 @@ module _ (device : Device) (superblock : List ℕ) (blocks : ℕ) (room : List S
   x = device.content
 
   module _ (n : ℕ) (found : IsFound device superblock blocks room n) where
-    abbrev held : List Held
+    abbrev held : List HeldBatch
     held = map held_as (take n room)
 
     few : length room ≤ 8
@@ -129,7 +129,7 @@ module _ (device : Device) (superblock : List ℕ) (blocks : ℕ) (room : List S
     valid_all : IsTrue device.tells → (s : ℕ) → IsOpenIn s x → IsDescriptor (home_size x) (block (descriptor_place s) x)
     valid_all t s opened =
         among_staged (λ p. IsDescriptor (home_size x) (block (descriptor_place p) x)) s (take n room) each
-        (subst (λ (hs : List Held). IsAmong s hs) (sym (held_is t)) (all_found x s opened))
+        (subst (λ (hs : List HeldBatch). IsAmong s hs) (sym (held_is t)) (all_found x s opened))
       where
         each : (k : ℕ) → k < length (take n room)
             → IsDescriptor (home_size x) (block (descriptor_place (staged_at (take n room) k).place) x)
@@ -144,10 +144,10 @@ module _ (device : Device) (superblock : List ℕ) (blocks : ℕ) (room : List S
     pub found_stands : IsTrue device.tells → StandsFor x (part 20 128 superblock) (logical_blocks x)
     found_stands t =
         subst (λ (l : List ℕ). StandsFor x l (logical_blocks x)) (content_label t)
-        (stands_rising x (content_superblock t) (valid_all t) (subst (λ (hs : List Held). AreRising hs) (held_is t) found.found.rise))
+        (stands_rising x (content_superblock t) (valid_all t) (subst (λ (hs : List HeldBatch). AreRising hs) (held_is t) found.found.rise))
 
     are_held : IsTrue device.tells → AreOpen held x
-    are_held t = subst (λ (hs : List Held). AreOpen hs x) (sym (held_is t))
+    are_held t = subst (λ (hs : List HeldBatch). AreOpen hs x) (sym (held_is t))
         (found_open x (part 20 128 superblock) (logical_blocks x) (found_stands t))
 
     length_open : IsTrue device.tells → length (open_segments x) ≡ n
@@ -156,7 +156,7 @@ module _ (device : Device) (superblock : List ℕ) (blocks : ℕ) (room : List S
           arith,
           ap length (held_is t),
           length-sorted (held_in_places x (open_segments x)),
-          length-map (open_segments x) (λ s. let h : Held = record { place = s; batch = batch_in s x } in h),
+          length-map (open_segments x) (λ s. let h : HeldBatch = record { place = s; batch = batch_in s x } in h),
           length-map (take n room) held_as,
           length-take-le n room within,
         )
@@ -231,7 +231,7 @@ module _ (device : Device) (superblock : List ℕ) (blocks : ℕ) (room : List S
         (first, sizes_some room filled true there blocks staged 0 first)
 
     pub replay_writes : IsTrue device.tells → home_writes x (open_segments x) ≡ sum (sizes_of flight) + length (sizes_of flight)
-    replay_writes t = writes_open n found t ∙ ap (λ (hs : List Held). sum (counts_of hs) + length (counts_of hs)) all_are
+    replay_writes t = writes_open n found t ∙ ap (λ (hs : List HeldBatch). sum (counts_of hs) + length (counts_of hs)) all_are
 
     pub replay_syncs : IsTrue device.tells → home_syncs (open_segments x) ≡ 1 + length (sizes_of flight)
     replay_syncs t = omega (
@@ -245,7 +245,7 @@ module _ (device : Device) (superblock : List ℕ) (blocks : ℕ) (room : List S
     replay_stands = found_stands n found
 
     all_held : IsTrue device.tells → AreOpen (all_of flight) x
-    all_held t = subst (λ (hs : List Held). AreOpen hs x) all_are (are_held n found t)
+    all_held t = subst (λ (hs : List HeldBatch). AreOpen hs x) all_are (are_held n found t)
 
     place_there : (staged_at room filled).place < length room
     place_there = (found.found.each filled (omega (arith, is))).below

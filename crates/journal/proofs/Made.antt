@@ -5,7 +5,7 @@ use Rattle.disk.specs.Device.{Device, Elapses, HasCause, OnRefused, IsRefused, I
 use Rattle.disk.specs.Device.{LeftTornAt, OnAsked, TearsAt}
 use Rattle.disk.specs.Image.{part, overwritten}
 use Rattle.disk.specs.declared.DiskError.{DiskError}
-use Rattle.segment_laws.specs.Held.{Held}
+use Rattle.segment_laws.specs.Held.{HeldBatch}
 use Rattle.journal_segments.specs.Staged.{Staged, held_as}
 use Rattle.journal.specs.Flight.{Flight, all_of, flight_in, sizes_of}
 use Rattle.journal.specs.Inside.{IsKept, blocks_without}
@@ -97,7 +97,7 @@ does_err T T' E E' Call.Sync x y old new did = record {
 }
 
 -- the descriptor block matters to its own call alone
-same_call : (next : Next) (segments : ℕ) (held : List Held) (place : ℕ) (descriptor written : List ℕ) (images : List (List ℕ))
+same_call : (next : Next) (segments : ℕ) (held : List HeldBatch) (place : ℕ) (descriptor written : List ℕ) (images : List (List ℕ))
     → (next ≡ Descriptor → descriptor ≡ written)
     → call_at next segments held place descriptor images ≡ call_at next segments held place written images
 same_call Idle segments held place descriptor written images is = refl

@@ -1,7 +1,7 @@
 -- How each device call takes a journal from one call to the next.
 use Rattle.std.proofs.Common.{◌≡◌, ◌≢◌, ◌⊎◌, inl, inr, ◌<◌, ◌≤◌, ℕ, ◌*◌, Bool, true, false, List, [], ◌∷◌, refl, sym, ◌∙◌, ap, subst, arith}
 use Rattle.disk.specs.Device.{Device, IsTornImage, LeavesOnly}
-use Rattle.segment_laws.specs.Held.{Held, IsHomeOfHeld}
+use Rattle.segment_laws.specs.Held.{HeldBatch, IsHomeOfHeld}
 use Rattle.segment_laws.specs.Images.{SameBut}
 use Rattle.journal_segments.specs.Staged.{IsStaged}
 use Rattle.journal.specs.Flight.{Flight, all_of}
@@ -14,7 +14,7 @@ use Rattle.segment_laws.proofs.Blocks.{torn_same, same_but_more, same_but_then, 
 use Rattle.std.proofs.lemmas.Bool.{true≢false}
 
 -- the superblock isn't touched
-no_home : (segments : ℕ) (held : List Held) → IsHomeOfHeld segments held 0 → ⊥
+no_home : (segments : ℕ) (held : List HeldBatch) → IsHomeOfHeld segments held 0 → ⊥
 no_home segments [] e = e
 no_home segments (h ∷ held) (inl e) = absurd (omega (arith, e.2))
 no_home segments (h ∷ held) (inr e) = no_home segments held e

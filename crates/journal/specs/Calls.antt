@@ -6,7 +6,7 @@ use Rattle.disk.specs.Device.{Device, Elapses, HasCause, IsRefused, IsSync, IsWr
 use Rattle.disk.specs.Device.{OnAsked, OnRefused, TearsAt}
 use Rattle.disk.specs.Image.{overwritten}
 use Rattle.model.specs.Volume.{descriptor_of, descriptor_place, gate_place, home_place, image_place}
-use Rattle.segment_laws.specs.Held.{Held}
+use Rattle.segment_laws.specs.Held.{HeldBatch}
 use Rattle.journal.specs.Flight.{held_at}
 use Rattle.journal.specs.Journal.{CountsFailures, IsSameBatch, JournalView, LeavesAdmitted, LeftAdmitted, all_held, calls, sizes}
 use Rattle.journal.specs.Journal.{with_batch}
@@ -25,7 +25,7 @@ pub data Call : Type 0 where
 
 -- The next call. It depends on the number of segments, on those that are open once the batch is committed, on the place
 -- of its segment, and on its descriptor block and images. At `Idle` there is none.
-abbrev pub call_at : Next → ℕ → List Held → ℕ → List ℕ → List (List ℕ) → Call
+abbrev pub call_at : Next → ℕ → List HeldBatch → ℕ → List ℕ → List (List ℕ) → Call
 call_at Descriptor segments held place descriptor images = Write (4096 * descriptor_place place) descriptor
 call_at (Image i) segments held place descriptor images = Write (4096 * image_place place i) (slice_index_or images i [])
 call_at OpenGate segments held place descriptor images = Write (4096 * gate_place place) (1 ∷ [])

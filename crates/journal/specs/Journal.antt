@@ -3,7 +3,7 @@ use Rattle.std.specs.Prelude.{◌≡◌, ◌≢◌, ◌⊎◌, ℕ, ◌+◌, ◌
 use Rattle.std.specs.Prelude.{OnOk, IfErr}
 use Rattle.std.specs.List.{All}
 use Rattle.disk.specs.Device.{Device}
-use Rattle.segment_laws.specs.Held.{Held}
+use Rattle.segment_laws.specs.Held.{HeldBatch}
 use Rattle.journal.specs.Flight.{counts_of}
 use Rattle.journal.specs.Inside.{IsAdmitted, IsVolume}
 use Rattle.journal.specs.Order.{calls_made}
@@ -29,7 +29,7 @@ pub record JournalView (D : Type 0) : Type 0 where
   -- a device call has failed
   pub halted : Bool
   -- the segments that were open when the batch in flight began, in rising number
-  pub held : List Held
+  pub held : List HeldBatch
   -- that batch: the place of its segment, its number, its last serial, and its images by their numbers
   pub place : ℕ
   pub number : ℕ
@@ -47,14 +47,14 @@ abbrev pub IsReady : {D : Type 0} → JournalView D → Type 0
 IsReady journal = (journal.halted ≡ false) × IsIdle journal
 
 -- the segments that are open once the batch in flight is committed
-abbrev pub all_held : {D : Type 0} → JournalView D → List Held
+abbrev pub all_held : {D : Type 0} → JournalView D → List HeldBatch
 all_held journal = journal.held ++ record {
   place = journal.place;
   batch = record { number = journal.number; last = journal.last; numbers = journal.numbers; images = journal.images };
 } ∷ []
 
 -- those that are open while no batch is in flight
-abbrev pub still_open : {D : Type 0} → JournalView D → List Held
+abbrev pub still_open : {D : Type 0} → JournalView D → List HeldBatch
 still_open journal = if journal.is_last then [] else all_held journal
 
 -- the number of images of each open segment that are carried home after the commit; empty if another closed segment is

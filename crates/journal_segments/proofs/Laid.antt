@@ -2,7 +2,7 @@
 use Rattle.std.proofs.Common.{◌≡◌, ◌≢◌, ◌<◌, ℕ, suc, ◌+◌, List, [], ◌∷◌, length, get_or, map, set, take, sym, ◌∙◌, ap, arith}
 use Rattle.std.proofs.lemmas.List.{get_or-set_other, get_or-set_same, map-append, map_more, take_all}
 use Rattle.model.specs.Volume.{Batch, all_laid_over, laid_over}
-use Rattle.segment_laws.specs.Held.{Held, batches_of}
+use Rattle.segment_laws.specs.Held.{HeldBatch, batches_of}
 use Rattle.segment_laws.proofs.Carrying.{laid_next}
 use Rattle.segment_laws.proofs.Laying.{all_append, length-all}
 use Rattle.journal_segments.specs.Staged.{Staged, held_as, none_staged, staged_at}
@@ -54,8 +54,8 @@ pub batch_put : (room : List Staged) (j : ℕ) → j < length room → (blocks :
 batch_put room j there blocks =
     let front = map held_as (take j room) in
     let h = held_as (staged_at room j) in
-    ap (λ (hs : List Held). all_laid_over blocks (batches_of hs)) (map_more held_as room j none_staged there)
-    ∙ ap (all_laid_over blocks) (map-append (λ (h : Held). h.batch) front (h ∷ []))
+    ap (λ (hs : List HeldBatch). all_laid_over blocks (batches_of hs)) (map_more held_as room j none_staged there)
+    ∙ ap (all_laid_over blocks) (map-append (λ (h : HeldBatch). h.batch) front (h ∷ []))
     ∙ all_append (batches_of front) (h.batch ∷ []) blocks
 
 pub block_put : (room : List Staged) (j k : ℕ) → j < length room → (blocks : List (List ℕ)) → k < length blocks → (before after : List ℕ)

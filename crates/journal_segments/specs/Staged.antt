@@ -2,7 +2,7 @@
 use Rattle.std.specs.Prelude.{◌≡◌, ◌<◌, ◌≤◌, ℕ, if◌then◌else◌, List, [], ◌∷◌, ◌++◌, length, nat_lt, slice_index_or, drop, take}
 use Rattle.std.specs.List.{All}
 use Rattle.model.specs.Volume.{AreDistinct, Batch, listed, number_at}
-use Rattle.segment_laws.specs.Held.{Held}
+use Rattle.segment_laws.specs.Held.{HeldBatch}
 
 -- a segment in memory: its place, its descriptor block, and the numbers and images of its batch
 pub record Staged : Type 0 where
@@ -12,7 +12,7 @@ pub record Staged : Type 0 where
   pub images : List (List ℕ)
 
 -- the batch that a segment in memory holds, with the segment's place
-abbrev pub held_as : Staged → Held
+abbrev pub held_as : Staged → HeldBatch
 held_as s = record {
   place = s.place;
   batch = record { number = number_at 0 8 s.descriptor; last = number_at 8 8 s.descriptor; numbers = s.numbers; images = s.images };

@@ -19,7 +19,7 @@ use Rattle.model.specs.declared.message.Message.TheVariants.{Line, Block, TooLon
 use Rattle.model.specs.declared.message.Mark.{Mark}
 use Rattle.model.specs.declared.message.Mode.{Mode}
 use Rattle.model.specs.declared.session.Session.{Session}
-use Rattle.outbox.specs.Queue.{Entry, Held, octets_in}
+use Rattle.outbox.specs.Queue.{ReadyEntry, HeldOutput, octets_in}
 use Rattle.spool.specs.View.{Dirties, IsSpool, SpoolView}
 use Rattle.volume.specs.Volume.{Differs}
 use Rattle.kernel.specs.Kernel.{KernelView, is_block, mode_at}
@@ -104,7 +104,7 @@ kept_grown s s' d f halted j seats (Some c) room sound adds h =
 
 -- ---- exec
 
-some_awaits : (held : List Held) (output : Held) (x : Session) → StillAwaits (held ++ output ∷ []) x
+some_awaits : (held : List HeldOutput) (output : HeldOutput) (x : Session) → StillAwaits (held ++ output ∷ []) x
 some_awaits [] output x = tt
 some_awaits (first ∷ held) output x = tt
 
@@ -248,7 +248,7 @@ kept_released s d f halted j seats h =
     }
 
 -- one session gives
-pub kept_gave : (s : SpoolView) (d : ℕ) (f : Option ℕ) (halted : Bool) (j : ℕ) (seats : List Seat) (entries : List Entry) (number : ℕ)
+pub kept_gave : (s : SpoolView) (d : ℕ) (f : Option ℕ) (halted : Bool) (j : ℕ) (seats : List Seat) (entries : List ReadyEntry) (number : ℕ)
     → IsKept (kernel_of s d f halted j seats) → IsKept (kernel_of s d f halted j (ready_of d entries number seats).seats)
 kept_gave s d f halted j seats entries number h = go (find (λ (seat : Seat). seat.number == number) seats) refl
   where

@@ -20,7 +20,7 @@ use Rattle.model.specs.declared.message.Mode.{Mode}
 use Rattle.model.specs.declared.message.Mode.TheVariants as mode
 use Rattle.model.specs.declared.session.Session.{Session}
 use Rattle.spool.specs.Refusals.{has_number}
-use Rattle.outbox.specs.Queue.{Entry, buffered as octets_held}
+use Rattle.outbox.specs.Queue.{ReadyEntry, buffered as octets_held}
 use Rattle.seats.specs.Seats.{Seat, answered_by, new_seat, ready, ready_of, with_seat}
 
 pub record KernelView : Type 0 where
@@ -195,7 +195,7 @@ abbrev pub released : KernelView → KernelView
 released kernel = record kernel { seats = (ready kernel.durable 65536 kernel.seats).seats }
 
 -- one session gives what is ready, after these entries
-abbrev pub released_of : KernelView → List Entry → ℕ → KernelView
+abbrev pub released_of : KernelView → List ReadyEntry → ℕ → KernelView
 released_of kernel entries number = record kernel { seats = (ready_of kernel.durable entries number kernel.seats).seats }
 
 -- what exec does to a session that exists: it answers what is read next, and the mark

@@ -15,7 +15,7 @@ use Rattle.model.proofs.Joined.{front_more}
 use Rattle.lookups.specs.Held.{Known, all_known, known}
 use Rattle.lookups.proofs.Absent.{greatest_last, last_of_groups}
 use Rattle.listing_commands.specs.Lists.{is_picked, last_of, later_of, line_of, lines_of, picked, rest_of, shown_as}
-use Rattle.listing_commands.specs.declared.groups.Pick.{Pick}
+use Rattle.listing_commands.specs.declared.groups.Choice.{Choice}
 use Rattle.listing_commands.specs.declared.groups.Show.{Show}
 use Rattle.listing_commands.specs.declared.groups.Show.TheVariants.{Active, Times, Newsgroups}
 
@@ -45,7 +45,7 @@ stuffed_group show l = ap stuffed_line (named show l) ∙ stuffed_front l.group.
 
 -- ---- one group more
 
-module _ (pick : Pick) (ks : List Known) (n : ℕ) (k : Known) (is : slice_get ks n ≡ Some k) where
+module _ (pick : Choice) (ks : List Known) (n : ℕ) (k : Known) (is : slice_get ks n ≡ Some k) where
   one : picked pick (take (n + 1) ks) ≡ picked pick (take n ks) ++ cond (is_picked pick k.listed.group) (k ∷ []) []
   one = ap (picked pick) (front_more ks n k is) ∙ filter-append (λ (h : Known). is_picked pick h.listed.group) (take n ks) (k ∷ [])
 
@@ -78,7 +78,7 @@ kept_first : {X Y : Type 0} (f : X → Y) (x : X) (xs : List X) (b : Bool) → c
 kept_first f x xs true = refl
 kept_first f x xs false = refl
 
-module _ (S : Spool) (pick : Pick) (test : NewsGroup → Bool) (same : (g : NewsGroup) → is_picked pick g ≡ test g) where
+module _ (S : Spool) (pick : Choice) (test : NewsGroup → Bool) (same : (g : NewsGroup) → is_picked pick g ≡ test g) where
   kept : (gs : List NewsGroup) → picked pick (map (known S) gs) ≡ map (known S) (filter test gs)
   kept [] = refl
   kept (g ∷ gs) = (λ i. cond (same g i) (known S g ∷ kept gs i) (kept gs i)) ∙ kept_first (known S) g (filter test gs) (test g)
@@ -109,7 +109,7 @@ module _ (S : Spool) (pick : Pick) (test : NewsGroup → Bool) (same : (g : News
   last_kept = ap (λ ks. greatest (map (λ (k : Known). k.last) ks)) (kept (groups S)) ∙ lasts (filter test (groups S))
 
 -- a list of the groups whose names pass a test
-module _ (host : Octets) (S : Spool) (pick : Pick) (test : Octets → Bool) (same : (g : NewsGroup) → is_picked pick g ≡ test g.name) where
+module _ (host : Octets) (S : Spool) (pick : Choice) (test : Octets → Bool) (same : (g : NewsGroup) → is_picked pick g ≡ test g.name) where
   pub block_listed : (show : Show) (status : Octets)
       → line status ++ lines_of pick show (all_known S) ++ dot_line ≡ block status (map (shown_as show) (listed S test))
   unfolding listed
@@ -119,7 +119,7 @@ module _ (host : Octets) (S : Spool) (pick : Pick) (test : Octets → Bool) (sam
   last_listed lawful = last_kept S pick (λ (g : NewsGroup). test g.name) same ∙ sym (last_of_groups host S test lawful)
 
 -- a list of the groups made since a moment
-module _ (S : Spool) (pick : Pick) (from : ℤ) (same : (g : NewsGroup) → is_picked pick g ≡ is_since from g.moment) where
+module _ (S : Spool) (pick : Choice) (from : ℤ) (same : (g : NewsGroup) → is_picked pick g ≡ is_since from g.moment) where
   made_since : (gs : List NewsGroup)
       → filter (λ (l : Listed). is_since from l.group.moment)
       (map (λ (g : NewsGroup). (known S g).listed) (filter (λ (g : NewsGroup). true) gs)) ≡ map (λ (g : NewsGroup). (known S g).listed)

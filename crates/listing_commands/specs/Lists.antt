@@ -5,19 +5,19 @@ use Rattle.model.specs.Names.{is_wildmat, wildmat_matches}
 use Rattle.model.specs.Spool.{Listed, NewsGroup, greatest, status_octet}
 use Rattle.model.specs.Stream.{Octets, crlf, line, stuffed_line}
 use Rattle.lookups.specs.Held.{Known}
-use Rattle.listing_commands.specs.declared.groups.Pick.{Pick}
-use Rattle.listing_commands.specs.declared.groups.Pick.TheVariants as pick
+use Rattle.listing_commands.specs.declared.groups.Choice.{Choice}
+use Rattle.listing_commands.specs.declared.groups.Choice.TheVariants as pick
 use Rattle.listing_commands.specs.declared.groups.Show.{Show}
 use Rattle.listing_commands.specs.declared.groups.Show.TheVariants as show
 
 -- whether this group is in a list
-abbrev pub is_picked : Pick → NewsGroup → Bool
+abbrev pub is_picked : Choice → NewsGroup → Bool
 is_picked pick.All g = true
 is_picked (pick.Matching w) g = wildmat_matches w.now g.name
 is_picked (pick.Since from) g = is_since from g.moment
 
 -- the wildmat is valid
-abbrev pub IsPick : Pick → Type 0
+abbrev pub IsPick : Choice → Type 0
 IsPick pick.All = Unit {0}
 IsPick (pick.Matching w) = IsTrue (is_wildmat w.now)
 IsPick (pick.Since from) = Unit {0}
@@ -35,20 +35,20 @@ rest_of show.Times l = 32 ∷ decimal l.group.moment ++ codes " admin" ++ crlf
 rest_of show.Newsgroups l = 9 ∷ l.group.description ++ crlf
 
 -- the line of a group as a block sends it, if the group is in a list
-abbrev pub line_of : Pick → Show → Known → Octets
+abbrev pub line_of : Choice → Show → Known → Octets
 line_of pick show k = if is_picked pick k.listed.group then stuffed_line (line (shown_as show k.listed)) else []
 
 -- the last serial so far, with that of this group if the group is in a list
-abbrev pub later_of : Pick → ℕ → Known → ℕ
+abbrev pub later_of : Choice → ℕ → Known → ℕ
 later_of pick last k = if is_picked pick k.listed.group then max last k.last else last
 
-abbrev pub picked : Pick → List Known → List Known
+abbrev pub picked : Choice → List Known → List Known
 picked pick groups = filter (λ k. is_picked pick k.listed.group) groups
 
 -- the lines of the groups in a list, as a block sends them
-abbrev pub lines_of : Pick → Show → List Known → Octets
+abbrev pub lines_of : Choice → Show → List Known → Octets
 lines_of pick show groups = flat_map (λ k. stuffed_line (line (shown_as show k.listed))) (picked pick groups)
 
 -- the last serial that names one of the groups in a list
-abbrev pub last_of : Pick → List Known → ℕ
+abbrev pub last_of : Choice → List Known → ℕ
 last_of pick groups = greatest (map (λ k. k.last) (picked pick groups))

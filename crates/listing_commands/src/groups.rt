@@ -16,7 +16,7 @@ use std::alloc::AllocError;
 
 /// Which groups are in a list.
 #[derive(Clone, Copy)]
-pub enum Pick<'a> {
+pub enum Choice<'a> {
     All,
     /// those whose names the wildmat matches
     Matching(&'a [u8]),
@@ -33,25 +33,25 @@ pub enum Show {
 }
 
 /// The groups whose names the wildmat matches, or all groups if there is no wildmat.
-pub fn pick_of(wildmat: &Option<Text>) -> Pick<'_>
+pub fn pick_of(wildmat: &Option<Text>) -> Choice<'_>
     requires { IfSome wildmat.now (λ w. IsTrue (is_wildmat w)) }
     ensures same { (g : NewsGroup) → is_picked result g ≡ is_listed wildmat.now g.name }
     ensures is { IsPick result }
 {
     match wildmat {
-        Some(wildmat) => Pick::Matching(wildmat.as_slice()),
-        None => Pick::All,
+        Some(wildmat) => Choice::Matching(wildmat.as_slice()),
+        None => Choice::All,
     }
 }
 
-fn is_picked(pick: &Pick<'_>, group: &GroupView<'_>) -> bool
+fn is_picked(pick: &Choice<'_>, group: &GroupView<'_>) -> bool
     requires { IsPick pick.now }
     ensures { result ≡ is_picked pick.now (shown group.now).listed.group }
 {
     match pick {
-        Pick::All => true,
-        Pick::Matching(wildmat) => wildmat_matches(wildmat, group.name),
-        Pick::Since(from) => is_since(*from, group.moment),
+        Choice::All => true,
+        Choice::Matching(wildmat) => wildmat_matches(wildmat, group.name),
+        Choice::Since(from) => is_since(*from, group.moment),
     }
 }
 
@@ -99,7 +99,7 @@ fn push_group(reply: &mut Vec<u8>, show: Show, group: &GroupView<'_>) -> Result<
 /// Appends the line of a group, if it is picked, and answers the last serial that names a group picked so far.
 fn push_picked(
     reply: &mut Vec<u8>,
-    pick: &Pick<'_>,
+    pick: &Choice<'_>,
     show: Show,
     group: &GroupView<'_>,
     last: u64,
@@ -119,7 +119,7 @@ fn push_picked(
 /// no group is picked.
 pub fn push_groups<L: LookUps>(
     spool: &L,
-    pick: &Pick<'_>,
+    pick: &Choice<'_>,
     show: Show,
     reply: &mut Vec<u8>,
 ) -> Result<u64, AllocError>

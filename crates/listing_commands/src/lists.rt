@@ -9,11 +9,11 @@ ghost use Rattle.model.specs.Spool.{listed};
 ghost use Rattle.listing_commands.specs.Lists.{shown_as};
 ghost use Rattle.replies.specs.Answered.{answered};
 
-use crate::groups::{Pick, Show, pick_of, push_groups};
+use crate::groups::{Choice, Show, pick_of, push_groups};
 use lookups::LookUps;
 use model::{Listing, Moment, Session, Text};
 use replies::{
-    Answered, Block, Heading, Reply, push_end, push_heading, says, says_block, says_line,
+    Answered, FixedBlock, Heading, Reply, push_end, push_heading, says, says_block, says_line,
 };
 use stamp::read_since;
 use std::alloc::{AllocError, Global};
@@ -35,7 +35,7 @@ pub fn list<L: LookUps>(
         Listing::Active => list_groups(alloc, spool, session, wildmat, Show::Active),
         Listing::Times => list_groups(alloc, spool, session, wildmat, Show::Times),
         Listing::Newsgroups => list_groups(alloc, spool, session, wildmat, Show::Newsgroups),
-        Listing::OverviewFormat => says_block(alloc, session, Block::OverviewFormat),
+        Listing::OverviewFormat => says_block(alloc, session, FixedBlock::OverviewFormat),
     }
 }
 
@@ -93,7 +93,7 @@ fn groups_since<L: LookUps>(
 {
     let mut reply = Vec::new(alloc);
     push_heading(&mut reply, Heading::Groups)?;
-    push_groups(spool, &Pick::Since(from), Show::Active, &mut reply)?;
+    push_groups(spool, &Choice::Since(from), Show::Active, &mut reply)?;
     push_end(&mut reply)?;
     says(alloc, session, reply, spool.len())
 }

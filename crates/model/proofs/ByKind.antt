@@ -4,10 +4,11 @@ use Rattle.std.specs.Prelude.{flat_map, filter_map, IsPermutation}
 use Rattle.std.specs.List.{Contains}
 use Rattle.std.proofs.lemmas.List.{append_assoc}
 use Rattle.std.proofs.lemmas.List.Elements.{Contains-append_left, Contains-append_right}
-use Rattle.std.proofs.lemmas.List.Sorted.{Contains-permutation, IsPermutation-append_right, IsPermutation-cons, IsPermutation-middle, IsPermutation-refl}
+use Rattle.std.proofs.lemmas.List.Sorted.{Contains-permutation, IsPermutation-append_right, IsPermutation-cons, IsPermutation-middle}
+use Rattle.std.proofs.lemmas.List.Sorted.{IsPermutation-refl}
 use Rattle.std.proofs.lemmas.List.Sorted.{IsPermutation-sym, IsPermutation-trans}
 use Rattle.model.specs.Files.{File}
-use Rattle.model.specs.Spool.{Spool, Entry, entries_from, entries, group_made, article_filed, expiry_made, groups, articles, expiries}
+use Rattle.model.specs.Spool.{Spool, SpoolEntry, entries_from, entries, group_made, article_filed, expiry_made, groups, articles, expiries}
 use Rattle.model.specs.Spool.{NewsGroup, news_article, news_expiry, news_group}
 use Rattle.model.specs.FileKinds.{article_file, expiry_file, files_by_kind, group_files}
 use Rattle.model.specs.SpoolFiles.{entry_files, files_of, overview_file, overview_name}
@@ -15,13 +16,13 @@ use Rattle.model.specs.Laws.SpoolFiles.{FilesAreByKind}
 use Rattle.model.specs.declared.change.Change.TheVariants.{Group, Article, Expire}
 
 module _ (S : Spool) where
-  abbrev of_groups : List Entry → List File
+  abbrev of_groups : List SpoolEntry → List File
   of_groups es = flat_map (group_files S) (filter_map group_made es)
 
-  abbrev of_articles : List Entry → List File
+  abbrev of_articles : List SpoolEntry → List File
   of_articles es = map article_file (filter_map article_filed es)
 
-  abbrev of_expiries : List Entry → List File
+  abbrev of_expiries : List SpoolEntry → List File
   of_expiries es = map expiry_file (filter_map expiry_made es)
 
   by_kind : (n : ℕ) (R : Spool) → IsPermutation (flat_map (entry_files S) (entries_from n R))

@@ -6,7 +6,6 @@ use Rattle.std.specs.List.{Contains, range_with_len, flat_map, list_any}
 use Rattle.std.specs.Option.{option_to_list}
 use Rattle.std.proofs.lemmas.Bool.{cases_lt, cases_eq, cond-true, cond-false, eqb-true, eq-eqb, ne_eqb, lt-ltb, le-ltb}
 use Rattle.std.proofs.lemmas.Bool.{false_from_ne_true, true≢false}
-use Rattle.std.proofs.lemmas.List.{get_or_default}
 use Rattle.std.proofs.lemmas.List.Elements.{Contains-append_left, Contains-append_right, Contains-append_cases}
 use Rattle.std.proofs.lemmas.List.FromFn.{length-range_with_len}
 use Rattle.std.proofs.lemmas.List.Sums.{sum_by-cons, sum_by-append}
@@ -16,6 +15,7 @@ use Rattle.model.specs.Files.{File, HasRoom, IsFile, IsFree, IsFileSystem, conte
 use Rattle.model.specs.Files.{free_blocks, indirect_for, is_marked_used, kind, name_in, owned, size, slot_of, table, IsUsed}
 use Rattle.model.specs.Room.{blocks_for, blocks_of_files, content_blocks}
 use Rattle.model.specs.Laws.Room.{FreeIsBeside}
+use Rattle.model.proofs.Distinct.{distinct_append, distinct_cons, distinct_head, distinct_none, distinct_tail}
 use Rattle.model.proofs.Owning.{free_kind, free_owns, owned_with, owned_without, content_size}
 
 -- ---- counts
@@ -100,25 +100,7 @@ count_one m a (suc n) low high = elim (cases_eq m a) [
   )
 ]
 
--- ---- lists without a number twice
-
-abbrev Once : List ℕ → Type 0
-Once [] = Unit {0}
-Once (n ∷ ns) = (¬ (Contains ns n)) × Once ns
-
-once : (ns : List ℕ) → AreDistinct ns → Once ns
-once [] distinct = tt
-once (n ∷ ns) distinct = (
-  (λ has. distinct 0 (suc has.0) (omega arith) (omega (arith, has.1)) (sym (get_or_default ns has.0 0 n has.1 ∙ has.2))),
-  once ns (λ i j less low same. distinct (suc i) (suc j) (omega arith) (omega arith) same),
-)
-
-once_append : (xs ys : List ℕ) → Once xs → Once ys → ((b : ℕ) → Contains xs b → Contains ys b → ⊥) → Once (xs ++ ys)
-once_append [] ys first second apart = second
-once_append (x ∷ xs) ys first second apart = (
-  (λ has. elim (Contains-append_cases xs ys x has) [ inl here ↦ first.0 here | inr there ↦ apart x (0, omega arith, refl) there ]),
-  once_append xs ys first.1 second (λ b has other. apart b (suc has.0, omega (arith, has.1), has.2) other),
-)
+-- ---- numbers in a list
 
 -- among these numbers
 abbrev among : List ℕ → ℕ → Bool
@@ -140,7 +122,7 @@ from_among (n ∷ ns) b is = by_first (eqb n b) refl is (from_among ns b) where
   by_first false here there rest = let found = rest there in (suc found.0, omega (arith, found.1), found.2)
 
 -- this many numbers below the limit
-count_among : (limit : ℕ) (ns : List ℕ) → Once ns → ((b : ℕ) → Contains ns b → b < limit)
+count_among : (limit : ℕ) (ns : List ℕ) → AreDistinct ns → ((b : ℕ) → Contains ns b → b < limit)
     → count_by (among ns) (range_with_len 0 limit) ≡ length ns
 count_among limit [] distinct below = none 0 limit where
   none : (a n : ℕ) → count_by (λ (b : ℕ). false) (range_with_len a n) ≡ 0
@@ -149,9 +131,10 @@ count_among limit [] distinct below = none 0 limit where
 count_among limit (n ∷ ns) distinct below =
     let fits : n < 0 + limit = omega (arith, below n (0, omega arith, refl)) in
     let here = count_one n 0 limit (omega arith) fits in
-    let rest = count_among limit ns distinct.1 (λ b has. below b (suc has.0, omega (arith, has.1), has.2)) in
+    let rest = count_among limit ns (distinct_tail n ns distinct) (λ b has. below b (suc has.0, omega (arith, has.1), has.2)) in
     let both = count_either (λ b. eqb n b) (among ns)
-    (λ b first second. distinct.0 (subst (Contains ns) (sym (eqb-true n b first)) (from_among ns b second))) (range_with_len 0 limit) in
+    (λ b first second. distinct_head n ns distinct (subst (Contains ns) (sym (eqb-true n b first)) (from_among ns b second)))
+        (range_with_len 0 limit) in
     omega (arith, here, rest, both)
 
 -- ---- the blocks in use
@@ -169,9 +152,10 @@ in_range a (suc n) b low high = elim (cases_eq a b) [
   | inr other ↦ let rest = in_range (a + 1) n b (omega arith) (omega arith) in (suc rest.0, omega (arith, rest.1), rest.2)
 ]
 
-range_once : (a n : ℕ) → Once (range_with_len a n)
-range_once a zero = tt
-range_once a (suc n) = ((λ has. omega (arith, (range_has (a + 1) n a has).0)), range_once (a + 1) n)
+range_distinct : (a n : ℕ) → AreDistinct (range_with_len a n)
+range_distinct a zero = distinct_none
+range_distinct a (suc n) = distinct_cons a (range_with_len (a + 1) n) (λ has. omega (arith, (range_has (a + 1) n a has).0))
+    (range_distinct (a + 1) n)
 
 module _ (inodes : ℕ) (blocks : List Octets) (fs : IsFileSystem inodes blocks) where
   abbrev owned_at : ℕ → List ℕ
@@ -203,10 +187,10 @@ module _ (inodes : ℕ) (blocks : List Octets) (fs : IsFileSystem inodes blocks)
     | inr other ↦ Contains-append_right (owned_at a) (owned_from (a + 1) n) b (owned_in (a + 1) n k b (omega arith) (omega arith) has)
   ]
 
-  owned_once : (a n : ℕ) → a + n ≤ inodes → Once (owned_from a n)
-  owned_once a zero few = tt
-  owned_once a (suc n) few =
-      once_append (owned_at a) (owned_from (a + 1) n) (once (owned_at a) (fs.distinct a (omega arith))) (owned_once (a + 1) n (omega arith))
+  owned_distinct : (a n : ℕ) → a + n ≤ inodes → AreDistinct (owned_from a n)
+  owned_distinct a zero few = distinct_none
+  owned_distinct a (suc n) few =
+      distinct_append (owned_at a) (owned_from (a + 1) n) (fs.distinct a (omega arith)) (owned_distinct (a + 1) n (omega arith))
       (λ b here later.
       let other = owner (a + 1) n b later in
       let same : a ≡ other.inode = fs.one_owner a other.inode b (omega arith) (omega (arith, other.below)) here other.owns in
@@ -216,9 +200,9 @@ module _ (inodes : ℕ) (blocks : List Octets) (fs : IsFileSystem inodes blocks)
   abbrev used : List ℕ
   used = range_with_len 0 (first_data inodes) ++ owned_from 0 inodes
 
-  used_once : Once used
-  used_once = once_append (range_with_len 0 (first_data inodes)) (owned_from 0 inodes) (range_once 0 (first_data inodes))
-      (owned_once 0 inodes (omega arith)) (λ b reserved later.
+  used_distinct : AreDistinct used
+  used_distinct = distinct_append (range_with_len 0 (first_data inodes)) (owned_from 0 inodes) (range_distinct 0 (first_data inodes))
+      (owned_distinct 0 inodes (omega arith)) (λ b reserved later.
       let its = owner 0 inodes b later in
       omega (arith, (range_has 0 (first_data inodes) b reserved).1, (fs.within its.inode b (omega (arith, its.below)) its.owns).0))
 
@@ -253,7 +237,7 @@ module _ (inodes : ℕ) (blocks : List Octets) (fs : IsFileSystem inodes blocks)
   free_count room =
       let marked = count_same (is_marked_used blocks) (among used) 0 (length blocks)
       (λ b low high. marks_among b (omega (arith, room.count_few))) in
-      let counted = count_among (length blocks) used used_once (λ b has. used_below b (omega (arith, room.room)) has) in
+      let counted = count_among (length blocks) used used_distinct (λ b has. used_below b (omega (arith, room.room)) has) in
       omega (arith, count_not (is_marked_used blocks) 0 (length blocks), marked, counted)
 
   -- ---- by files

@@ -8,7 +8,7 @@ use Rattle.std.proofs.lemmas.List.Elements.{All-nil}
 use Rattle.byteorder.specs.Endian.{little_from}
 use Rattle.model.specs.Stream.{Octets}
 use Rattle.model.specs.Volume.{number_at}
-use Rattle.model.specs.Files.{Entry, IsFile, block_count, content_of, double_pointer, entry_of, indirect_count, indirect_of}
+use Rattle.model.specs.Files.{FileEntry, IsFile, block_count, content_of, double_pointer, entry_of, indirect_count, indirect_of}
 use Rattle.model.specs.Files.{indirect_pointer, owned, pointer, size}
 use Rattle.model.specs.Laws.Formats.{EntryOne, FilesOfFormatOne, IsFileOne, ReadAsFormatOne, content_one, count_one, entry_one}
 use Rattle.model.specs.Laws.Formats.{indirect_one, owned_one, pointer_one}
@@ -65,7 +65,7 @@ pub none_number : (at : ℕ) → number_at at 4 [] ≡ 0
 none_number at = zero_number at 4 [] (All-nil (λ o. o ≡ 0))
 
 module _ (blocks : List Octets) (inode slot : Octets) where
-  abbrev e : Entry
+  abbrev e : FileEntry
   e = entry_of blocks inode slot
 
   abbrev o : EntryOne
@@ -177,7 +177,7 @@ flat_map_same f g a (suc n) same =
     ∙ ap (λ (l : Octets). g a ++ l) (flat_map_same f g (a + 1) n (λ i low high. same i (omega (arith, low)) (omega (arith, high))))
 
 module _ (blocks : List Octets) (inode slot : Octets) (file : IsFileOne (entry_one blocks inode slot)) where
-  abbrev ee : Entry
+  abbrev ee : FileEntry
   ee = entry_of blocks inode slot
 
   abbrev oo : EntryOne

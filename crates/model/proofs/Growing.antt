@@ -14,7 +14,7 @@ use Rattle.model.specs.Stream.{Octets}
 use Rattle.model.specs.Article.{Carried, are_distinct, groups_of, overview_line}
 use Rattle.model.specs.Names.{is_group_name}
 use Rattle.model.specs.Files.{File}
-use Rattle.model.specs.Spool.{Spool, Entry, entries_from, entries, NewsArticle, NewsGroup, group_made, article_filed, is_name, groups}
+use Rattle.model.specs.Spool.{Spool, SpoolEntry, entries_from, entries, NewsArticle, NewsGroup, group_made, article_filed, is_name, groups}
 use Rattle.model.specs.Spool.{articles, filed_in, group_named, is_here, news_article, news_group}
 use Rattle.model.specs.Records.{last_digits}
 use Rattle.model.specs.SpoolFiles.{group_name, numbers_name, overview_name, article_name, expiry_name, number_record, number_records}
@@ -129,10 +129,11 @@ numbers_push filed a =
 -- ---- what is filed in a group
 
 pub filed_article : (S : Spool) (g : Octets) (f : Filing)
-    → filed_in (S ++ Article f ∷ []) g ≡ filed_in S g ++ cond (list_any (is_name g) f.envelope.groups) (news_article (length S + 1) f ∷ []) []
+    → filed_in (S ++ Article f ∷ []) g ≡ filed_in S g
+        ++ cond (list_any (is_name g) f.envelope.groups) (news_article (length S + 1) f ∷ []) []
 unfolding filed_in articles entries
 filed_article S g f =
-    let e : Entry = record { serial = length S + 1; change = Article f } in
+    let e : SpoolEntry = record { serial = length S + 1; change = Article f } in
     ap (λ es. filter (λ a. list_any (is_name g) a.groups) (filter_map article_filed es)) (entries_push 1 S (Article f))
     ∙ ap (filter (λ a. list_any (is_name g) a.groups)) (filter_map-append article_filed (entries_from 1 S) (e ∷ []))
     ∙ filter-append (λ a. list_any (is_name g) a.groups) (filter_map article_filed (entries_from 1 S)) (filter_map article_filed (e ∷ []))
@@ -141,7 +142,7 @@ pub filed_no_more : (S : Spool) (g : Octets) (c : Change)
     → filter_map article_filed (record { serial = length S + 1; change = c } ∷ []) ≡ [] → filed_in (S ++ c ∷ []) g ≡ filed_in S g
 unfolding filed_in articles entries
 filed_no_more S g c none =
-    let e : Entry = record { serial = length S + 1; change = c } in
+    let e : SpoolEntry = record { serial = length S + 1; change = c } in
     let p : NewsArticle → Bool = λ a. list_any (is_name g) a.groups in
     ap (λ es. filter p (filter_map article_filed es)) (entries_push 1 S c)
     ∙ ap (filter p) (filter_map-append article_filed (entries_from 1 S) (e ∷ [])
@@ -243,7 +244,7 @@ left_alone : (R : Spool) (name octets : Octets) → IsOfChange name → (n : ℕ
     → map (appended name octets) (flat_map (entry_files R) (entries_from n S)) ≡ flat_map (entry_files R) (entries_from n S)
 left_alone R name octets own n [] lack = refl
 left_alone R name octets own n (c ∷ S) lack =
-    let e : Entry = record { serial = n; change = c } in
+    let e : SpoolEntry = record { serial = n; change = c } in
     map-append (appended name octets) (entry_files R e) (flat_map (entry_files R) (entries_from (suc n) S))
     ∙ ap (λ fs. fs ++ map (appended name octets) (flat_map (entry_files R) (entries_from (suc n) S)))
     (left_entry R name octets own n c lack.0)
@@ -311,8 +312,8 @@ calls_after fs (call ∷ calls) more = calls_after (after_call fs call) calls mo
 
 -- ---- the files of the earlier changes
 
-entries_same : (f g : Entry → List File)
-    → ((n : ℕ) (c : Change) → f (record { serial = n; change = c }) ≡ g (record { serial = n; change = c })) → (es : List Entry)
+entries_same : (f g : SpoolEntry → List File)
+    → ((n : ℕ) (c : Change) → f (record { serial = n; change = c }) ≡ g (record { serial = n; change = c })) → (es : List SpoolEntry)
     → flat_map f es ≡ flat_map g es
 entries_same f g same [] = refl
 entries_same f g same (e ∷ es) = ap (λ xs. xs ++ flat_map f es) (same e.serial e.change) ∙ ap (λ xs. g e ++ xs) (entries_same f g same es)
@@ -334,7 +335,7 @@ with_change : (S : Spool) (c : Change)
 unfolding files_of entries
 with_change S c =
     let R = S ++ c ∷ [] in
-    let e : Entry = record { serial = length S + 1; change = c } in
+    let e : SpoolEntry = record { serial = length S + 1; change = c } in
     ap (flat_map (entry_files R)) (entries_push 1 S c) ∙ flat_map-append (entry_files R) (entries_from 1 S) (e ∷ [])
     ∙ ap (λ fs. flat_map (entry_files R) (entries_from 1 S) ++ fs) (append-nil (entry_files R e))
 
@@ -475,13 +476,16 @@ module _ (S : Spool) (filing : Filing) (distinct : are_distinct filing.envelope.
       → map (through S filing.text filing.envelope.groups) (entry_files S (record { serial = n; change = c }))
       ≡ entry_files longer (record { serial = n; change = c })
   entry_grows n (Article filing') =
-      let first = passes S filing.text filing.envelope.groups (change_file (record { serial = n; change = Article filing' })) (λ g. (refl, refl)) in
+      let first = passes S filing.text filing.envelope.groups (change_file (record { serial = n; change = Article filing' }))
+          (λ g. (refl, refl)) in
       λ i. first i ∷ []
   entry_grows n (Expire expiry) =
-      let first = passes S filing.text filing.envelope.groups (change_file (record { serial = n; change = Expire expiry })) (λ g. (refl, refl)) in
+      let first = passes S filing.text filing.envelope.groups (change_file (record { serial = n; change = Expire expiry }))
+          (λ g. (refl, refl)) in
       λ i. first i ∷ []
   entry_grows n (Group created) =
-      let first = passes S filing.text filing.envelope.groups (change_file (record { serial = n; change = Group created })) (λ g. (refl, refl)) in
+      let first = passes S filing.text filing.envelope.groups (change_file (record { serial = n; change = Group created }))
+          (λ g. (refl, refl)) in
       let second = numbers_gain S filing.text created.name (numbers_file S created.name) filing.envelope.groups distinct
       ∙ ap (λ os. record { name = numbers_name created.name; content = os }) (sym (numbers_more created.name)) in
       let third = overview_gains S filing.text created.name (overview_file S created.name) filing.envelope.groups distinct
@@ -497,7 +501,8 @@ module _ (S : Spool) (filing : Filing) (distinct : are_distinct filing.envelope.
       let old : map (through S filing.text filing.envelope.groups) (files_of S) ≡ flat_map (entry_files longer) (entries S) =
       ap (map (through S filing.text filing.envelope.groups)) (files_by_change S)
       ∙ map_joined (through S filing.text filing.envelope.groups) (entry_files S) (entries S)
-      ∙ entries_same (λ e. map (through S filing.text filing.envelope.groups) (entry_files S e)) (entry_files longer) entry_grows (entries S) in
+      ∙ entries_same (λ e. map (through S filing.text filing.envelope.groups) (entry_files S e)) (entry_files longer) entry_grows
+          (entries S) in
       with_change S (Article filing)
       ∙ ap (λ fs. fs ++ its ∷ []) (sym old)
       ∙ ap (λ (f : File). map (through S filing.text filing.envelope.groups) (files_of S) ++ f ∷ []) (sym own)

@@ -13,7 +13,8 @@ use Rattle.byteorder.specs.Endian.{little_bytes}
 use Rattle.model.specs.Stream.{Octets}
 use Rattle.model.specs.Article.{Carried, cause, cause_but_long, header, is_short}
 use Rattle.model.specs.Files.{File, table, file_at}
-use Rattle.model.specs.Spool.{Spool, Entry, entries_from, entries, NewsArticle, article_filed, articles, filed_in, is_name, news_article}
+use Rattle.model.specs.Spool.{Spool, SpoolEntry, entries_from, entries, NewsArticle, article_filed, articles, filed_in, is_name}
+use Rattle.model.specs.Spool.{news_article}
 use Rattle.model.specs.Spool.{filing_of, news_expiry, news_group, status_octet}
 use Rattle.model.specs.Records.{group_record, article_record, expiry_record}
 use Rattle.model.specs.FileKinds.{HasRoomInFile}
@@ -197,19 +198,19 @@ entry_in n (c ∷ S) (suc k) low =
       rest.2,
     )
 
-pub record StandsAt (n : ℕ) (S : Spool) (e : Entry) : Type 0 where
+pub record StandsAt (n : ℕ) (S : Spool) (e : SpoolEntry) : Type 0 where
   pub at : ℕ
   pub below : at < length S
   pub serial : e.serial ≡ n + at
   pub change : e.change ≡ get_or S at no_change
 
-pub entry_at : (n : ℕ) (S : Spool) (e : Entry) → Contains (entries_from n S) e → StandsAt n S e
+pub entry_at : (n : ℕ) (S : Spool) (e : SpoolEntry) → Contains (entries_from n S) e → StandsAt n S e
 entry_at n [] e (k, low, is) = absurd (omega arith)
 entry_at n (c ∷ S) e (zero, low, is) = record {
   at = 0;
   below = omega arith;
-  serial = let one : n ≡ e.serial = ap (λ (x : Entry). x.serial) is in omega arith;
-  change = ap (λ (x : Entry). x.change) (sym is);
+  serial = let one : n ≡ e.serial = ap (λ (x : SpoolEntry). x.serial) is in omega arith;
+  change = ap (λ (x : SpoolEntry). x.change) (sym is);
 }
 entry_at n (c ∷ S) e (suc k, low, is) =
     let rest = entry_at (suc n) S e (k, omega arith, is) in
@@ -220,7 +221,7 @@ entry_at n (c ∷ S) e (suc k, low, is) =
 pub files_many : (S : Spool) (n : ℕ) (R : Spool) → length R ≤ length (flat_map (entry_files S) (entries_from n R))
 files_many S n [] = omega arith
 files_many S n (c ∷ R) =
-    let first : Entry = record { serial = n; change = c } in
+    let first : SpoolEntry = record { serial = n; change = c } in
     omega (arith, files_many S (suc n) R, length-append (entry_files S first) (flat_map (entry_files S) (entries_from (suc n) R)))
 
 pub there_few : (inodes : List (Option File)) → length (flat_map option_to_list inodes) ≤ length inodes

@@ -11,7 +11,7 @@ use Rattle.std.proofs.lemmas.Slice.Eq.{bytes_eq-Decides}
 use Rattle.model.specs.Stream.{Octets}
 use Rattle.model.specs.Indexed.{ends_from, group_index, GroupIndex, line_start, new_index, note_of, with_article, with_expiry}
 use Rattle.model.specs.Lawful.{MayFollow, IsLawfulAfter, IsLawful}
-use Rattle.model.specs.Spool.{Spool, Entry, entries_from, entries, NewsExpiry, NewsArticle, NewsGroup, expiries_of, filed_in, greatest}
+use Rattle.model.specs.Spool.{Spool, SpoolEntry, entries_from, entries, NewsExpiry, NewsArticle, NewsGroup, expiries_of, filed_in, greatest}
 use Rattle.model.specs.Spool.{is_here, is_name, last_naming, last_naming_one, low, names_one, expiry_made, articles, expiries, groups}
 use Rattle.model.specs.Spool.{group_named, by_id, news_article, news_expiry}
 use Rattle.model.specs.FileCalls.{next_line}
@@ -117,17 +117,17 @@ greatest_more (m ∷ ns) n = ap (max m) (greatest_more ns n) ∙ omega arith
 greatest_push : (ns : List ℕ) (m : ℕ) → greatest ns ≤ m → greatest (ns ++ m ∷ []) ≡ m
 greatest_push ns m small = greatest_more ns m ∙ omega (arith, small)
 
-abbrev serials_of : (Octets → Bool) → List Entry → List ℕ
-serials_of test es = map (λ (e : Entry). e.serial) (filter (λ (e : Entry). names_one test e.change) es)
+abbrev serials_of : (Octets → Bool) → List SpoolEntry → List ℕ
+serials_of test es = map (λ (e : SpoolEntry). e.serial) (filter (λ (e : SpoolEntry). names_one test e.change) es)
 
 serials_most : (test : Octets → Bool) (n : ℕ) (S : Spool) → greatest (serials_of test (entries_from n S)) ≤ length S + n
 serials_most test n [] = omega arith
 serials_most test n (c ∷ S) = by_test (names_one test c) (serials_most test (suc n) S) where
-  later : List Entry
-  later = filter (λ (e : Entry). names_one test e.change) (entries_from (suc n) S)
+  later : List SpoolEntry
+  later = filter (λ (e : SpoolEntry). names_one test e.change) (entries_from (suc n) S)
 
-  by_test : (b : Bool) → greatest (map (λ (e : Entry). e.serial) later) ≤ length S + suc n
-      → greatest (map (λ (e : Entry). e.serial) (cond b (record { serial = n; change = c } ∷ later) later)) ≤ suc (length S) + n
+  by_test : (b : Bool) → greatest (map (λ (e : SpoolEntry). e.serial) later) ≤ length S + suc n
+      → greatest (map (λ (e : SpoolEntry). e.serial) (cond b (record { serial = n; change = c } ∷ later) later)) ≤ suc (length S) + n
   by_test true small = omega arith
   by_test false small = omega arith
 
@@ -135,23 +135,23 @@ last_push : (S : Spool) (c : Change) (test : Octets → Bool)
     → last_naming_one (S ++ c ∷ []) test ≡ cond (names_one test c) (length S + 1) (last_naming_one S test)
 unfolding last_naming_one entries
 last_push S c test =
-    let e : Entry = record { serial = length S + 1; change = c } in
+    let e : SpoolEntry = record { serial = length S + 1; change = c } in
     ap (λ es. greatest (serials_of test es)) (entries_push 1 S c)
-    ∙ ap (λ (es : List Entry). greatest (map (λ (x : Entry). x.serial) es))
-    (filter-append (λ (x : Entry). names_one test x.change) (entries_from 1 S) (e ∷ []))
+    ∙ ap (λ (es : List SpoolEntry). greatest (map (λ (x : SpoolEntry). x.serial) es))
+    (filter-append (λ (x : SpoolEntry). names_one test x.change) (entries_from 1 S) (e ∷ []))
     ∙ by_test (names_one test c)
   where
-    front : List Entry
-    front = filter (λ (x : Entry). names_one test x.change) (entries_from 1 S)
+    front : List SpoolEntry
+    front = filter (λ (x : SpoolEntry). names_one test x.change) (entries_from 1 S)
 
-    its : Entry
+    its : SpoolEntry
     its = record { serial = length S + 1; change = c }
 
-    by_test : (b : Bool) → greatest (map (λ (x : Entry). x.serial) (front ++ cond b (its ∷ []) []))
-        ≡ cond b (length S + 1) (greatest (map (λ (x : Entry). x.serial) front))
-    by_test false = ap (λ (es : List Entry). greatest (map (λ (x : Entry). x.serial) es)) (append-nil front)
-    by_test true = ap greatest (map_push (λ (x : Entry). x.serial) front its)
-        ∙ greatest_push (map (λ (x : Entry). x.serial) front) (length S + 1) (serials_most test 1 S)
+    by_test : (b : Bool) → greatest (map (λ (x : SpoolEntry). x.serial) (front ++ cond b (its ∷ []) []))
+        ≡ cond b (length S + 1) (greatest (map (λ (x : SpoolEntry). x.serial) front))
+    by_test false = ap (λ (es : List SpoolEntry). greatest (map (λ (x : SpoolEntry). x.serial) es)) (append-nil front)
+    by_test true = ap greatest (map_push (λ (x : SpoolEntry). x.serial) front its)
+        ∙ greatest_push (map (λ (x : SpoolEntry). x.serial) front) (length S + 1) (serials_most test 1 S)
 
 -- ---- groups
 
@@ -191,7 +191,8 @@ size filed line = omega arith
 
 pub articles_grow : ArticlesGrow
 articles_grow S filing g =
-    by_test (list_any (is_name g.name) filing.envelope.groups) (filed_article S g.name filing) (last_push S (Article filing) (is_name g.name)) where
+    by_test (list_any (is_name g.name) filing.envelope.groups) (filed_article S g.name filing)
+        (last_push S (Article filing) (is_name g.name)) where
       R : Spool
       R = S ++ Article filing ∷ []
 

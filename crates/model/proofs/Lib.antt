@@ -5,6 +5,7 @@ pub mod TooLongLaws
 pub mod DroppedLaws
 pub mod ReadBackLaws
 pub mod CalendarLaws
+pub mod Distinct
 pub mod Fronts
 pub mod LookUps
 pub mod Cut

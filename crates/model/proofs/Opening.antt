@@ -11,7 +11,7 @@ use Rattle.std.proofs.lemmas.List.Sorted.{IsPermutation-trans, IsPermutation-sym
 use Rattle.std.proofs.lemmas.List.Sums.{sum_by-append, sum_by-cons}
 use Rattle.std.proofs.lemmas.Option.{get_or_from_slice_get, slice_get-get_or, slice_get_past}
 use Rattle.model.specs.Files.{File, files_in, table}
-use Rattle.model.specs.Spool.{Spool, Entry, entries_from, entries, group_made, groups}
+use Rattle.model.specs.Spool.{Spool, SpoolEntry, entries_from, entries, group_made, groups}
 use Rattle.model.specs.FileKinds.{HasRoomInFile, is_of_change}
 use Rattle.model.specs.SpoolFiles.{change_file, entry_files, files_of, numbers_file, numbers_name}
 use Rattle.model.specs.SpoolFiles.{overview_file, overview_name}
@@ -165,7 +165,7 @@ entry_counts S n (Expire expiry) = one_counted (change_file (record { serial = n
 entries_count : (S : Spool) (n : ℕ) (R : Spool) → counted (flat_map (entry_files S) (entries_from n R)) ≡ length R
 entries_count S n [] = refl
 entries_count S n (c ∷ R) =
-    let e : Entry = record { serial = n; change = c } in
+    let e : SpoolEntry = record { serial = n; change = c } in
     omega (
       arith,
       sum_by-append (λ x. cond (is_of_change x) 1 0) (entry_files S e) (flat_map (entry_files S) (entries_from (suc n) R)),

@@ -9,7 +9,7 @@ use Rattle.std.proofs.lemmas.Bool.{cases_lt, ne_eqb, eq-eqb}
 use Rattle.byteorder.specs.Endian.{little_from}
 use Rattle.model.specs.Stream.{Octets}
 use Rattle.model.specs.Volume.{number_at}
-use Rattle.model.specs.Files.{Entry, IsFree, kind, size, block_count, double_blocks, double_pointer, indirect_blocks, indirect_count}
+use Rattle.model.specs.Files.{FileEntry, IsFree, kind, size, block_count, double_blocks, double_pointer, indirect_blocks, indirect_count}
 use Rattle.model.specs.Files.{indirect_for, indirect_pointer, pointer, owned, content_of}
 
 -- ---- zeros
@@ -31,10 +31,10 @@ zero_number at n octets zeros = from 0 n
         let rest = from (suc i) n in
         omega arith
 
-pub free_kind : (e : Entry) → IsFree e → kind e ≡ 0
+pub free_kind : (e : FileEntry) → IsFree e → kind e ≡ 0
 free_kind e free = zero_number 0 4 e.inode free.inode_zeros
 
-pub free_owns : (e : Entry) → IsFree e → owned e ≡ []
+pub free_owns : (e : FileEntry) → IsFree e → owned e ≡ []
 free_owns e free =
     let no_double = zero_number 56 4 e.inode free.inode_zeros in
     let no_size = zero_number 4 8 e.inode free.inode_zeros in
@@ -44,13 +44,13 @@ free_owns e free =
 
 -- ---- how many blocks
 
-no_double : (e : Entry) → double_pointer e ≡ 0 → length (double_blocks e) ≡ 0
+no_double : (e : FileEntry) → double_pointer e ≡ 0 → length (double_blocks e) ≡ 0
 no_double e none = ap (λ (b : Bool). length (cond b [] (double_pointer e ∷ []))) (eq-eqb (double_pointer e) 0 none)
 
-one_double : (e : Entry) → double_pointer e ≢ 0 → length (double_blocks e) ≡ 1
+one_double : (e : FileEntry) → double_pointer e ≢ 0 → length (double_blocks e) ≡ 1
 one_double e some = ap (λ (b : Bool). length (cond b [] (double_pointer e ∷ []))) (ne_eqb (double_pointer e) 0 some)
 
-pub owned_count : (e : Entry) → length (owned e) ≡ length (double_blocks e) + indirect_count e + block_count e
+pub owned_count : (e : FileEntry) → length (owned e) ≡ length (double_blocks e) + indirect_count e + block_count e
 owned_count e =
     let its_pointers = map (λ i. pointer e i) (range_with_len 0 (block_count e)) in
     omega (
@@ -61,15 +61,15 @@ owned_count e =
       length-map-range_with_len (λ p. indirect_pointer e p) 0 (indirect_count e),
     )
 
-pub owned_without : (e : Entry) → double_pointer e ≡ 0 → length (owned e) ≡ block_count e + indirect_count e
+pub owned_without : (e : FileEntry) → double_pointer e ≡ 0 → length (owned e) ≡ block_count e + indirect_count e
 owned_without e none = omega (arith, owned_count e, no_double e none)
 
-pub owned_with : (e : Entry) → double_pointer e ≢ 0 → length (owned e) ≡ block_count e + indirect_count e + 1
+pub owned_with : (e : FileEntry) → double_pointer e ≢ 0 → length (owned e) ≡ block_count e + indirect_count e + 1
 owned_with e some = omega (arith, owned_count e, one_double e some)
 
 -- ---- how many octets
 
-pub owns_pointer : (e : Entry) (i : ℕ) → i < block_count e → Contains (owned e) (pointer e i)
+pub owns_pointer : (e : FileEntry) (i : ℕ) → i < block_count e → Contains (owned e) (pointer e i)
 owns_pointer e i low =
     Contains-append_right (double_blocks e) (indirect_blocks e ++ map (λ i. pointer e i) (range_with_len 0 (block_count e))) (pointer e i)
     (Contains-append_right (indirect_blocks e) (map (λ i. pointer e i) (range_with_len 0 (block_count e))) (pointer e i)
@@ -89,7 +89,7 @@ joined_size f a (suc n) whole =
       joined_size f (a + 1) n (λ i low high. whole i (omega arith) (omega arith)),
     )
 
-pub content_size : (blocks : List Octets) (e : Entry) → All (λ b. length b ≡ 4096) blocks
+pub content_size : (blocks : List Octets) (e : FileEntry) → All (λ b. length b ≡ 4096) blocks
     → ((b : ℕ) → Contains (owned e) b → b < length blocks) → length (content_of blocks e) ≡ size e
 content_size blocks e whole within =
     let f : ℕ → Octets = λ i. get_or blocks (pointer e i) [] in

@@ -8,7 +8,7 @@ use Rattle.std.proofs.lemmas.List.Elements.{filter-append, filter_map-append}
 use Rattle.std.proofs.lemmas.Slice.Eq.{bytes_eq-Decides}
 use Rattle.std.proofs.Math.Nat.{le-max_left, le-max_right}
 use Rattle.model.specs.Stream.{Octets}
-use Rattle.model.specs.Spool.{Spool, Entry, entries_from, entries, NewsExpiry, NewsArticle, expiry_made, expiries, expiries_of}
+use Rattle.model.specs.Spool.{Spool, SpoolEntry, entries_from, entries, NewsExpiry, NewsArticle, expiry_made, expiries, expiries_of}
 use Rattle.model.specs.Spool.{article_filed, articles, filed_in, greatest, is_name, low, news_article, news_expiry}
 use Rattle.model.specs.Lawful.{MayFollow, IsLawfulAfter}
 use Rattle.model.specs.Laws.Indexed.{ExpiriesRise, FiledRise}
@@ -52,7 +52,7 @@ pub expiry_push : (S : Spool) (g : Octets) (c : Change)
     (filter_map expiry_made (record { serial = length S + 1; change = c } ∷ []))
 unfolding expiries_of expiries entries
 expiry_push S g c =
-    let e : Entry = record { serial = length S + 1; change = c } in
+    let e : SpoolEntry = record { serial = length S + 1; change = c } in
     ap (λ es. filter (λ (x : NewsExpiry). is_name g x.group) (filter_map expiry_made es)) (entries_push 1 S c)
     ∙ ap (filter (λ (x : NewsExpiry). is_name g x.group)) (filter_map-append expiry_made (entries_from 1 S) (e ∷ []))
     ∙ filter-append (λ (x : NewsExpiry). is_name g x.group) (filter_map expiry_made (entries_from 1 S)) (filter_map expiry_made (e ∷ []))

@@ -5,7 +5,8 @@ use Rattle.std.specs.Prelude.{bytes_eq, option_map}
 use Rattle.std.specs.Map.{lookup}
 use Rattle.model.specs.Stream.{Octets}
 use Rattle.model.specs.Files.{File, table}
-use Rattle.model.specs.Spool.{Spool, Entry, entries, NewsGroup, NewsExpiry, groups, group_named, filed_in, expiries_of, low, last_naming}
+use Rattle.model.specs.Spool.{Spool, SpoolEntry, entries, NewsGroup, NewsExpiry, groups, group_named, filed_in, expiries_of, low}
+use Rattle.model.specs.Spool.{last_naming}
 use Rattle.model.specs.Spool.{by_id, news_group}
 use Rattle.model.specs.FileCalls.{next_line}
 use Rattle.model.specs.SpoolFiles.{change_file, numbers_name, overview_name, numbers_file, overview_file, overview_lines}
@@ -21,7 +22,7 @@ pub data Note : Type 0 where
   ExpiryNote : Octets → ℕ → Note
 
 -- of an article: the length of its text, its groups, its moment
-abbrev pub note_of : Entry → Note
+abbrev pub note_of : SpoolEntry → Note
 note_of e = by_change e.serial e.change where
   by_change : ℕ → Change → Note
   by_change n (Group g) = GroupNote (news_group n g)

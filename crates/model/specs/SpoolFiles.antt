@@ -7,7 +7,7 @@ use Rattle.model.specs.Stream.{Octets}
 use Rattle.model.specs.Article.{overview_line}
 use Rattle.model.specs.Files.{File}
 use Rattle.model.specs.Records.{last_digits, group_record, article_record, expiry_record}
-use Rattle.model.specs.Spool.{Spool, Entry, entries, NewsArticle, filed_in, news_article, news_expiry, news_group}
+use Rattle.model.specs.Spool.{Spool, SpoolEntry, entries, NewsArticle, filed_in, news_article, news_expiry, news_group}
 use Rattle.model.specs.declared.change.Change.{Change}
 use Rattle.model.specs.declared.change.Change.TheVariants.{Group, Article, Expire}
 
@@ -61,7 +61,7 @@ numbers_file S g = numbers_of (filed_in S g)
 -- ---- the files of a spool
 
 -- the file that holds the change
-abbrev pub change_file : Entry → File
+abbrev pub change_file : SpoolEntry → File
 change_file e = by_change e.serial e.change where
   by_change : ℕ → Change → File
   by_change n (Group g) = record { name = group_name g.name; content = group_record (news_group n g) }
@@ -79,7 +79,7 @@ index_files S (Article f) = []
 index_files S (Expire e) = []
 
 -- the files that a change made, as the spool has them
-abbrev pub entry_files : Spool → Entry → List File
+abbrev pub entry_files : Spool → SpoolEntry → List File
 entry_files S e = change_file e ∷ index_files S e.change
 
 -- the files of a spool, in the order in which they were made

@@ -5,7 +5,7 @@ use Rattle.std.proofs.lemmas.Bool.{cond_both}
 use Rattle.std.proofs.lemmas.List.{take_all}
 use Rattle.disk.specs.Device.{Device, Elapses, LeavesOnly}
 use Rattle.disk.proofs.Devices.{elapses_then}
-use Rattle.segment_laws.specs.Held.{Held}
+use Rattle.segment_laws.specs.Held.{HeldBatch}
 use Rattle.journal.specs.Calls.{Call, Does, IsRetried, MakesCall, OnMade, OnRetried, Syncs, blocks_after, call_at}
 use Rattle.journal.specs.Calls.Call.{Sync}
 use Rattle.journal.specs.Inside.{IsAdmitted}
@@ -58,7 +58,8 @@ ends n sizes Settle other e = refl
 ends n sizes (CloseGate j) other e = absurd (cc)
 ends n sizes (Finish j) other e = refl
 
-sync_of : (next : Next) (segments : ℕ) (held : List Held) (place : ℕ) (descriptor : List ℕ) (images : List (List ℕ)) → is_sync next ≡ true
+sync_of : (next : Next) (segments : ℕ) (held : List HeldBatch) (place : ℕ) (descriptor : List ℕ) (images : List (List ℕ))
+    → is_sync next ≡ true
     → call_at next segments held place descriptor images ≡ Sync
 sync_of Idle segments held place descriptor images e = absurd (cc)
 sync_of Descriptor segments held place descriptor images e = absurd (cc)

@@ -4,7 +4,7 @@
 mod closed;
 
 use closed::{ClosedStreams, NULL_DEVICE};
-use program::{Failure, Outcome, Streams, fail, import, run, serve};
+use program::{AfterRun, Failure, Streams, fail, import, run, serve};
 use std::alloc::Global;
 use std::fs::File;
 use std::io::{BufReader, BufWriter, IsTerminal, Stderr, StdinLock, Stdout, Write};
@@ -69,8 +69,8 @@ fn carry_out<
         mut output,
     } = start;
     match run(rt, alloc, words.as_slice(), &mut input, &mut output, faults) {
-        Outcome::Ends(status) => status,
-        Outcome::Imports(path) => {
+        AfterRun::Ends(status) => status,
+        AfterRun::Imports(path) => {
             let is_terminal = faults.is_terminal();
             import(
                 rt,
@@ -82,7 +82,7 @@ fn carry_out<
                 is_terminal,
             )
         }
-        Outcome::Serves(service) => {
+        AfterRun::Serves(service) => {
             let streams = Streams {
                 lines: input,
                 answers: output,

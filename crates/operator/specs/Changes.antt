@@ -1,19 +1,19 @@
 -- What the operator's lines ask for.
 use Rattle.std.specs.Prelude.{◌≡◌, ◌≢◌, ℕ, List, Option, Some, None, codes}
 use Rattle.names.specs.Requests as requests
-use Rattle.script.specs.Script.{Said, Made, Expired, Came, Asked, meaning}
+use Rattle.script.specs.Script.{LineMeaning, Made, Expired, Came, Asked, meaning}
 use Rattle.operator.specs.declared.changes.Change.{Change}
 use Rattle.operator.specs.declared.changes.Change.TheVariants.{Group, Expiry}
 use Rattle.operator.specs.declared.requests.Request.{Request}
 use Rattle.operator.specs.declared.requests.Request.TheVariants as request
 
 -- a change as a line states it
-abbrev pub asked : Change → Said
+abbrev pub asked : Change → LineMeaning
 asked (Group request) = Made (requests.group_of request)
 asked (Expiry name number) = Expired name number
 
 -- a line asks for no change
-abbrev pub IsNone : Option Said → Type 0
+abbrev pub IsNone : Option LineMeaning → Type 0
 IsNone None = Unit {0}
 IsNone (Some (Made group)) = ⊥
 IsNone (Some (Expired name number)) = ⊥

@@ -10,7 +10,7 @@ use Rattle.std.proofs.Math.Seq.{drop-append_seam}
 use Rattle.std.proofs.lemmas.List.Elements.{All-head, All-tail, All-append}
 use Rattle.std.proofs.lemmas.List.Folds.{concat-append}
 use Rattle.std.proofs.lemmas.List.Sums.{sum_by-append, sum_by-cons}
-use Rattle.outbox.specs.Queue.{Held, Entry, Giving, entry_of, octets_along, octets_in}
+use Rattle.outbox.specs.Queue.{HeldOutput, ReadyEntry, Giving, entry_of, octets_along, octets_in}
 use Rattle.outbox.specs.Slots.{LiesWithin, entry_at, entries_in, slots_of}
 use Rattle.outbox.specs.Fields.{IsGiven}
 use Rattle.outbox.specs.declared.ready.Slot.{Slot}
@@ -89,12 +89,12 @@ octets_in-entry_of number g = go (length g.octets == 0 && not g.ended) refl
     go : (none : Bool) → (length g.octets == 0 && not g.ended) ≡ none
         → octets_in (if none then [] else (number, g.octets, g.ended) ∷ []) ≡ length g.octets
     go true is = omega (arith, eqb-true (length g.octets) 0 (and_parts (length g.octets == 0) (not g.ended) is).0)
-    go false is = sum_by-cons (λ (e : Entry). length e.1) (number, g.octets, g.ended) [] ∙ omega arith
+    go false is = sum_by-cons (λ (e : ReadyEntry). length e.1) (number, g.octets, g.ended) [] ∙ omega arith
 
 -- all octets
-octets_along-append : (front back : List Entry) → octets_along (front ++ back) ≡ octets_along front ++ octets_along back
-octets_along-append front back = ap concat (map-append (λ (e : Entry). e.1) front back)
-    ∙ concat-append (map (λ (e : Entry). e.1) front) (map (λ (e : Entry). e.1) back)
+octets_along-append : (front back : List ReadyEntry) → octets_along (front ++ back) ≡ octets_along front ++ octets_along back
+octets_along-append front back = ap concat (map-append (λ (e : ReadyEntry). e.1) front back)
+    ∙ concat-append (map (λ (e : ReadyEntry). e.1) front) (map (λ (e : ReadyEntry). e.1) back)
 
 octets_along-entry_of : (number : ℕ) (g : Giving) → octets_along (entry_of number g) ≡ g.octets
 octets_along-entry_of number g = go (length g.octets == 0 && not g.ended) refl
@@ -106,7 +106,7 @@ octets_along-entry_of number g = go (length g.octets == 0 && not g.ended) refl
 
 -- the buffer, with what the loop gave and the session's slot
 module _ (before after : List ℕ) (slots after_slots : List Slot) (number start end : ℕ) (g : Giving) (ended : Bool) (given : ℕ)
-    (held : List Held)
+    (held : List HeldOutput)
     (within : All (LiesWithin (length before)) slots) (gives : IsGiven g ended given held before after) (from : start ≡ length before)
     (to : end ≡ length after)
     (noted : after_slots ≡ slots ++ slots_of number start end ended) where
@@ -136,7 +136,7 @@ module _ (before after : List ℕ) (slots after_slots : List Slot) (number start
   pub given-counted : octets_in (entries_in before slots) ≡ length before → octets_in (entries_in after after_slots) ≡ length after
   given-counted counted =
       ap octets_in given-entries
-      ∙ sum_by-append (λ (e : Entry). length e.1) (entries_in before slots) (entry_of number g)
+      ∙ sum_by-append (λ (e : ReadyEntry). length e.1) (entries_in before slots) (entry_of number g)
       ∙ omega (arith, counted, octets_in-entry_of number g, size)
 
   pub given-few : length after_slots ≤ length slots + 1
@@ -148,9 +148,9 @@ module _ (before after : List ℕ) (slots after_slots : List Slot) (number start
 pub length-entry : (number : ℕ) (g : Giving) → length (entry_of number g) ≤ 1
 length-entry number g = go (length g.octets == 0 && not g.ended)
   where
-    go : (b : Bool) → (let entries : List Entry = (if b then [] else (number, g.octets, g.ended) ∷ []) in length entries) ≤ 1
+    go : (b : Bool) → (let entries : List ReadyEntry = (if b then [] else (number, g.octets, g.ended) ∷ []) in length entries) ≤ 1
     go true = omega arith
     go false = omega arith
 
-pub octets_in-append : (front back : List Entry) → octets_in (front ++ back) ≡ octets_in front + octets_in back
-octets_in-append front back = sum_by-append (λ (e : Entry). length e.1) front back
+pub octets_in-append : (front back : List ReadyEntry) → octets_in (front ++ back) ≡ octets_in front + octets_in back
+octets_in-append front back = sum_by-append (λ (e : ReadyEntry). length e.1) front back

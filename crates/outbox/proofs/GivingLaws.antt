@@ -7,11 +7,11 @@ use Rattle.std.proofs.lemmas.Bool.{cases_lt, lt-ltb, le-ltb, eq-eqb, ne_eqb, fal
 use Rattle.std.proofs.Math.Bool.{or_assoc}
 use Rattle.std.proofs.lemmas.List.Sums.{sum_by-cons}
 use Rattle.std.proofs.lemmas.List.{append-nil, length-take-le, take-append-drop}
-use Rattle.outbox.specs.Queue.{Held, Giving, OnlyLastEnds, buffered, last_dependency, nothing_more, cut_at, behind, give}
+use Rattle.outbox.specs.Queue.{HeldOutput, Giving, OnlyLastEnds, buffered, last_dependency, nothing_more, cut_at, behind, give}
 
 -- ---- one step
 
-abbrev pub cut_off : ℕ → ℕ → Held → List Held → Giving
+abbrev pub cut_off : ℕ → ℕ → HeldOutput → List HeldOutput → Giving
 cut_off room given front rest = record {
   room = 0;
   octets = take room front.octets;
@@ -21,12 +21,12 @@ cut_off room given front rest = record {
 }
 
 -- the first output depends on more than p changes
-pub give-late : (p room given : ℕ) (front : Held) (rest : List Held) → p < front.dependency
+pub give-late : (p room given : ℕ) (front : HeldOutput) (rest : List HeldOutput) → p < front.dependency
     → give p room given (front ∷ rest) ≡ nothing_more room given (front ∷ rest)
 give-late p room given front rest late = rw (lt-ltb p front.dependency late)
 
 -- there is no room
-pub give-full : (p room given : ℕ) (held : List Held) → room ≡ 0 → give p room given held ≡ nothing_more room given held
+pub give-full : (p room given : ℕ) (held : List HeldOutput) → room ≡ 0 → give p room given held ≡ nothing_more room given held
 give-full p room given [] none = refl
 give-full p room given (front ∷ rest) none =
     ⊎_elim
@@ -35,19 +35,21 @@ give-full p room given (front ∷ rest) none =
     (cases_lt p front.dependency)
 
 -- the first output fits in part
-pub give-cut : (p room given : ℕ) (front : Held) (rest : List Held) → front.dependency ≤ p → 0 < room → room < length front.octets
+pub give-cut : (p room given : ℕ) (front : HeldOutput) (rest : List HeldOutput) → front.dependency ≤ p → 0 < room
+    → room < length front.octets
     → give p room given (front ∷ rest) ≡ cut_off room given front rest
 give-cut p room given front rest near some long =
     rw (le-ltb p front.dependency near, ne_eqb room 0 (λ none. absurd (omega arith)), lt-ltb room (length front.octets) long)
 
 -- it fits whole
-pub give-whole : (p room given : ℕ) (front : Held) (rest : List Held) → front.dependency ≤ p → 0 < room → length front.octets ≤ room
+pub give-whole : (p room given : ℕ) (front : HeldOutput) (rest : List HeldOutput) → front.dependency ≤ p → 0 < room
+    → length front.octets ≤ room
     → give p room given (front ∷ rest) ≡ behind front (give p (room - length front.octets) front.dependency rest)
 give-whole p room given front rest near some short =
     rw (le-ltb p front.dependency near, ne_eqb room 0 (λ none. absurd (omega arith)), le-ltb room (length front.octets) short)
 
 -- what holds of each case holds of what is given
-pub give-cases : (P : Giving → Type 0) (p room given : ℕ) (front : Held) (rest : List Held)
+pub give-cases : (P : Giving → Type 0) (p room given : ℕ) (front : HeldOutput) (rest : List HeldOutput)
     → P (nothing_more room given (front ∷ rest))
     → (front.dependency ≤ p → 0 < room → room < length front.octets → P (cut_off room given front rest))
     → (front.dependency ≤ p → 0 < room → length front.octets ≤ room
@@ -72,11 +74,11 @@ give-cases P p room given front rest none cut whole =
 -- ---- all octets, in order
 
 -- the octets of these outputs
-abbrev pub octets_held : List Held → List ℕ
-octets_held held = concat (map (λ (h : Held). h.octets) held)
+abbrev pub octets_held : List HeldOutput → List ℕ
+octets_held held = concat (map (λ (h : HeldOutput). h.octets) held)
 
 -- the octets that are given and those that are kept are those that were held
-pub give-octets : (p room given : ℕ) (held : List Held)
+pub give-octets : (p room given : ℕ) (held : List HeldOutput)
     → (give p room given held).octets ++ octets_held (give p room given held).held ≡ octets_held held
 give-octets p room given [] = refl
 give-octets p room given (front ∷ rest) =
@@ -90,7 +92,7 @@ give-octets p room given (front ∷ rest) =
     ∙ ap (λ octets. front.octets ++ octets) (give-octets p (room - length front.octets) front.dependency rest))
 
 -- the room that is left, and the octets that are given
-pub give-room : (p room given : ℕ) (held : List Held) → (give p room given held).room + length (give p room given held).octets ≡ room
+pub give-room : (p room given : ℕ) (held : List HeldOutput) → (give p room given held).room + length (give p room given held).octets ≡ room
 give-room p room given [] = omega arith
 give-room p room given (front ∷ rest) =
     give-cases (λ g. g.room + length g.octets ≡ room) p room given front rest
@@ -102,21 +104,21 @@ give-room p room given (front ∷ rest) =
       length-append front.octets (give p (room - length front.octets) front.dependency rest).octets,
     ))
 
-pub give-short : (p room given : ℕ) (held : List Held) → length (give p room given held).octets ≤ room
+pub give-short : (p room given : ℕ) (held : List HeldOutput) → length (give p room given held).octets ≤ room
 give-short p room given held = omega (arith, give-room p room given held)
 
 -- how many octets are given and kept
-pub length-octets_held : (held : List Held) → length (octets_held held) ≡ buffered held
+pub length-octets_held : (held : List HeldOutput) → length (octets_held held) ≡ buffered held
 length-octets_held [] = refl
 length-octets_held (front ∷ rest) =
     omega (
       arith,
       length-append front.octets (octets_held rest),
       length-octets_held rest,
-      sum_by-cons (λ (h : Held). length h.octets) front rest,
+      sum_by-cons (λ (h : HeldOutput). length h.octets) front rest,
     )
 
-pub give-buffered : (p room given : ℕ) (held : List Held)
+pub give-buffered : (p room given : ℕ) (held : List HeldOutput)
     → length (give p room given held).octets + buffered (give p room given held).held ≡ buffered held
 give-buffered p room given held =
     let g = give p room given held in
@@ -131,17 +133,18 @@ give-buffered p room given held =
 -- ---- the last output
 
 -- the dependency of the last output that is held
-pub last_dependency-back : (given : ℕ) (held : List Held) (n : ℕ) (last : Held) → suc n ≡ length held → last ≡ slice_index_or held n last
+pub last_dependency-back : (given : ℕ) (held : List HeldOutput) (n : ℕ) (last : HeldOutput) → suc n ≡ length held
+    → last ≡ slice_index_or held n last
     → last.dependency ≡ last_dependency given held
 last_dependency-back given [] n last size is = absurd (omega arith)
-last_dependency-back given (front ∷ []) zero last size is = ap (λ (h : Held). h.dependency) is
+last_dependency-back given (front ∷ []) zero last size is = ap (λ (h : HeldOutput). h.dependency) is
 last_dependency-back given (front ∷ []) (suc n) last size is = absurd (omega arith)
 last_dependency-back given (front ∷ next ∷ rest) zero last size is = absurd (omega arith)
 last_dependency-back given (front ∷ next ∷ rest) (suc n) last size is =
     last_dependency-back front.dependency (next ∷ rest) n last (omega arith) is
 
 -- a release leaves it: with the number kept where none is held
-pub give-last_dependency : (p room given : ℕ) (held : List Held)
+pub give-last_dependency : (p room given : ℕ) (held : List HeldOutput)
     → last_dependency (give p room given held).given (give p room given held).held ≡ last_dependency given held
 give-last_dependency p room given [] = refl
 give-last_dependency p room given (front ∷ rest) =
@@ -154,13 +157,13 @@ give-last_dependency p room given (front ∷ rest) =
 
 -- What holds of the number kept, the outputs held and the octets given, and still holds when the first output is given
 -- whole or cut, holds of what a release leaves and gives.
-pub give-steps : (P : ℕ → List Held → List ℕ → Type 0) (p : ℕ)
-    → ((given : ℕ) (front : Held) (rest : List Held) (octets : List ℕ) → front.dependency ≤ p → P given (front ∷ rest) octets
+pub give-steps : (P : ℕ → List HeldOutput → List ℕ → Type 0) (p : ℕ)
+    → ((given : ℕ) (front : HeldOutput) (rest : List HeldOutput) (octets : List ℕ) → front.dependency ≤ p → P given (front ∷ rest) octets
     → P front.dependency rest (octets ++ front.octets))
-    → ((given count : ℕ) (front : Held) (rest : List Held) (octets : List ℕ) → front.dependency ≤ p → 0 < count
+    → ((given count : ℕ) (front : HeldOutput) (rest : List HeldOutput) (octets : List ℕ) → front.dependency ≤ p → 0 < count
     → count < length front.octets → P given (front ∷ rest) octets
     → P given (cut_at count front ∷ rest) (octets ++ take count front.octets))
-    → (room given : ℕ) (held : List Held) (octets : List ℕ) → P given held octets
+    → (room given : ℕ) (held : List HeldOutput) (octets : List ℕ) → P given held octets
     → P (give p room given held).given (give p room given held).held (octets ++ (give p room given held).octets)
 give-steps P p whole cut room given [] octets h = subst (P given []) (sym (append-nil octets)) h
 give-steps P p whole cut room given (front ∷ rest) octets h =
@@ -176,17 +179,17 @@ give-steps P p whole cut room given (front ∷ rest) octets h =
 -- ---- on what the given octets depend
 
 -- each output of which an octet is among the first count depends on p changes at most
-abbrev pub GivenWithin : ℕ → ℕ → List Held → Type 0
+abbrev pub GivenWithin : ℕ → ℕ → List HeldOutput → Type 0
 GivenWithin p count [] = Unit {0}
 GivenWithin p count (front ∷ rest) =
     (0 < count → front.octets ≢ [] → front.dependency ≤ p) × GivenWithin p (count - length front.octets) rest
 
-GivenWithin-none : (p count : ℕ) (held : List Held) → count ≡ 0 → GivenWithin p count held
+GivenWithin-none : (p count : ℕ) (held : List HeldOutput) → count ≡ 0 → GivenWithin p count held
 GivenWithin-none p count [] none = tt
 GivenWithin-none p count (front ∷ rest) none =
     ((λ some filled. absurd (omega arith)), GivenWithin-none p (count - length front.octets) rest (omega arith))
 
-pub give-within : (p room given : ℕ) (held : List Held) → GivenWithin p (length (give p room given held).octets) held
+pub give-within : (p room given : ℕ) (held : List HeldOutput) → GivenWithin p (length (give p room given held).octets) held
 give-within p room given [] = tt
 give-within p room given (front ∷ rest) =
     give-cases (λ g. GivenWithin p (length g.octets) (front ∷ rest)) p room given front rest
@@ -204,11 +207,11 @@ give-within p room given (front ∷ rest) =
 -- ---- ends
 
 -- whether one of these outputs ends the session
-abbrev pub any_ends : List Held → Bool
-any_ends held = list_any (λ (h : Held). h.ends) held
+abbrev pub any_ends : List HeldOutput → Bool
+any_ends held = list_any (λ (h : HeldOutput). h.ends) held
 
 -- no end is lost, and none comes from nowhere
-pub give-ends : (p room given : ℕ) (held : List Held)
+pub give-ends : (p room given : ℕ) (held : List HeldOutput)
     → ((give p room given held).ended || any_ends (give p room given held).held) ≡ any_ends held
 give-ends p room given [] = refl
 give-ends p room given (front ∷ rest) =
@@ -221,7 +224,7 @@ give-ends p room given (front ∷ rest) =
     ∙ ap (λ ends. front.ends || ends) (give-ends p (room - length front.octets) front.dependency rest))
 
 -- an end comes after all octets
-pub give-ended : (p room given : ℕ) (held : List Held) → OnlyLastEnds held → (give p room given held).ended ≡ true
+pub give-ended : (p room given : ℕ) (held : List HeldOutput) → OnlyLastEnds held → (give p room given held).ended ≡ true
     → (give p room given held).held ≡ []
 give-ended p room given [] last ended = refl
 give-ended p room given (front ∷ rest) last ended =
@@ -236,7 +239,7 @@ give-ended p room given (front ∷ rest) last ended =
     (or_cases front.ends (give p left front.dependency rest).ended is))
     ended
 
-pub give-OnlyLastEnds : (p room given : ℕ) (held : List Held) → OnlyLastEnds held → OnlyLastEnds (give p room given held).held
+pub give-OnlyLastEnds : (p room given : ℕ) (held : List HeldOutput) → OnlyLastEnds held → OnlyLastEnds (give p room given held).held
 give-OnlyLastEnds p room given [] last = tt
 give-OnlyLastEnds p room given (front ∷ rest) last =
     give-cases (λ g. OnlyLastEnds g.held) p room given front rest
@@ -244,7 +247,8 @@ give-OnlyLastEnds p room given (front ∷ rest) last =
     (λ near some long. last)
     (λ near some short. give-OnlyLastEnds p (room - length front.octets) front.dependency rest last.1)
 
-pub OnlyLastEnds-push : (held : List Held) (more : Held) → OnlyLastEnds held → any_ends held ≡ false → OnlyLastEnds (held ++ more ∷ [])
+pub OnlyLastEnds-push : (held : List HeldOutput) (more : HeldOutput) → OnlyLastEnds held → any_ends held ≡ false
+    → OnlyLastEnds (held ++ more ∷ [])
 OnlyLastEnds-push [] more last none = ((λ ends. refl), tt)
 OnlyLastEnds-push (front ∷ rest) more last none =
     let own = or_parts front.ends (any_ends rest) none in
@@ -253,16 +257,16 @@ OnlyLastEnds-push (front ∷ rest) more last none =
 -- ---- what is kept
 
 -- the outputs that are kept are the last of those that were held, the first of them perhaps cut
-pub record IsRest (held kept : List Held) : Type 0 where
-  pub before : List Held
-  pub front : Held
-  pub after : List Held
+pub record IsRest (held kept : List HeldOutput) : Type 0 where
+  pub before : List HeldOutput
+  pub front : HeldOutput
+  pub after : List HeldOutput
   pub cut : ℕ
   pub held_is : held ≡ before ++ front ∷ after
   pub kept_is : kept ≡ cut_at cut front ∷ after
   pub cut_is : (cut ≡ 0) ⊎ (cut < length front.octets)
 
-IsRest-behind : (first : Held) (held kept : List Held) → IsRest held kept → IsRest (first ∷ held) kept
+IsRest-behind : (first : HeldOutput) (held kept : List HeldOutput) → IsRest held kept → IsRest (first ∷ held) kept
 IsRest-behind first held kept h = record {
   before = first ∷ h.before;
   front = h.front;
@@ -273,7 +277,8 @@ IsRest-behind first held kept h = record {
   cut_is = h.cut_is;
 }
 
-pub give-rest : (p room given : ℕ) (held : List Held) → ((give p room given held).held ≡ []) ⊎ IsRest held (give p room given held).held
+pub give-rest : (p room given : ℕ) (held : List HeldOutput)
+    → ((give p room given held).held ≡ []) ⊎ IsRest held (give p room given held).held
 give-rest p room given [] = inl refl
 give-rest p room given (front ∷ rest) =
     give-cases (λ g. (g.held ≡ []) ⊎ IsRest (front ∷ rest) g.held) p room given front rest

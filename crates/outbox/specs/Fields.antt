@@ -1,7 +1,7 @@
 -- What the fields of a queue and of a buffer mean.
 use Rattle.std.specs.Prelude.{◌≡◌, ℕ, ◌-◌, ◌≤◌, Bool, List, ◌++◌, length, All, vec_len, vec_capacity}
 use Rattle.std.specs.VecDeque.{deque_len, deque_capacity}
-use Rattle.outbox.specs.Queue.{Held, QueueView, Giving, Entry, buffered, octets_along, octets_in}
+use Rattle.outbox.specs.Queue.{HeldOutput, QueueView, Giving, ReadyEntry, buffered, octets_along, octets_in}
 use Rattle.outbox.specs.declared.queue.Queue.TheInside as queue
 use Rattle.outbox.specs.declared.ready.ReadyBuf.TheInside as buffer
 use Rattle.outbox.specs.Slots.{LiesWithin, entries_in}
@@ -13,7 +13,7 @@ queue_of q = record { given = q.given; held = q.outputs.items; room = deque_capa
 abbrev pub IsSoundQueue : queue.Inside → Type 0
 IsSoundQueue q = q.buffered ≡ buffered q.outputs.items
 
-abbrev pub entries_of : buffer.Inside → List Entry
+abbrev pub entries_of : buffer.Inside → List ReadyEntry
 entries_of b = entries_in b.octets.items b.slots.items
 
 -- the entries' octets are those of the buffer, in order, and there is room for a release
@@ -27,7 +27,7 @@ pub record IsSoundBuffer (b : buffer.Inside) : Type 0 where
   pub room : 64 ≤ vec_capacity b.slots
 
 -- what the loop over the first outputs leaves: of the outputs, and after the octets that were already there
-pub record IsGiven (g : Giving) (ended : Bool) (given : ℕ) (held : List Held) (before after : List ℕ) : Type 0 where
+pub record IsGiven (g : Giving) (ended : Bool) (given : ℕ) (held : List HeldOutput) (before after : List ℕ) : Type 0 where
   pub ended_is : ended ≡ g.ended
   pub given_is : given ≡ g.given
   pub held_is : held ≡ g.held

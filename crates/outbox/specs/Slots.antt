@@ -1,13 +1,13 @@
 -- The slots of a buffer, and the entries that they stand for.
 use Rattle.std.specs.Prelude.{ℕ, ◌≤◌, Bool, not, ◌&&◌, ◌==◌, if◌then◌else◌, List, [], ◌∷◌, map, slice_range}
-use Rattle.outbox.specs.Queue.{Entry}
+use Rattle.outbox.specs.Queue.{ReadyEntry}
 use Rattle.outbox.specs.declared.ready.Slot.{Slot}
 
 -- a slot's entry
-abbrev pub entry_at : List ℕ → Slot → Entry
+abbrev pub entry_at : List ℕ → Slot → ReadyEntry
 entry_at octets slot = (slot.number, slice_range octets slot.start slot.end, slot.ends)
 
-abbrev pub entries_in : List ℕ → List Slot → List Entry
+abbrev pub entries_in : List ℕ → List Slot → List ReadyEntry
 entries_in octets slots = map (entry_at octets) slots
 
 -- a slot lies within this many octets

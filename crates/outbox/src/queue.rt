@@ -2,7 +2,7 @@
 
 ghost use Rattle.std.specs.Prelude.{◌≡◌, ◌+◌, ◌-◌, ◌^◌, ◌<◌, ◌≤◌, ◌∷◌, ◌++◌, [], length, drop, vec_len, vec_capacity, OnOk, OnErr, ◌==◌};
 ghost use Rattle.std.specs.VecDeque.{deque_capacity};
-ghost use Rattle.outbox.specs.Queue.{Held, QueueView, buffered, last_dependency, cut_at, give, entry_of, octets_in};
+ghost use Rattle.outbox.specs.Queue.{HeldOutput, QueueView, buffered, last_dependency, cut_at, give, entry_of, octets_in};
 ghost use Rattle.outbox.specs.Fields.{IsGiven};
 
 use crate::RELEASE_OCTETS;
@@ -22,9 +22,9 @@ struct Output {
 
 impl Model for Output {
     ghost use Rattle.std.specs.Prelude.{◌≤◌, drop, vec_len};
-    ghost use Rattle.outbox.specs.Queue.{Held};
+    ghost use Rattle.outbox.specs.Queue.{HeldOutput};
 
-    ghost Value = { Held };
+    ghost Value = { HeldOutput };
 
     ghost view = { λ o. record { octets = drop o.start o.octets.items; dependency = o.dependency; ends = o.ends } };
 

@@ -27,9 +27,9 @@ pub struct ReadyBuf {
 
 impl Model for ReadyBuf {
     ghost use Rattle.std.specs.Prelude.{List};
-    ghost use Rattle.outbox.specs.Queue.{Entry};
+    ghost use Rattle.outbox.specs.Queue.{ReadyEntry};
 
-    ghost Value = { List Entry };
+    ghost Value = { List ReadyEntry };
 
     ghost use Rattle.outbox.specs.Fields.{entries_of, IsSoundBuffer};
 

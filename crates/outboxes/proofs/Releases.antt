@@ -1,12 +1,12 @@
 -- A release in its middle: some sessions have given, the others are still to give.
-use Rattle.std.proofs.Common.{◌≡◌, ℕ, suc, ◌+◌, ◌-◌, ◌≤◌, ◌<◌, Bool, true, false, cond, List, [], ◌∷◌, ◌++◌, length, take, drop, map, refl}
+use Rattle.std.proofs.Common.{◌≡◌, ℕ, suc, ◌+◌, ◌-◌, ◌≤◌, ◌<◌, Bool, true, false, cond, List, [], ◌∷◌, ◌++◌, length, take, drop, refl}
 use Rattle.std.proofs.Common.{ap, sym, ◌∙◌, subst, arith, append_assoc, append-nil, length-append, drop-cons, get_or, set}
 use Rattle.std.specs.Prelude.{◌==◌, filter}
 use Rattle.std.proofs.lemmas.List.{drop-set-lt, drop_all, get_or_default, length-set, map-append, take_all}
 use Rattle.std.proofs.Math.Seq.{take-suc-set}
 use Rattle.outbox.proofs.BufferLaws.{octets_in-entry_of, length-entry, octets_in-append}
 use Rattle.outbox.proofs.GivingLaws.{give-cases, give-room}
-use Rattle.outbox.specs.Queue.{Entry, Giving, Held, entry_of, give, octets_in}
+use Rattle.outbox.specs.Queue.{ReadyEntry, Giving, HeldOutput, entry_of, give, octets_in}
 use Rattle.outboxes.specs.Sessions.{Release, RiseFrom, Session, after_giving, holding, is_holding, release}
 use Rattle.outboxes.specs.Outbox.{HaveRoom, Kept, room_of, session_in, sessions}
 use Rattle.outboxes.proofs.Places.{room_set}
@@ -14,7 +14,7 @@ use Rattle.outboxes.proofs.Places.{room_set}
 -- ---- one session
 
 -- none holds more afterwards
-pub give_fewer : (p room given : ℕ) (held : List Held) → length (give p room given held).held ≤ length held
+pub give_fewer : (p room given : ℕ) (held : List HeldOutput) → length (give p room given held).held ≤ length held
 give_fewer p room given [] = omega arith
 give_fewer p room given (front ∷ rest) =
     give-cases (λ g. length g.held ≤ suc (length rest)) p room given front rest
@@ -22,11 +22,11 @@ give_fewer p room given (front ∷ rest) =
     (λ near some long. omega arith)
     (λ near some short. omega (arith, give_fewer p (room - length front.octets) front.dependency rest))
 
-abbrev given_of : ℕ → List Entry → Kept → Giving
+abbrev given_of : ℕ → List ReadyEntry → Kept → Giving
 given_of p entries k = give p (65536 - octets_in entries) k.given k.held
 
 -- the room behind a session's entry
-room_behind : (p : ℕ) (entries : List Entry) (k : Kept)
+room_behind : (p : ℕ) (entries : List ReadyEntry) (k : Kept)
     → 65536 - octets_in (entries ++ entry_of k.number (given_of p entries k)) ≡ (given_of p entries k).room
 room_behind p entries k =
     let g : Giving = given_of p entries k in
@@ -35,17 +35,18 @@ room_behind p entries k =
 
 -- ---- in the middle
 
-abbrev pub rest_of : ℕ → List Entry → ℕ → List Kept → Release
+abbrev pub rest_of : ℕ → List ReadyEntry → ℕ → List Kept → Release
 rest_of p entries at ks = release p (65536 - octets_in entries) (sessions (drop at ks))
 
-pub record GoesOn (p : ℕ) (all : List Kept) (entries : List Entry) (at : ℕ) (ks : List Kept) : Type 0 where
+pub record GoesOn (p : ℕ) (all : List Kept) (entries : List ReadyEntry) (at : ℕ) (ks : List Kept) : Type 0 where
   pub size : length ks ≡ length all
   pub entries_are : (release p 65536 (sessions all)).entries ≡ entries ++ (rest_of p entries at ks).entries
   pub sessions_are : (release p 65536 (sessions all)).sessions ≡ sessions (take at ks) ++ (rest_of p entries at ks).sessions
   pub few : length entries + holding (sessions (drop at ks)) ≤ 64
   pub room : HaveRoom 0 0 all ks
 
-pub at_first : (p : ℕ) (all : List Kept) (entries : List Entry) → entries ≡ [] → holding (sessions all) ≤ 64 → GoesOn p all entries 0 all
+pub at_first : (p : ℕ) (all : List Kept) (entries : List ReadyEntry) → entries ≡ [] → holding (sessions all) ≤ 64
+    → GoesOn p all entries 0 all
 at_first p all entries none few =
     subst (λ es. GoesOn p all es 0 all) (sym none) (record {
       size = refl;
@@ -55,7 +56,7 @@ at_first p all entries none few =
       room = λ q. omega arith;
     })
 
-module _ (p : ℕ) (all : List Kept) (entries : List Entry) (at : ℕ) (ks : List Kept) (k new : Kept) (within : at < length ks)
+module _ (p : ℕ) (all : List Kept) (entries : List ReadyEntry) (at : ℕ) (ks : List Kept) (k new : Kept) (within : at < length ks)
     (is : get_or ks at k ≡ k) (h : GoesOn p all entries at ks)
     (now : session_in new ≡ after_giving (given_of p entries k) (session_in k)) (room : k.room ≤ new.room) where
   here : drop at ks ≡ k ∷ drop (suc at) ks
@@ -65,7 +66,7 @@ module _ (p : ℕ) (all : List Kept) (entries : List Entry) (at : ℕ) (ks : Lis
   pub has_entry : 0 < length k.held → length entries < 64
   has_entry some =
       by_held k.held some (subst (λ xs. length entries + holding (sessions xs) ≤ 64) here h.few) where
-        by_held : (held : List Held) → 0 < length held
+        by_held : (held : List HeldOutput) → 0 < length held
             → length entries + length (cond (is_holding (record { number = k.number; given = k.given; held = held }))
             (session_in k ∷ filter is_holding (sessions (drop (suc at) ks))) (filter is_holding (sessions (drop (suc at) ks)))) ≤ 64
             → length entries < 64
@@ -75,7 +76,7 @@ module _ (p : ℕ) (all : List Kept) (entries : List Entry) (at : ℕ) (ks : Lis
   pub goes_on : GoesOn p all (entries ++ entry_of k.number (given_of p entries k)) (suc at) (set ks at new)
   goes_on =
       let g : Giving = given_of p entries k in
-      let after : List Entry = entries ++ entry_of k.number g in
+      let after : List ReadyEntry = entries ++ entry_of k.number g in
       let size : length (set ks at new) ≡ length ks = length-set ks at new in
       let rest : drop (suc at) (set ks at new) ≡ drop (suc at) ks = drop-set-lt (suc at) ks at new (omega arith) in
       let later : Release = release p (65536 - octets_in after) (sessions (drop (suc at) ks)) in
@@ -128,7 +129,7 @@ module _ (p : ℕ) (all : List Kept) (entries : List Entry) (at : ℕ) (ks : Lis
             ap (λ xs. holding (sessions xs)) rest,
             by_held k.held few,
           ) where
-            by_held : (held : List Held) → length entries + length
+            by_held : (held : List HeldOutput) → length entries + length
                 (cond (is_holding (record { number = k.number; given = k.given; held = held }))
                 (session_in k ∷ filter is_holding (sessions (drop (suc at) ks))) (filter is_holding (sessions (drop (suc at) ks)))) ≤ 64
                 → length entries + (length (entry_of k.number (give p (65536 - octets_in entries) k.given held)) + length
@@ -138,7 +139,7 @@ module _ (p : ℕ) (all : List Kept) (entries : List Entry) (at : ℕ) (ks : Lis
 
 -- ---- at the end
 
-pub at_last : (p : ℕ) (all : List Kept) (entries : List Entry) (at : ℕ) (ks : List Kept) → length ks ≤ at → GoesOn p all entries at ks
+pub at_last : (p : ℕ) (all : List Kept) (entries : List ReadyEntry) (at : ℕ) (ks : List Kept) → length ks ≤ at → GoesOn p all entries at ks
     → (entries ≡ (release p 65536 (sessions all)).entries) × (sessions ks ≡ (release p 65536 (sessions all)).sessions)
 at_last p all entries at ks end h =
     let none : drop at ks ≡ [] = drop_all at ks end in
@@ -159,7 +160,7 @@ holding_release p room [] = omega arith
 holding_release p room (s ∷ ss) =
     by_held s.held (give p room s.given s.held).held (give_fewer p room s.given s.held)
     (holding_release p (give p room s.given s.held).room ss) where
-      by_held : (held left : List Held) → length left ≤ length held
+      by_held : (held left : List HeldOutput) → length left ≤ length held
           → holding (release p (give p room s.given s.held).room ss).sessions ≤ holding ss
           → length (cond (is_holding (record { number = s.number; given = (give p room s.given s.held).given; held = left }))
           (record {

@@ -1,12 +1,12 @@
 -- The sessions stand in rising number, and few of them hold outputs.
-use Rattle.std.proofs.Common.{◌≡◌, ℕ, suc, ◌+◌, ◌<◌, ◌≤◌, Bool, true, false, cond, List, [], ◌∷◌, length, map, refl, sym, ◌∙◌, ap, subst}
+use Rattle.std.proofs.Common.{◌≡◌, ℕ, suc, ◌+◌, ◌<◌, ◌≤◌, Bool, true, false, cond, List, [], ◌∷◌, length, refl, sym, ◌∙◌, ap, subst}
 use Rattle.std.proofs.Common.{arith, inl, inr, get_or, take, length-append}
 use Rattle.std.specs.Prelude.{◌==◌, filter, not}
 use Rattle.std.proofs.lemmas.Bool.{cases_eq, eq-eqb, le-leb, ne_eqb}
 use Rattle.std.proofs.lemmas.Bool.Decides.{leb_tells}
 use Rattle.std.proofs.lemmas.List.{map-append, take_more}
 use Rattle.std.proofs.lemmas.List.Elements.{filter-append}
-use Rattle.outbox.specs.Queue.{Held}
+use Rattle.outbox.specs.Queue.{HeldOutput}
 use Rattle.outboxes.specs.Sessions.{RiseFrom, Session, holding, is_holding, joined, sent, session_of, silent, with_output, with_session}
 use Rattle.outboxes.specs.Outbox.{IsSound, Kept, session_in, sessions}
 
@@ -97,7 +97,7 @@ joined_holding n (s ∷ ss) = elim (leb_tells n s.number) [
 ]
 
 -- with an output more, one more holds some
-pub sent_holding : (output : Held) (n : ℕ) (ss : List Session) → holding (sent n output ss) ≤ holding ss + 1
+pub sent_holding : (output : HeldOutput) (n : ℕ) (ss : List Session) → holding (sent n output ss) ≤ holding ss + 1
 sent_holding output n [] = omega arith
 sent_holding output n (s ∷ ss) = elim (leb_tells n s.number) [
   | inl from ↦
@@ -138,7 +138,7 @@ holding_more ks at d within =
 
 pub some_held : (k : Kept) → is_holding (session_in k) ≡ not (length k.held == 0)
 some_held k = by_held k.held where
-  by_held : (held : List Held) → is_holding (record { number = k.number; given = k.given; held = held }) ≡ not (length held == 0)
+  by_held : (held : List HeldOutput) → is_holding (record { number = k.number; given = k.given; held = held }) ≡ not (length held == 0)
   by_held [] = refl
   by_held (h ∷ held) = sym (ap not (ne_eqb (suc (length held)) 0 (λ same. omega (arith, same))))
 

@@ -1,14 +1,14 @@
 -- What an outbox keeps of each session.
 use Rattle.std.specs.Prelude.{◌≡◌, ℕ, suc, ◌+◌, ◌<◌, ◌≤◌, not, ◌==◌, nat_le, if◌then◌else◌, List, [], ◌∷◌, filter, length, map}
 use Rattle.std.specs.Prelude.{slice_index_or}
-use Rattle.outbox.specs.Queue.{Held}
+use Rattle.outbox.specs.Queue.{HeldOutput}
 use Rattle.outboxes.specs.Sessions.{RiseFrom, Session, holding}
 
 -- a session, and how many more outputs can be added after its others without taking memory
 pub record Kept : Type 0 where
   pub number : ℕ
   pub given : ℕ
-  pub held : List Held
+  pub held : List HeldOutput
   pub room : ℕ
 
 abbrev pub session_in : Kept → Session

@@ -1,13 +1,13 @@
 -- The outputs of all sessions, and what a release hands out of them. All of these rules are this project's own.
-use Rattle.std.specs.Prelude.{ℕ, suc, ◌+◌, ◌≤◌, Bool, true, false, ◌==◌, nat_le, if◌then◌else◌, List, [], ◌∷◌, ◌++◌, length, filter}
-use Rattle.outbox.specs.Queue.{Held, Giving, Entry, entry_of, give}
+use Rattle.std.specs.Prelude.{ℕ, suc, ◌≤◌, Bool, true, false, ◌==◌, nat_le, if◌then◌else◌, List, [], ◌∷◌, ◌++◌, length, filter}
+use Rattle.outbox.specs.Queue.{HeldOutput, Giving, ReadyEntry, entry_of, give}
 
 -- A session's number; the dependency of its last output that was handed out whole, 0 at first; and the outputs that it
 -- holds, the next one first.
 pub record Session : Type 0 where
   pub number : ℕ
   pub given : ℕ
-  pub held : List Held
+  pub held : List HeldOutput
 
 -- a session without outputs
 abbrev pub silent : ℕ → Session
@@ -35,16 +35,16 @@ abbrev pub joined : ℕ → List Session → List Session
 joined n sessions = with_session (λ s. s) n sessions
 
 -- one more output, after those of the session
-abbrev pub with_output : Held → Session → Session
+abbrev pub with_output : HeldOutput → Session → Session
 with_output output s = record { number = s.number; given = s.given; held = s.held ++ output ∷ [] }
 
-abbrev pub sent : ℕ → Held → List Session → List Session
+abbrev pub sent : ℕ → HeldOutput → List Session → List Session
 sent n output sessions = with_session (with_output output) n sessions
 
 -- the session holds outputs
 abbrev pub is_holding : Session → Bool
 is_holding s = are_held s.held where
-  are_held : List Held → Bool
+  are_held : List HeldOutput → Bool
   are_held [] = false
   are_held (held ∷ rest) = true
 
@@ -60,7 +60,7 @@ after_giving g s = record { number = s.number; given = g.given; held = g.held }
 
 -- the entries that a release hands out, and the sessions that it leaves
 pub record Release : Type 0 where
-  pub entries : List Entry
+  pub entries : List ReadyEntry
   pub sessions : List Session
 
 -- what a session gives, and then those after it

@@ -2,7 +2,7 @@
 
 ghost use Rattle.std.specs.Prelude.{◌≡◌, ◌⊎◌, ℕ, true, false, ◌+◌, ◌^◌, ◌<◌, ◌≤◌, [], length, max, slice_index_or, vec_len, IfOk, IfSome};
 ghost use Rattle.std.specs.Prelude.{IsNone, MatchOption, OnErr, OnOk};
-ghost use Rattle.outbox.specs.Queue.{Held, buffered, last_dependency};
+ghost use Rattle.outbox.specs.Queue.{HeldOutput, buffered, last_dependency};
 ghost use Rattle.outboxes.specs.Sessions.{RiseFrom, holding, joined, release, sent, session_of, silent};
 ghost use Rattle.outboxes.specs.Outbox.{HaveRoom, Kept, Stands, place_of, room_of, session_in, sessions, without};
 
@@ -102,7 +102,7 @@ impl Outbox {
     /// The number of sessions that hold outputs. One more output adds at most one session.
     pub fn holding(&self) -> usize
         ensures count { result ≡ holding (sessions self.now) }
-        ensures more { (n : ℕ) (output : Held) → holding (sent n output (sessions self.now)) ≤ result + 1 }
+        ensures more { (n : ℕ) (output : HeldOutput) → holding (sent n output (sessions self.now)) ≤ result + 1 }
     {
         count_holding(&self.seats)
     }

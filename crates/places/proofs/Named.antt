@@ -9,7 +9,7 @@ use Rattle.std.proofs.lemmas.List.Sorted.{IsPermutation-sym, Contains-permutatio
 use Rattle.model.specs.Stream.{Octets}
 use Rattle.model.specs.Files.{File, table}
 use Rattle.model.specs.Layout.{Holds}
-use Rattle.model.specs.Spool.{Spool, Entry, NewsGroup, entries, entries_from, group_made, groups, news_group}
+use Rattle.model.specs.Spool.{Spool, SpoolEntry, NewsGroup, entries, entries_from, group_made, groups, news_group}
 use Rattle.model.specs.SpoolFiles.{change_file, entry_files, files_of, numbers_file, numbers_name, overview_file, overview_name}
 use Rattle.model.specs.declared.change.Change.{Change}
 use Rattle.model.specs.declared.change.Change.TheVariants.{Group, Article, Expire}
@@ -90,7 +90,7 @@ files_from inodes files f (k ∷ places) (x ∷ xs) are have same =
 
 -- a group comes from the change that made it, and its numbers come after that change's file
 record IsMadeBy (S : Spool) (n : ℕ) (R : Spool) (g : NewsGroup) : Type 0 where
-  entry : Entry
+  entry : SpoolEntry
   here : Contains (entries_from n R) entry
   numbers : Contains (entry_files S entry) (record { name = numbers_name g.name; content = numbers_file S g.name })
 
@@ -115,7 +115,7 @@ made_by S n (Group created ∷ R) g (suc k, low, is) =
 made_by S n (Article filing ∷ R) g has = later S n (Article filing) R g (made_by S (suc n) R g has)
 made_by S n (Expire expiry ∷ R) g has = later S n (Expire expiry) R g (made_by S (suc n) R g has)
 
-has_change : (S : Spool) (e : Entry) → Contains (entries S) e → Contains (files_of S) (change_file e)
+has_change : (S : Spool) (e : SpoolEntry) → Contains (entries S) e → Contains (files_of S) (change_file e)
 unfolding files_of
 has_change S e has = joined_has (entry_files S) (entries S) e (change_file e) has (0, omega arith, refl)
 
@@ -172,7 +172,7 @@ no_more : (S : Spool) (c : Change) → group_made (record { serial = length S + 
 no_more S c none = groups_more S c ∙ ap (λ gs. groups S ++ gs) (empty (record { serial = length S + 1; change = c }) none)
     ∙ append-nil (groups S)
   where
-    empty : (e : Entry) → group_made e ≡ None → filter_map group_made (e ∷ []) ≡ []
+    empty : (e : SpoolEntry) → group_made e ≡ None → filter_map group_made (e ∷ []) ≡ []
     empty e is = ap (λ (o : Option NewsGroup). cons_option o []) is
 
 still : {X : Type 0} (old new : List (Option File)) (named : X → Octets) (places : List ℕ) (xs : List X) → KeepsNames old new
@@ -184,9 +184,9 @@ pub grow_by_change : PlacesGrowByChange
 grow_by_change old new S c places at none named keeps here =
     let same : groups S ≡ groups (S ++ c ∷ []) = sym (no_more S c none) in
     record {
-      changes_are = one_more old new (λ (e : Entry). (change_file e).name) places.changes (entries S) at
+      changes_are = one_more old new (λ (e : SpoolEntry). (change_file e).name) places.changes (entries S) at
           (record { serial = length S + 1; change = c }) keeps named.changes_are here
-          ∙ ap (map (λ (e : Entry). Some (change_file e).name)) (sym (entries_more S c));
+          ∙ ap (map (λ (e : SpoolEntry). Some (change_file e).name)) (sym (entries_more S c));
       numbers_are = still old new (λ (g : NewsGroup). numbers_name g.name) places.numbers (groups S) keeps named.numbers_are
           ∙ ap (map (λ (g : NewsGroup). Some (numbers_name g.name))) same;
       overviews_are = still old new (λ (g : NewsGroup). overview_name g.name) places.overviews (groups S) keeps named.overviews_are
@@ -198,9 +198,9 @@ grow_by_group old new S created places at numbers overview named keeps here seco
     let c : Change = Group created in
     let g : NewsGroup = news_group (length S + 1) created in
     record {
-      changes_are = one_more old new (λ (e : Entry). (change_file e).name) places.changes (entries S) at
+      changes_are = one_more old new (λ (e : SpoolEntry). (change_file e).name) places.changes (entries S) at
           (record { serial = length S + 1; change = c }) keeps named.changes_are here
-          ∙ ap (map (λ (e : Entry). Some (change_file e).name)) (sym (entries_more S c));
+          ∙ ap (map (λ (e : SpoolEntry). Some (change_file e).name)) (sym (entries_more S c));
       numbers_are = one_more old new (λ (h : NewsGroup). numbers_name h.name) places.numbers
           (groups S) numbers g keeps named.numbers_are second
           ∙ ap (map (λ (h : NewsGroup). Some (numbers_name h.name))) (sym (groups_more S c));

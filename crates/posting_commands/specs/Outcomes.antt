@@ -41,24 +41,25 @@ abbrev pub then_line : Session → Octets → Option Change → Answer
 then_line x reply c = record { reply = reply; next = answers.awaiting x awaits.Line; change = c }
 
 -- what a message is answered, with what the answer reads and the change that it makes, and its mark
-pub record Said : Type 0 where
+pub record Replied : Type 0 where
   pub answered : Answered
   pub mark : Mark
 
 -- a step, with the change that files its article
-abbrev pub said : Step → Said
+abbrev pub said : Step → Replied
 said s = record {
   answered = answered
-      (record { reply = s.answered.answer.reply; next = s.answered.answer.next; change = option_map change_of s.accepted }) s.answered.reads;
+      (record { reply = s.answered.answer.reply; next = s.answered.answer.next; change = option_map change_of s.accepted })
+      s.answered.reads;
   mark = s.mark;
 }
 
 -- an answer that is served
-abbrev pub said_served : Answered → Said
+abbrev pub said_served : Answered → Replied
 said_served answered = record { answered = answered; mark = mark.Served }
 
 -- the answer to a posted article with what it reads, and its mark
-abbrev pub post_said : Octets → Spool → Session → ℕ → Octets → Said
+abbrev pub post_said : Octets → Spool → Session → ℕ → Octets → Replied
 post_said host S x t text =
     if answers.is_long_as_stored host S text then record { answered = answered (then_line x not_accepted None) 0; mark = mark.Long }
     else record {

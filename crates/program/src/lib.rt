@@ -3,7 +3,7 @@
 
 mod running;
 
-pub use command_line::Service;
+pub use command_line::ServeOptions;
 pub use commands::Streams;
 pub use printing::Failure;
-pub use running::{Outcome, fail, import, run, serve};
+pub use running::{AfterRun, fail, import, run, serve};

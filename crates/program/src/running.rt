@@ -3,7 +3,7 @@
 ghost use Rattle.std.specs.Prelude.{◌≡◌};
 ghost use Rattle.printing.specs.Status.{status_of};
 
-use command_line::{Asked, Export, Service, read_words};
+use command_line::{Asked, Export, ServeOptions, read_words};
 use commands::{ImportCounts, LineEnds, Offer, Streams, Verbosity};
 use names::GroupName;
 use printing::{DONE, Failure, REFUSED};
@@ -20,11 +20,11 @@ use std::time::Clock;
 
 /// What the program does after `run`.
 #[derive(Drop)]
-pub enum Outcome<'a> {
+pub enum AfterRun<'a> {
     /// It ends with this status.
     Ends(u8),
     /// The words ask for a server, which is for `serve`.
-    Serves(Service<'a>),
+    Serves(ServeOptions<'a>),
     /// The words ask to file a batch in this volume, which is for `import`.
     Imports(&'a str),
 }
@@ -41,10 +41,10 @@ pub fn run<'a, R: Files<File = File> + Wait, S: AsStr, I: BufRead, W: Write, F: 
     input: &mut I,
     output: &mut W,
     faults: &mut F,
-) -> Outcome<'a> {
+) -> AfterRun<'a> {
     let status = match read_words(alloc, words, output, faults) {
-        Ok(Asked::Serve(service)) => return Outcome::Serves(service),
-        Ok(Asked::Import(path)) => return Outcome::Imports(path),
+        Ok(Asked::Serve(service)) => return AfterRun::Serves(service),
+        Ok(Asked::Import(path)) => return AfterRun::Imports(path),
         Ok(Asked::Nothing(status)) => status,
         Ok(asked) => match carry_out(rt, alloc, asked, input, output) {
             Ok(()) => DONE,
@@ -54,7 +54,7 @@ pub fn run<'a, R: Files<File = File> + Wait, S: AsStr, I: BufRead, W: Write, F: 
     };
     let status = flush(status, output, faults);
     let _ = faults.flush();
-    Outcome::Ends(status)
+    AfterRun::Ends(status)
 }
 
 /// Flushes the output of a command, and answers the status with which the program ends: that of the command, but
@@ -82,7 +82,13 @@ pub fn serve<
     A: Write + Send + Drop + 'static,
     G: Write + Send + Drop + 'static,
     F: Write,
->(rt: &R, alloc: Global, service: &Service<'_>, streams: Streams<L, A, G>, faults: &mut F) -> u8 {
+>(
+    rt: &R,
+    alloc: Global,
+    service: &ServeOptions<'_>,
+    streams: Streams<L, A, G>,
+    faults: &mut F,
+) -> u8 {
     let verbosity = if service.is_quiet {
         Verbosity::Quiet
     } else {

@@ -14,13 +14,13 @@ const CRLF: usize = 2;
 
 /// Consecutive numbers; there are none if the last is below the first.
 #[derive(Clone, Copy)]
-pub struct Numbers {
+pub struct NumberRange {
     pub first: u64,
     pub last: u64,
 }
 
 /// The numbers of a range that are in a group.
-pub fn numbers_in(range: &Range, counts: Counts) -> Numbers
+pub fn numbers_in(range: &Range, counts: Counts) -> NumberRange
     ensures first { result.first ≡ first_in range.now counts.low }
     ensures last { result.last ≡ last_in range.now.last counts.high }
     ensures from { counts.low ≤ result.first }
@@ -31,11 +31,11 @@ pub fn numbers_in(range: &Range, counts: Counts) -> Numbers
         Some(last) => last.min(counts.high),
         None => counts.high,
     };
-    Numbers { first, last }
+    NumberRange { first, last }
 }
 
 /// How many numbers these are.
-fn count(numbers: Numbers) -> u64
+fn count(numbers: NumberRange) -> u64
     requires { 1 ≤ numbers.first }
     ensures { result ≡ numbers.last + 1 - numbers.first }
 {
@@ -46,7 +46,7 @@ fn count(numbers: Numbers) -> u64
 }
 
 /// The most octets that the lines of these numbers have: for each number as many as for the last one.
-pub fn lines_bound(numbers: Numbers) -> usize
+pub fn lines_bound(numbers: NumberRange) -> usize
     requires { 1 ≤ numbers.first }
     ensures { result ≡ min ((numbers.last + 1 - numbers.first) * (length (decimal numbers.last) + 2)) (2 ^ 64 - 1) }
 {
@@ -56,7 +56,7 @@ pub fn lines_bound(numbers: Numbers) -> usize
 }
 
 /// Appends a line for each of the numbers.
-pub fn push_numbers(reply: &mut Vec<u8>, numbers: Numbers) -> Result<(), AllocError>
+pub fn push_numbers(reply: &mut Vec<u8>, numbers: NumberRange) -> Result<(), AllocError>
     requires { 1 ≤ numbers.first }
     ensures { OnOk result (reply.new.items ≡ reply.old.items ++ number_lines numbers.first (numbers.last + 1 - numbers.first)) }
 {

@@ -9,7 +9,7 @@ mod shared;
 mod writer;
 
 pub use limits::Limits;
-pub use outgoing::{Cut, Sent, give_short_writes};
+pub use outgoing::{Cut, Delivery, give_short_writes};
 pub use releaser::release_all;
 pub use shared::{Closing, Shared};
 pub use writer::{Released, ReplyWriter};

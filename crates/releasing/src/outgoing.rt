@@ -52,7 +52,7 @@ pub enum Cut {
 
 /// What was written to a caller.
 #[derive(Clone, Copy, Debug, PartialEq, Eq)]
-pub struct Sent {
+pub struct Delivery {
     pub octets: u64,
     /// `None` if all that was released to the caller was written.
     pub cut: Option<Cut>,
@@ -67,7 +67,7 @@ pub(crate) struct Outgoing {
     pub(crate) ready: ReadyBuf,
     written: usize,
     /// What was written to this caller so far.
-    sent: Sent,
+    sent: Delivery,
 }
 
 impl Outgoing {
@@ -77,7 +77,7 @@ impl Outgoing {
             stream: None,
             ready: ReadyBuf::new(alloc)?,
             written: 0,
-            sent: Sent {
+            sent: Delivery {
                 octets: 0,
                 cut: None,
             },
@@ -88,14 +88,14 @@ impl Outgoing {
     pub(crate) fn begin(&mut self, sid: u64, stream: Arc<TcpStream, Global>) {
         self.sid = sid;
         self.stream = Some(stream);
-        self.sent = Sent {
+        self.sent = Delivery {
             octets: 0,
             cut: None,
         };
     }
 
     /// Ends the session, discards what was taken, and answers what was written to the caller.
-    pub(crate) fn end(&mut self) -> Sent {
+    pub(crate) fn end(&mut self) -> Delivery {
         self.stream = None;
         self.clear();
         self.sent

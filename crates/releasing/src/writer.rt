@@ -3,8 +3,8 @@
 //! holds two of these locks.
 
 use crate::Shared;
-use crate::outgoing::{Outgoing, Patience, Sent};
-use flusher::{Answered, ExecError, Gate, Kern};
+use crate::outgoing::{Delivery, Outgoing, Patience};
+use flusher::{ExecError, ExecOutcome, Gate, Kern};
 use model::{Message, Moment};
 use outbox::RELEASE_ENTRIES;
 use std::alloc::{AllocError, Global};
@@ -65,7 +65,7 @@ impl ReplyWriter {
     }
 
     /// Lets the caller go, drops what is left of its session, and answers what was written to it.
-    pub fn end<R: Wait, K: Kern>(&self, rt: &R, kern: &K) -> Sent {
+    pub fn end<R: Wait, K: Kern>(&self, rt: &R, kern: &K) -> Delivery {
         let mut outgoing = self.outgoing.lock(rt);
         kern.leave(rt, outgoing.sid);
         let sent = outgoing.end();
@@ -81,7 +81,7 @@ impl ReplyWriter {
         shared: &Shared<'_, R, K, G>,
         message: &Message,
         moment: Moment,
-    ) -> Result<Answered, ExecError> {
+    ) -> Result<ExecOutcome, ExecError> {
         let mut guard = self.outgoing.lock(shared.rt);
         let outgoing = &mut *guard;
         if outgoing.is_full() {

@@ -7,8 +7,8 @@ use Rattle.model.specs.Replies.{block, bye, transferred, received, send_transfer
 use Rattle.model.specs.Replies.{no_group_selected, no_current_article, no_next_article, no_previous_article, no_such_number}
 use Rattle.model.specs.Replies.{no_such_article, not_wanted, try_later, rejected, not_accepted, unknown_command, syntax_error, help_follows}
 use Rattle.model.specs.Replies.{capabilities_follow, information_follows, overview_follows, articles_follow, groups_follow}
-use Rattle.replies.specs.declared.texts.Block.{Block}
-use Rattle.replies.specs.declared.texts.Block.TheVariants as blocks
+use Rattle.replies.specs.declared.texts.FixedBlock.{FixedBlock}
+use Rattle.replies.specs.declared.texts.FixedBlock.TheVariants as blocks
 use Rattle.replies.specs.declared.texts.Reply.{Reply}
 use Rattle.replies.specs.declared.texts.Reply.TheVariants as reply
 use Rattle.replies.specs.declared.texts.Heading.{Heading}
@@ -43,7 +43,7 @@ headed heading.Overview = overview_follows
 headed heading.Articles = articles_follow
 headed heading.Groups = groups_follow
 
-abbrev pub sent_block : Block → Octets
+abbrev pub sent_block : FixedBlock → Octets
 sent_block blocks.Capabilities = block capabilities_follow capability_lines
 sent_block blocks.Help = block help_follows (spaced (map keyword_text keywords) ∷ [])
 sent_block blocks.OverviewFormat = block information_follows overview_format

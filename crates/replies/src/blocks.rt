@@ -4,9 +4,9 @@
 ghost use Rattle.std.specs.Prelude.{◌≡◌, ◌∷◌, ◌++◌, OnOk, flat_map};
 ghost use Rattle.model.specs.Commands.{keyword_text, listing_text};
 ghost use Rattle.replies.specs.Replies.{sent_block};
-ghost use Rattle.replies.specs.declared.texts.Block.TheVariants as kinds;
+ghost use Rattle.replies.specs.declared.texts.FixedBlock.TheVariants as kinds;
 
-use crate::texts::{Block, Heading};
+use crate::texts::{FixedBlock, Heading};
 use crate::writing::push_heading;
 use model::{KEYWORDS, Keyword, LISTINGS, Listing};
 use std::alloc::AllocError;
@@ -22,13 +22,13 @@ const FIELDS: &[u8] =
 const END: &[u8] = b"\r\n.\r\n";
 
 /// Appends the whole reply.
-pub fn push_block(reply: &mut Vec<u8>, which: Block) -> Result<(), AllocError>
+pub fn push_block(reply: &mut Vec<u8>, which: FixedBlock) -> Result<(), AllocError>
     ensures { OnOk result (reply.new.items ≡ reply.old.items ++ sent_block which) }
 {
     match which {
-        Block::Capabilities => push_capabilities(reply),
-        Block::Help => push_help(reply),
-        Block::OverviewFormat => push_overview_format(reply),
+        FixedBlock::Capabilities => push_capabilities(reply),
+        FixedBlock::Help => push_help(reply),
+        FixedBlock::OverviewFormat => push_overview_format(reply),
     }
 }
 

@@ -12,7 +12,7 @@ pub use sessions::{
     Answered, answer, at_number, awaiting, copy, says, says_block, says_line, selecting,
 };
 pub use stuffing::{Stuffing, pieces_make_the_text};
-pub use texts::{Block, Heading, Reply};
+pub use texts::{FixedBlock, Heading, Reply};
 pub use writing::{
     push_end, push_greeting, push_heading, push_line, push_number, push_reply, push_spaced,
     push_stuffed,

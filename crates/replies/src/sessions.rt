@@ -6,7 +6,7 @@ ghost use Rattle.replies.specs.Answered.{answered, replied, with_group};
 ghost use Rattle.replies.specs.Replies.{sent, sent_block};
 
 use crate::blocks::push_block;
-use crate::texts::{Block, Reply};
+use crate::texts::{FixedBlock, Reply};
 use crate::writing::push_reply;
 use model::{Answer, Awaits, Session, Text};
 use std::alloc::{AllocError, Global};
@@ -129,7 +129,11 @@ pub fn says_line(
 
 /// CAPABILITIES, HELP and LIST OVERVIEW.FMT (RFC 3977, sections 5.2, 7.2 and 8.4), which leave the session as it is and
 /// read nothing.
-pub fn says_block(alloc: Global, session: &Session, which: Block) -> Result<Answered, AllocError>
+pub fn says_block(
+    alloc: Global,
+    session: &Session,
+    which: FixedBlock,
+) -> Result<Answered, AllocError>
     ensures { IfOk result (λ said. said ≡ answered (answers.says session.now (sent_block which)) 0) }
 {
     let mut reply = Vec::new(alloc);

@@ -87,7 +87,7 @@ impl Heading {
 
 /// A multi-line reply that never changes.
 #[derive(Clone, Copy)]
-pub enum Block {
+pub enum FixedBlock {
     Capabilities,
     Help,
     OverviewFormat,

@@ -18,13 +18,13 @@ use Rattle.script.specs.declared.lines.Line.TheVariants.{FailAt, FailKind, Crash
 
 -- what a line asks for, with its texts as lists: a group is made, articles are removed from one, octets arrive for a
 -- session, anything else
-pub data Said : Type 0 where
-  Made : (group : NewGroup) → Said
-  Expired : (name : Octets) (number : ℕ) → Said
-  Came : (session : ℕ) (octets : Octets) → Said
-  Asked : Line → Said
+pub data LineMeaning : Type 0 where
+  Made : (group : NewGroup) → LineMeaning
+  Expired : (name : Octets) (number : ℕ) → LineMeaning
+  Came : (session : ℕ) (octets : Octets) → LineMeaning
+  Asked : Line → LineMeaning
 
-abbrev pub said : Line → Said
+abbrev pub said : Line → LineMeaning
 said (Group request) = Made (requests.group_of request)
 said (Expire name number) = Expired name number
 said (Arrive session octets) = Came session octets.items
@@ -47,7 +47,7 @@ abbrev pub ◌>>=◌ : {A B : Type 0} → Option A → (A → Option B) → Opti
 o >>= f = option_and_then f o
 
 -- a line of one word
-unfoldable pub alone_of : Octets → Option Said
+unfoldable pub alone_of : Octets → Option LineMeaning
 alone_of word =
     if bytes_eq word (codes "join") then Some (Asked Join)
     else (if bytes_eq word (codes "take") then Some (Asked Take)
@@ -70,10 +70,10 @@ kind_of word =
     (if bytes_eq word (codes "write") then Some Write else (if bytes_eq word (codes "sync") then Some Sync else None))
 
 -- N, or a kind of calls and N
-unfoldable pub fail_of : Octets → Option Said
+unfoldable pub fail_of : Octets → Option LineMeaning
 fail_of words = by_words (split_word words)
   where
-    by_words : Option (Octets × Octets) → Option Said
+    by_words : Option (Octets × Octets) → Option LineMeaning
     by_words None = option_map (λ call. Asked (FailAt call)) (number_of words)
     by_words (Some parts) = do
       kind ← kind_of parts.0
@@ -81,7 +81,7 @@ fail_of words = by_words (split_word words)
       Some (Asked (FailKind kind call))
 
 -- a line whose words are numbers or name a pick
-unfoldable pub numbered_of : Octets → Octets → Option Said
+unfoldable pub numbered_of : Octets → Octets → Option LineMeaning
 numbered_of keyword words =
     if bytes_eq keyword (codes "leave") then option_map (λ session. Asked (Leave session)) (number_of words)
     else (if bytes_eq keyword (codes "exec") then (do
@@ -103,7 +103,7 @@ new_group_of name status moment description = do
   if is_group_name name && is_description description then Some (new_group name yes_or_no description seconds) else None
 
 -- NAME STATUS MOMENT TEXT
-unfoldable pub group_of : Octets → Option Said
+unfoldable pub group_of : Octets → Option LineMeaning
 group_of words = do
   name ← split_word words
   status ← split_word name.1
@@ -112,27 +112,27 @@ group_of words = do
   Some (Made group)
 
 -- the expiry that a name and a number ask for
-unfoldable pub expired_of : Octets → Octets → Option Said
+unfoldable pub expired_of : Octets → Octets → Option LineMeaning
 expired_of name number = do
   up_to ← expiry_number_of number
   if is_group_name name then Some (Expired name up_to) else None
 
 -- NAME N
-unfoldable pub expiry_of : Octets → Option Said
+unfoldable pub expiry_of : Octets → Option LineMeaning
 expiry_of words = do
   parts ← split_word words
   expired_of parts.0 parts.1
 
 -- S TEXT, or S alone: the text and CRLF
-unfoldable pub arrival_of : Octets → Option Said
+unfoldable pub arrival_of : Octets → Option LineMeaning
 arrival_of words = came (split_word words)
   where
-    came : Option (Octets × Octets) → Option Said
+    came : Option (Octets × Octets) → Option LineMeaning
     came None = option_map (λ session. Came session (13 ∷ 10 ∷ [])) (number_of words)
     came (Some parts) = option_map (λ session. Came session (parts.1 ++ 13 ∷ 10 ∷ [])) (number_of parts.0)
 
 -- S HEX
-unfoldable pub hex_of : Octets → Option Said
+unfoldable pub hex_of : Octets → Option LineMeaning
 hex_of words = do
   parts ← split_word words
   session ← number_of parts.0
@@ -140,10 +140,10 @@ hex_of words = do
   if nat_le 1 (length parts.1) then Some (Came session octets) else None
 
 -- what a line asks for, by its first word
-unfoldable pub meaning : Octets → Option Said
+unfoldable pub meaning : Octets → Option LineMeaning
 meaning line = by_words (split_word line)
   where
-    by_words : Option (Octets × Octets) → Option Said
+    by_words : Option (Octets × Octets) → Option LineMeaning
     by_words None = alone_of line
     by_words (Some parts) =
         if bytes_eq parts.0 (codes "group") then group_of parts.1

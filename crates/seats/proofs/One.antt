@@ -2,12 +2,12 @@
 use Rattle.std.proofs.Common.{◌≡◌, ℕ, suc, ◌==◌, Bool, true, false, List, ◌++◌, refl, ap, sym, ◌∙◌, get_or, set}
 use Rattle.std.specs.Prelude.{Some, find, filter, length, not, take, drop, slice_get, if◌then◌else◌}
 use Rattle.std.proofs.lemmas.Option.{get_or_from_slice_get}
-use Rattle.outbox.specs.Queue.{Entry, entry_of}
+use Rattle.outbox.specs.Queue.{ReadyEntry, entry_of}
 use Rattle.seats.specs.Seats.{Seat, given_of, holds, ready_by, ready_of, seat_given, with_seat}
 use Rattle.seats.specs.Kept.{RiseFrom}
 use Rattle.seats.proofs.SeatsLaws.{RiseFrom-set, filter_at, find_at, find_dropped, set_get, with_seat_set}
 
-module _ (p : ℕ) (entries : List Entry) (seats : List Seat) (at sid : ℕ) (seat : Seat) (rise : RiseFrom 0 seats) (found : (s : Seat)
+module _ (p : ℕ) (entries : List ReadyEntry) (seats : List Seat) (at sid : ℕ) (seat : Seat) (rise : RiseFrom 0 seats) (found : (s : Seat)
     × (slice_get seats at ≡ Some s) × (s.number ≡ sid)) (read : seat ≡ get_or seats at seat) where
   same : seat ≡ found.0
   same = read ∙ get_or_from_slice_get seats at found.0 seat found.1

@@ -12,12 +12,12 @@ use Rattle.model.specs.Answer.{new_session}
 use Rattle.model.specs.Replies.{greeting}
 use Rattle.model.specs.Service.{mode_of}
 use Rattle.model.specs.declared.session.Session.{Session}
-use Rattle.outbox.specs.Queue.{Held, Giving, give, nothing_more, cut_at, behind}
+use Rattle.outbox.specs.Queue.{HeldOutput, Giving, give, nothing_more, cut_at, behind}
 use Rattle.seats.specs.Seats.{Seat, ready, seat_given}
-use Rattle.seats.specs.Kept.{Origin, answer_at, made_at, IsReply, IsGreeting, AreReplies, SeatIsKept, StillAwaits, IsSeat, RiseFrom}
+use Rattle.seats.specs.Kept.{Source, answer_at, made_at, IsReply, IsGreeting, AreReplies, SeatIsKept, StillAwaits, IsSeat, RiseFrom}
 
 -- `give` at an output, by its two tests
-abbrev give_by : Bool → Bool → ℕ → ℕ → ℕ → Held → List Held → Giving
+abbrev give_by : Bool → Bool → ℕ → ℕ → ℕ → HeldOutput → List HeldOutput → Giving
 give_by stays cut p room given held rest =
     if stays then nothing_more room given (held ∷ rest)
     else if cut then record { room = 0; octets = take room held.octets; ended = false; given = given; held = cut_at room held ∷ rest }
@@ -29,43 +29,45 @@ none_is_some (Some a) is = refl
 
 module _ (host : Octets) (S : Spool) where
   -- whole replies after an output, as what is held once that is gone
-  as_kept : (session : Session) (before from : ℕ) (held : List Held) (last : Session) → AreReplies host S session before from held last
+  as_kept : (session : Session) (before from : ℕ) (held : List HeldOutput) (last : Session)
+      → AreReplies host S session before from held last
       → SeatIsKept host S before held last
   as_kept session before from [] last h = tt
   as_kept session before from (held ∷ rest) last h = inr (h.0, 0, h.1, h.4)
 
   -- the rest of what is held once its front is gone
-  rest_is_kept : (given : ℕ) (held : Held) (rest : List Held) (last : Session) → SeatIsKept host S given (held ∷ rest) last
+  rest_is_kept : (given : ℕ) (held : HeldOutput) (rest : List HeldOutput) (last : Session) → SeatIsKept host S given (held ∷ rest) last
       → SeatIsKept host S held.dependency rest last
   rest_is_kept given held rest last h =
       ⊎_elim
       (λ (g : (cut : ℕ) × IsGreeting host given cut held × AreReplies host S new_session 0 0 rest last).
       subst (λ (n : ℕ). SeatIsKept host S n rest last) (sym g.1.dependency) (as_kept new_session 0 0 rest last g.2))
-      (λ (r : (o : Origin) × (cut : ℕ) × IsReply host S given cut o held × AreReplies host S (answer_at host S o).next held.dependency
+      (λ (r : (o : Source) × (cut : ℕ) × IsReply host S given cut o held × AreReplies host S (answer_at host S o).next held.dependency
       (o.position + length (made_at host S o)) rest last).
       as_kept _ _ _ rest last r.3)
       h
 
   -- the last output ends exactly where the session awaits nothing
-  last_awaits : (given : ℕ) (held : Held) (last : Session) → held.ends ≡ false → SeatIsKept host S given (held ∷ []) last
+  last_awaits : (given : ℕ) (held : HeldOutput) (last : Session) → held.ends ≡ false → SeatIsKept host S given (held ∷ []) last
       → IsSome (mode_of last.awaits)
   last_awaits given held last goes_on h =
       ⊎_elim
       (λ (g : (cut : ℕ) × IsGreeting host given cut held × AreReplies host S new_session 0 0 [] last).
       let new : IsSome (mode_of new_session.awaits) = refl in subst (λ (x : Session). IsSome (mode_of x.awaits)) g.2 new)
-      (λ (r : (o : Origin) × (cut : ℕ) × IsReply host S given cut o held × AreReplies host S (answer_at host S o).next held.dependency
+      (λ (r : (o : Source) × (cut : ℕ) × IsReply host S given cut o held × AreReplies host S (answer_at host S o).next held.dependency
       (o.position + length (made_at host S o)) [] last).
       subst (λ (x : Session). IsSome (mode_of x.awaits)) r.3
       (none_is_some (mode_of (answer_at host S r.0).next.awaits) (sym r.2.ends ∙ goes_on)))
       h
 
   -- a session awaits something before its last output, so an output with others after it does not end
-  goes_on_before : (given : ℕ) (held later : Held) (rest : List Held) (last : Session) → SeatIsKept host S given (held ∷ later ∷ rest) last
+  goes_on_before : (given : ℕ) (held later : HeldOutput) (rest : List HeldOutput) (last : Session)
+      → SeatIsKept host S given (held ∷ later ∷ rest) last
       → held.ends ≡ false
   goes_on_before given held later rest last h =
       ⊎_elim
       (λ (g : (cut : ℕ) × IsGreeting host given cut held × AreReplies host S new_session 0 0 (later ∷ rest) last). g.1.ends)
-      (λ (r : (o : Origin) × (cut : ℕ) × IsReply host S given cut o held × AreReplies host S (answer_at host S o).next held.dependency
+      (λ (r : (o : Source) × (cut : ℕ) × IsReply host S given cut o held × AreReplies host S (answer_at host S o).next held.dependency
       (o.position + length (made_at host S o)) (later ∷ rest) last).
       let awaited : IsSome (mode_of (answer_at host S r.0).next.awaits) =
       subst (λ (x : Session). IsSome (mode_of x.awaits)) r.3.2 r.3.1.awaited in
@@ -77,7 +79,7 @@ module _ (host : Octets) (S : Spool) where
       some_is_not_none (Some a) is = refl
 
   -- the front cut
-  cut_is_kept : (given room : ℕ) (held : Held) (rest : List Held) (last : Session) → room < length held.octets
+  cut_is_kept : (given room : ℕ) (held : HeldOutput) (rest : List HeldOutput) (last : Session) → room < length held.octets
       → SeatIsKept host S given (held ∷ rest) last → SeatIsKept host S given (cut_at room held ∷ rest) last
   cut_is_kept given room held rest last inside h =
       ⊎_elim
@@ -94,7 +96,7 @@ module _ (host : Octets) (S : Spool) where
         },
         g.2,
       ))
-      (λ (r : (o : Origin) × (cut : ℕ) × IsReply host S given cut o held × AreReplies host S (answer_at host S o).next held.dependency
+      (λ (r : (o : Source) × (cut : ℕ) × IsReply host S given cut o held × AreReplies host S (answer_at host S o).next held.dependency
       (o.position + length (made_at host S o)) rest last).
       let size : length held.octets ≡ length (answer_at host S r.0).reply - r.1 = ap length r.2.octets
       ∙ length-drop r.1 (answer_at host S r.0).reply in
@@ -121,7 +123,8 @@ module _ (host : Octets) (S : Spool) where
     pub awaits : g.ended ≡ false → StillAwaits g.held last
     pub ends : g.ended ≡ true → g.held ≡ []
 
-  pub give_is_kept : (p room given : ℕ) (held : List Held) (last : Session) → SeatIsKept host S given held last → StillAwaits held last
+  pub give_is_kept : (p room given : ℕ) (held : List HeldOutput) (last : Session) → SeatIsKept host S given held last
+      → StillAwaits held last
       → GivesKept (give p room given held) last
   give_is_kept p room given [] last h awaits = record { outputs = h; awaits = λ _. awaits; ends = λ is. refl }
   give_is_kept p room given (held ∷ rest) last h awaits =
@@ -129,17 +132,17 @@ module _ (host : Octets) (S : Spool) where
       (later_awaits rest refl goes_on))
       (nat_lt p held.dependency || room == 0) (nat_lt room (length held.octets)) refl
     where
-      later_awaits : (later : List Held) → later ≡ rest → held.ends ≡ false → StillAwaits later last
+      later_awaits : (later : List HeldOutput) → later ≡ rest → held.ends ≡ false → StillAwaits later last
       later_awaits [] is goes_on = last_awaits given held last goes_on
-          (subst (λ (xs : List Held). SeatIsKept host S given (held ∷ xs) last) (sym is) h)
+          (subst (λ (xs : List HeldOutput). SeatIsKept host S given (held ∷ xs) last) (sym is) h)
       later_awaits (next ∷ later) is goes_on = tt
 
-      ended_alone : (later : List Held) → later ≡ rest → held.ends ≡ true
+      ended_alone : (later : List HeldOutput) → later ≡ rest → held.ends ≡ true
           → (give p (room - length held.octets) held.dependency later).held ≡ []
       ended_alone [] is ended = refl
       ended_alone (next ∷ later) is ended =
           let on : held.ends ≡ false = goes_on_before given held next later last
-          (subst (λ (xs : List Held). SeatIsKept host S given (held ∷ xs) last) (sym is) h) in
+          (subst (λ (xs : List HeldOutput). SeatIsKept host S given (held ∷ xs) last) (sym is) h) in
           absurd (cc (ended, on))
 
       whole : (held.ends ≡ false → GivesKept (give p (room - length held.octets) held.dependency rest) last) → (ends : Bool)
@@ -155,7 +158,8 @@ module _ (host : Octets) (S : Spool) where
       whole tail true ended =
           let none = ended_alone rest refl ended in
           record {
-            outputs = subst (λ (xs : List Held). SeatIsKept host S (give p (room - length held.octets) held.dependency rest).given xs last)
+            outputs = subst (λ (xs : List HeldOutput). SeatIsKept host S
+                (give p (room - length held.octets) held.dependency rest).given xs last)
                 (sym none) tt;
             awaits = λ is. absurd (cc ((or_parts held.ends (give p (room - length held.octets) held.dependency rest).ended is).0, ended));
             ends = λ is. none;

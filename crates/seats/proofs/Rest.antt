@@ -6,12 +6,12 @@ use Rattle.std.proofs.lemmas.List.{length-take-le, take_at, drop_at, drop-set-lt
 use Rattle.std.proofs.Math.Seq.{take-suc-set}
 use Rattle.outbox.proofs.BufferLaws.{octets_in-entry_of, length-entry, octets_in-append}
 use Rattle.outbox.proofs.GivingLaws.{give-room}
-use Rattle.outbox.specs.Queue.{Entry, Giving, entry_of, octets_in}
+use Rattle.outbox.specs.Queue.{ReadyEntry, Giving, entry_of, octets_in}
 use Rattle.seats.specs.Seats.{Seat, Ready, given_of, ready, seat_given}
 
 -- the release of all sessions gives the entries that stand there and those of the rest, and leaves the sessions up to this place and what
 -- the rest leaves
-pub record IsRest (p : ℕ) (all : List Seat) (entries : List Entry) (at : ℕ) (seats : List Seat) : Type 0 where
+pub record IsRest (p : ℕ) (all : List Seat) (entries : List ReadyEntry) (at : ℕ) (seats : List Seat) : Type 0 where
   pub within : at ≤ length seats
   pub size : length entries + (length seats - at) ≤ length all
   pub entries_are : (ready p 65536 all).entries ≡ entries ++ (ready p (65536 - octets_in entries) (drop at seats)).entries
@@ -21,14 +21,14 @@ pub rest_at_first : (p : ℕ) (all : List Seat) → IsRest p all [] 0 all
 rest_at_first p all = record { within = omega arith; size = omega arith; entries_are = refl; seats_are = refl }
 
 -- the room after a session's entry
-room_behind : (p : ℕ) (entries : List Entry) (seat : Seat)
+room_behind : (p : ℕ) (entries : List ReadyEntry) (seat : Seat)
     → 65536 - octets_in (entries ++ entry_of seat.number (given_of p entries seat)) ≡ (given_of p entries seat).room
 room_behind p entries seat =
     let g : Giving = given_of p entries seat in
     let sum = give-room p (65536 - octets_in entries) seat.given seat.held in
     omega (arith, octets_in-append entries (entry_of seat.number g), octets_in-entry_of seat.number g, sum)
 
-module _ (p : ℕ) (all : List Seat) (entries : List Entry) (at : ℕ) (seats : List Seat) (seat : Seat) (lt : at < length seats)
+module _ (p : ℕ) (all : List Seat) (entries : List ReadyEntry) (at : ℕ) (seats : List Seat) (seat : Seat) (lt : at < length seats)
     (is : get_or seats at seat ≡ seat) (h : IsRest p all entries at seats) where
   g : Giving
   g = given_of p entries seat
@@ -72,7 +72,7 @@ module _ (p : ℕ) (all : List Seat) (entries : List Entry) (at : ℕ) (seats : 
           length-append entries (entry_of seat.number (given_of p entries seat)),
           length-entry seat.number (given_of p entries seat),
         );
-        entries_are = h.entries_are ∙ (ap (λ (es : List Entry). entries ++ es) entries_now
+        entries_are = h.entries_are ∙ (ap (λ (es : List ReadyEntry). entries ++ es) entries_now
             ∙ (sym (append_assoc entries (entry_of seat.number (given_of p entries seat)) _)
             ∙ ap (λ (xs : List Seat). (entries ++ entry_of seat.number (given_of p entries seat)) ++
             (ready p (65536 - octets_in (entries ++ entry_of seat.number (given_of p entries seat))) xs).entries) (sym rest)));
@@ -97,7 +97,7 @@ module _ (p : ℕ) (all : List Seat) (entries : List Entry) (at : ℕ) (seats : 
           length-append entries (entry_of seat.number (given_of p entries seat)),
           length-entry seat.number (given_of p entries seat),
         );
-        entries_are = h.entries_are ∙ (ap (λ (es : List Entry). entries ++ es) entries_now
+        entries_are = h.entries_are ∙ (ap (λ (es : List ReadyEntry). entries ++ es) entries_now
             ∙ (sym (append_assoc entries (entry_of seat.number (given_of p entries seat)) _)
             ∙ ap (λ (xs : List Seat). (entries ++ entry_of seat.number (given_of p entries seat)) ++
             (ready p (65536 - octets_in (entries ++ entry_of seat.number (given_of p entries seat))) xs).entries) (sym rest)));

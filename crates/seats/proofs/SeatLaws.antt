@@ -10,7 +10,7 @@ use Rattle.model.specs.declared.message.Message.{Message}
 use Rattle.model.specs.declared.message.Mark.{Mark}
 use Rattle.model.specs.declared.message.Mark.TheVariants.{Stopped}
 use Rattle.model.specs.declared.session.Session.{Session}
-use Rattle.outbox.specs.Queue.{Held, last_dependency}
+use Rattle.outbox.specs.Queue.{HeldOutput, last_dependency}
 use Rattle.replies.specs.declared.sessions.Answered.{Answered}
 use Rattle.seats.specs.Seats.{Seat, answered_by}
 
@@ -21,7 +21,7 @@ stopped_reads host S x m t = refl
 
 -- a session that goes on as it was answered, over a queue in which room was made first
 pub adopted : (host : Octets) (S : Spool) (m : Message) (t : ℕ) (mark : Mark) (before after : Seat) (a : Answered) {given : ℕ}
-    {held : List Held}
+    {held : List HeldOutput}
     → after.number ≡ before.number → after.session ≡ a.answer.next → given ≡ before.given → held ≡ before.held → after.given ≡ given
     → after.held ≡ held ++ record {
       octets = a.answer.reply;
@@ -36,7 +36,7 @@ adopted host S m t mark before after a number session was_given was_held now_giv
       number = number i;
       session = (session ∙ next) i;
       given = (now_given ∙ was_given) i;
-      held = (now_held ∙ (λ j. let h : Held = record {
+      held = (now_held ∙ (λ j. let h : HeldOutput = record {
         octets = reply j;
         dependency = max (last_dependency (was_given j) (was_held j)) (depends j);
         ends = is_none (mode_of (next j).awaits);

@@ -13,11 +13,11 @@ use Rattle.model.specs.declared.message.Message.{Message}
 use Rattle.model.specs.declared.message.Mark.{Mark}
 use Rattle.model.specs.declared.session.Answer.{Answer}
 use Rattle.model.specs.declared.session.Session.{Session}
-use Rattle.outbox.specs.Queue.{Held}
+use Rattle.outbox.specs.Queue.{HeldOutput}
 use Rattle.seats.specs.Seats.{Seat}
 
 -- the message that an output answers, and where: the session before it, and the length of the spool before it
-pub record Origin : Type 0 where
+pub record Source : Type 0 where
   pub message : Message
   pub moment : ℕ
   pub mark : Mark
@@ -25,18 +25,18 @@ pub record Origin : Type 0 where
   pub position : ℕ
 
 -- the plain server's answer at that point
-abbrev pub answer_at : Octets → Spool → Origin → Answer
+abbrev pub answer_at : Octets → Spool → Source → Answer
 answer_at host S o = answer host (first S o.position) o.session o.message o.moment o.mark
 
-abbrev pub reads_at : Octets → Spool → Origin → ℕ
+abbrev pub reads_at : Octets → Spool → Source → ℕ
 reads_at host S o = reads host (first S o.position) o.session o.message o.moment o.mark
 
-abbrev pub made_at : Octets → Spool → Origin → List Change
+abbrev pub made_at : Octets → Spool → Source → List Change
 made_at host S o = option_to_list (answer_at host S o).change
 
 -- The held output is the plain server's reply to that message, without its first octets. It depends on what that reply
 -- read, or on what the session had read before. The change that it made is the one at that place in the spool.
-pub record IsReply (host : Octets) (S : Spool) (before cut : ℕ) (o : Origin) (held : Held) : Type 0 where
+pub record IsReply (host : Octets) (S : Spool) (before cut : ℕ) (o : Source) (held : HeldOutput) : Type 0 where
   pub position : o.position ≤ length S
   pub awaited : IsSome (mode_of o.session.awaits)
   pub cut_within : cut < length (answer_at host S o).reply
@@ -46,14 +46,14 @@ pub record IsReply (host : Octets) (S : Spool) (before cut : ℕ) (o : Origin) (
   pub change : first S (o.position + length (made_at host S o)) ≡ first S o.position ++ made_at host S o
 
 -- whole replies, each after the one before it: in the session that the earlier one left, on a spool that is not shorter
-abbrev pub AreReplies : Octets → Spool → Session → ℕ → ℕ → List Held → Session → Type 0
+abbrev pub AreReplies : Octets → Spool → Session → ℕ → ℕ → List HeldOutput → Session → Type 0
 AreReplies host S session before from [] last = session ≡ last
 AreReplies host S session before from (held ∷ rest) last =
-    (o : Origin) × IsReply host S before 0 o held × (o.session ≡ session) × (from ≤ o.position)
+    (o : Source) × IsReply host S before 0 o held × (o.session ≡ session) × (from ≤ o.position)
     × AreReplies host S (answer_at host S o).next held.dependency (o.position + length (made_at host S o)) rest last
 
 -- the greeting, without its first octets
-pub record IsGreeting (host : Octets) (given cut : ℕ) (held : Held) : Type 0 where
+pub record IsGreeting (host : Octets) (given cut : ℕ) (held : HeldOutput) : Type 0 where
   pub cut_within : cut < length (greeting host)
   pub octets : held.octets ≡ drop cut (greeting host)
   pub dependency : held.dependency ≡ 0
@@ -61,15 +61,15 @@ pub record IsGreeting (host : Octets) (given cut : ℕ) (held : Held) : Type 0 w
   pub first_output : given ≡ 0
 
 -- only the first output may be cut; it depends on at least what the last output handed out did, which is kept as `given`
-abbrev pub SeatIsKept : Octets → Spool → ℕ → List Held → Session → Type 0
+abbrev pub SeatIsKept : Octets → Spool → ℕ → List HeldOutput → Session → Type 0
 SeatIsKept host S given [] last = Unit {0}
 SeatIsKept host S given (held ∷ rest) last =
     ((cut : ℕ) × IsGreeting host given cut held × AreReplies host S new_session 0 0 rest last)
-    ⊎ ((o : Origin) × (cut : ℕ) × IsReply host S given cut o held
+    ⊎ ((o : Source) × (cut : ℕ) × IsReply host S given cut o held
     × AreReplies host S (answer_at host S o).next held.dependency (o.position + length (made_at host S o)) rest last)
 
 -- a session with nothing held still awaits something: it ends with its last output
-abbrev pub StillAwaits : List Held → Session → Type 0
+abbrev pub StillAwaits : List HeldOutput → Session → Type 0
 StillAwaits [] session = IsSome (mode_of session.awaits)
 StillAwaits (held ∷ rest) session = Unit {0}
 

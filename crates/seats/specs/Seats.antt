@@ -10,7 +10,7 @@ use Rattle.model.specs.Service.{mode_of}
 use Rattle.model.specs.declared.message.Message.{Message}
 use Rattle.model.specs.declared.message.Mark.{Mark}
 use Rattle.model.specs.declared.session.Session.{Session}
-use Rattle.outbox.specs.Queue.{Held, Giving, Entry, last_dependency, give, entry_of, octets_in}
+use Rattle.outbox.specs.Queue.{HeldOutput, Giving, ReadyEntry, last_dependency, give, entry_of, octets_in}
 
 -- a session that exists
 pub record Seat : Type 0 where
@@ -18,7 +18,7 @@ pub record Seat : Type 0 where
   pub session : Session
   -- the dependency of its last output that was handed out whole, 0 at first
   pub given : ℕ
-  pub held : List Held
+  pub held : List HeldOutput
 
 -- ---- a session begins, and is answered
 
@@ -52,7 +52,7 @@ with_seat seats seat = map (λ (other : Seat). if other.number == seat.number th
 
 -- the entries of a release, and the sessions after it
 pub record Ready : Type 0 where
-  pub entries : List Entry
+  pub entries : List ReadyEntry
   pub seats : List Seat
 
 -- a session after what it gave
@@ -67,7 +67,7 @@ given_by seat g later = record {
 }
 
 -- what a session gives into a buffer that has these entries, with room for 65,536 octets
-abbrev pub given_of : ℕ → List Entry → Seat → Giving
+abbrev pub given_of : ℕ → List ReadyEntry → Seat → Giving
 given_of p entries seat = give p (65536 - octets_in entries) seat.given seat.held
 
 -- the same for all sessions in rising number
@@ -76,7 +76,7 @@ ready p room [] = record { entries = []; seats = [] }
 ready p room (seat ∷ seats) = given_by seat (give p room seat.given seat.held) (ready p (give p room seat.given seat.held).room seats)
 
 -- what one session gives after these entries, and the sessions afterwards; if it does not exist, nothing happens
-abbrev pub ready_by : ℕ → List Entry → List Seat → Option Seat → Ready
+abbrev pub ready_by : ℕ → List ReadyEntry → List Seat → Option Seat → Ready
 ready_by p entries seats None = record { entries = []; seats = seats }
 ready_by p entries seats (Some seat) = record {
   entries = entry_of seat.number (given_of p entries seat);
@@ -84,7 +84,7 @@ ready_by p entries seats (Some seat) = record {
       (seat_given seat (given_of p entries seat));
 }
 
-abbrev pub ready_of : ℕ → List Entry → ℕ → List Seat → Ready
+abbrev pub ready_of : ℕ → List ReadyEntry → ℕ → List Seat → Ready
 ready_of p entries number seats = ready_by p entries seats (find (λ (seat : Seat). seat.number == number) seats)
 
 -- whether a session exists and holds outputs

@@ -2,8 +2,8 @@
 //! `specs/Kept.antt` what the invariant of the sessions is.
 #![tactic(auto)]
 
-ghost use Rattle.std.specs.Prelude.{Some, IfSome, IsNone, None, is_none, ℕ, find, not, slice_get, ◌==◌, ◌≡◌, ◌<◌, ◌≤◌, ◌+◌, ◌^◌, ◌++◌, ◌∷◌, [], max};
-ghost use Rattle.std.specs.Prelude.{IfOk, OnErr, OnOk, length};
+ghost use Rattle.std.specs.Prelude.{Some, IfSome, IsNone, None, is_none, ℕ, find, not, slice_get, ◌==◌, ◌≡◌, ◌<◌, ◌≤◌, ◌+◌};
+ghost use Rattle.std.specs.Prelude.{◌^◌, ◌++◌, ◌∷◌, [], max, IfOk, OnErr, OnOk, length};
 ghost use Rattle.seats.specs.Seats.{Seat as SeatView, answered_by, given_of, holds, new_seat, ready, ready_of, seat_given};
 ghost use Rattle.seats.specs.Kept.{RiseFrom};
 ghost use Rattle.seats.specs.Serving.{SeatServed};

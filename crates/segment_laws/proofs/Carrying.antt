@@ -5,7 +5,7 @@ use Rattle.std.proofs.lemmas.Bool.{cases_eq}
 use Rattle.std.proofs.lemmas.List.{ext_get_or, get_or-set_same, get_or-set_other, map-append, take_all}
 use Rattle.disk.specs.Image.{overwritten}
 use Rattle.model.specs.Volume.{Batch, all_laid_over, block, home, home_place, home_size, laid_over, segment_count}
-use Rattle.segment_laws.specs.Held.{Held, IsHomeOnTheWay, batches_of}
+use Rattle.segment_laws.specs.Held.{HeldBatch, IsHomeOnTheWay, batches_of}
 use Rattle.segment_laws.specs.Images.{SameBut}
 use Rattle.segment_laws.proofs.Blocks.{block-overwritten, overwritten_same}
 use Rattle.segment_laws.proofs.Laying.{all_append}
@@ -61,7 +61,7 @@ laid_next (n ∷ ns) (image ∷ images) xs (suc i) within also =
     laid_next ns images (set xs n image) i (omega (arith, within)) (omega (arith, also))
 
 -- after the write of the image that comes next
-pub one_home : (first : List (List ℕ)) (done : List Held) (next : Batch) (i : ℕ) (x : List ℕ) → i < length next.numbers
+pub one_home : (first : List (List ℕ)) (done : List HeldBatch) (next : Batch) (i : ℕ) (x : List ℕ) → i < length next.numbers
     → i < length next.images → length (get_or next.images i []) ≡ 4096 → get_or next.numbers i 0 < home_size x
     → 4096 * home_place (segment_count x) (home_size x) ≤ length x
     → IsHomeOnTheWay first done next i x
@@ -75,11 +75,11 @@ one_home first done next i x within also whole below room is =
     omega arith in e)
 
 -- before the first image of a batch, and after its last
-pub none_home : (first : List (List ℕ)) (done : List Held) (next : Batch) (x : List ℕ) → home x ≡ all_laid_over first (batches_of done)
+pub none_home : (first : List (List ℕ)) (done : List HeldBatch) (next : Batch) (x : List ℕ) → home x ≡ all_laid_over first (batches_of done)
     → IsHomeOnTheWay first done next 0 x
 none_home first done next x is = is
 
-pub all_home : (first : List (List ℕ)) (done : List Held) (h : Held) (x : List ℕ) → length h.batch.images ≡ length h.batch.numbers
+pub all_home : (first : List (List ℕ)) (done : List HeldBatch) (h : HeldBatch) (x : List ℕ) → length h.batch.images ≡ length h.batch.numbers
     → IsHomeOnTheWay first done h.batch (length h.batch.numbers) x → home x ≡ all_laid_over first (batches_of (done ++ h ∷ []))
 all_home first done h x size is =
     is

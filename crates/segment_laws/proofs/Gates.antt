@@ -1,20 +1,20 @@
 -- What an image stands for when a gate changes.
 use Rattle.std.proofs.Common.{◌≡◌, ◌≢◌, ◌⊎◌, inl, inr, ◌<◌, ℕ, ◌+◌, ◌-◌, eqb, Bool, true, false, List, [], ◌∷◌, ◌++◌, get_or, map, refl}
 use Rattle.std.proofs.Common.{sym, ◌∙◌, ap, subst, arith}
-use Rattle.std.specs.List.{All, filter, range_with_len}
+use Rattle.std.specs.List.{All, Contains, filter, range_with_len}
 use Rattle.std.proofs.lemmas.Bool.{cases_Bool, cases_eq}
 use Rattle.std.proofs.lemmas.List.{map-append}
 use Rattle.std.proofs.lemmas.List.Elements.{All-head, All-tail}
 use Rattle.model.specs.Volume.{AreDistinct, Batch, IsDescriptor, StandsFor, all_laid_over, batch_in, block, descriptor_place, gate_place}
 use Rattle.model.specs.Volume.{home, home_place, home_size, image_place, is_open, laid_over, logical_blocks, open_segments, rising}
 use Rattle.model.specs.Volume.{segment_count}
+use Rattle.model.proofs.Distinct.{absent_cons, distinct_insert, distinct_remove}
 use Rattle.segment_laws.specs.Batches.{AreAbove, AreBelow, AreFull}
-use Rattle.segment_laws.specs.Held.{AreHeld, AreOpen, AreRising, HaveLess, HaveMore, Held, IsAmong, batches_of}
+use Rattle.segment_laws.specs.Held.{AreHeld, AreOpen, AreRising, HaveLess, HaveMore, HeldBatch, IsAmong, batches_of}
 use Rattle.segment_laws.specs.Images.{IsCarried, IsInside, IsOpenIn, SameBut, open_batches}
 use Rattle.segment_laws.proofs.Laying.{all_append, last_again}
 use Rattle.segment_laws.proofs.Ordering.{greatest_last, least_first}
-use Rattle.segment_laws.proofs.Places.{before, behind, distinct_of, each_of, filter_same, map_same, NotIn, once_less, once_more, once_of}
-use Rattle.segment_laws.proofs.Places.{with_place, without_place}
+use Rattle.segment_laws.proofs.Places.{before, behind, each_of, filter_same, map_same, with_place, without_place}
 use Rattle.segment_laws.proofs.Standing.{are_open_kept, batch_same, count_same, head_same, held_same, home_same, home_size_same, label_same}
 use Rattle.segment_laws.proofs.Standing.{batches_same, stands_over, superblock_same, valid_open}
 
@@ -33,56 +33,58 @@ above_all x n (s ∷ ss) all = (
   above_all x n ss (All-tail (λ s. n < (batch_in s x).number) s ss all),
 )
 
-not_in_below : (x : List ℕ) (n : ℕ) (ss : List ℕ) → All (λ s. (batch_in s x).number < n) ss → NotIn n (map (λ s. (batch_in s x).number) ss)
-not_in_below x n [] all = tt
-not_in_below x n (s ∷ ss) all = (
-  (λ e. (let less = All-head (λ s. (batch_in s x).number < n) s ss all in absurd (omega (arith, less, e)))),
-  not_in_below x n ss (All-tail (λ s. (batch_in s x).number < n) s ss all),
-)
+not_in_below : (x : List ℕ) (n : ℕ) (ss : List ℕ) → All (λ s. (batch_in s x).number < n) ss
+    → ¬ (Contains (map (λ s. (batch_in s x).number) ss) n)
+not_in_below x n [] all = λ has. absurd (omega (arith, has.1))
+not_in_below x n (s ∷ ss) all =
+    absent_cons n (batch_in s x).number (map (λ s. (batch_in s x).number) ss)
+    (λ e. (let less = All-head (λ s. (batch_in s x).number < n) s ss all in absurd (omega (arith, less, e))))
+    (not_in_below x n ss (All-tail (λ s. (batch_in s x).number < n) s ss all))
 
 -- one more segment in memory
-held_more : (x : List ℕ) (held : List Held) (h : Held) → AreHeld held x → IsOpenIn h.place x × (batch_in h.place x ≡ h.batch)
+held_more : (x : List ℕ) (held : List HeldBatch) (h : HeldBatch) → AreHeld held x → IsOpenIn h.place x × (batch_in h.place x ≡ h.batch)
     → AreHeld (held ++ h ∷ []) x
 held_more x [] h each is = (is, tt)
 held_more x (g ∷ held) h each is = (each.0, held_more x held h each.1 is)
 
-pub among_end : (s : ℕ) (held : List Held) (h : Held) → s ≡ h.place → IsAmong s (held ++ h ∷ [])
+pub among_end : (s : ℕ) (held : List HeldBatch) (h : HeldBatch) → s ≡ h.place → IsAmong s (held ++ h ∷ [])
 among_end s [] h is = inl is
 among_end s (g ∷ held) h is = inr (among_end s held h is)
 
-among_more : (s : ℕ) (held more : List Held) → IsAmong s held → IsAmong s (held ++ more)
+among_more : (s : ℕ) (held more : List HeldBatch) → IsAmong s held → IsAmong s (held ++ more)
 among_more s [] more among = absurd among
 among_more s (g ∷ held) more (inl is) = inl is
 among_more s (g ∷ held) more (inr rest) = inr (among_more s held more rest)
 
-more_behind : (n : ℕ) (held : List Held) (h : Held) → HaveMore n held → n < h.batch.number → HaveMore n (held ++ h ∷ [])
+more_behind : (n : ℕ) (held : List HeldBatch) (h : HeldBatch) → HaveMore n held → n < h.batch.number → HaveMore n (held ++ h ∷ [])
 more_behind n [] h more less = (less, tt)
 more_behind n (g ∷ held) h more less = (more.0, more_behind n held h more.1 less)
 
-rising_more : (held : List Held) (h : Held) → AreRising held → HaveLess h.batch.number held → AreRising (held ++ h ∷ [])
+rising_more : (held : List HeldBatch) (h : HeldBatch) → AreRising held → HaveLess h.batch.number held → AreRising (held ++ h ∷ [])
 rising_more [] h rise less = (tt, tt)
 rising_more (g ∷ held) h rise less = (more_behind g.batch.number held h rise.0 less.0, rising_more held h rise.1 less.1)
 
 -- the greatest is greater than each open one, and the first is the least
-pub less_than : (x : List ℕ) (n : ℕ) (held : List Held) → AreOpen held x → HaveLess n held → (s : ℕ) → IsOpenIn s x
+pub less_than : (x : List ℕ) (n : ℕ) (held : List HeldBatch) → AreOpen held x → HaveLess n held → (s : ℕ) → IsOpenIn s x
     → (batch_in s x).number < n
 less_than x n held are less s opened = go held are.each less (are.all s opened)
   where
-    go : (hs : List Held) → AreHeld hs x → HaveLess n hs → IsAmong s hs → (batch_in s x).number < n
+    go : (hs : List HeldBatch) → AreHeld hs x → HaveLess n hs → IsAmong s hs → (batch_in s x).number < n
     go [] each has among = absurd among
     go (h ∷ hs) each has (inl is) =
         let equal : (batch_in s x).number ≡ h.batch.number = ap (λ (b : Batch). b.number) (ap (λ (m : ℕ). batch_in m x) is ∙ each.0.1) in
         omega (arith, has.0, equal)
     go (h ∷ hs) each has (inr rest) = go hs each.1 has.1 rest
 
-pub first_is_least : (x : List ℕ) (h : Held) (held : List Held) → AreOpen (h ∷ held) x → (s : ℕ) → IsOpenIn s x → s ≢ h.place
+pub first_is_least : (x : List ℕ) (h : HeldBatch) (held : List HeldBatch) → AreOpen (h ∷ held) x → (s : ℕ) → IsOpenIn s x → s ≢ h.place
     → (batch_in h.place x).number < (batch_in s x).number
 first_is_least x h held are s opened other = elim (are.all s opened) [
   | inl here ↦ absurd (other here)
   | inr rest ↦ go held are.each.1 are.rise.0 rest
 ]
   where
-    go : (hs : List Held) → AreHeld hs x → HaveMore h.batch.number hs → IsAmong s hs → (batch_in h.place x).number < (batch_in s x).number
+    go : (hs : List HeldBatch) → AreHeld hs x → HaveMore h.batch.number hs → IsAmong s hs
+        → (batch_in h.place x).number < (batch_in s x).number
     go [] each more among = absurd among
     go (g ∷ hs) each more (inl is) =
         let equal : (batch_in s x).number ≡ g.batch.number = ap (λ (b : Batch). b.number) (ap (λ (m : ℕ). batch_in m x) is ∙ each.0.1) in
@@ -120,7 +122,7 @@ module _ (x c label : List ℕ) (blocks : List (List ℕ)) (m : ℕ) (stands : S
       (stands_over x c label blocks stands (head_same x c zeroth same.size) (gates_kept is) (λ s opened k here. inside s k here))
 
   -- with the segments in memory
-  pub held_kept : is_open m c ≡ is_open m x → (held : List Held) → AreOpen held x → AreOpen held c
+  pub held_kept : is_open m c ≡ is_open m x → (held : List HeldBatch) → AreOpen held x → AreOpen held c
   held_kept is held are = are_open_kept x c label blocks stands (head_same x c zeroth same.size) (gates_kept is)
       (λ s opened k here. inside s k here) held are
 
@@ -207,11 +209,11 @@ module _ (x c label : List ℕ) (blocks : List (List ℕ)) (m : ℕ) (stands : S
         ∙ ap (λ (l : List Batch). rising l ++ batch_in m x ∷ []) (map_then (λ b. b))
 
     -- the segments in memory, with this one behind them
-    pub held_opened : (held : List Held) → AreOpen held x → HaveLess (batch_in m x).number held
+    pub held_opened : (held : List HeldBatch) → AreOpen held x → HaveLess (batch_in m x).number held
         → AreOpen (held ++ record { place = m; batch = batch_in m x } ∷ []) c
     held_opened held are less = record {
       batches = batches_opened ∙ ap (λ (bs : List Batch). bs ++ batch_in m x ∷ []) are.batches
-          ∙ sym (map-append (λ (h : Held). h.batch) held (record { place = m; batch = batch_in m x } ∷ []));
+          ∙ sym (map-append (λ (h : HeldBatch). h.batch) held (record { place = m; batch = batch_in m x } ∷ []));
       each =
           held_more c held (record { place = m; batch = batch_in m x })
           (held_same x c held
@@ -242,11 +244,9 @@ module _ (x c label : List ℕ) (blocks : List (List ℕ)) (m : ℕ) (stands : S
           (λ s low high is. its_descriptor s (was_valid s (omega (arith, high)) is)));
       has_order =
           subst (λ (ns : List ℕ). AreDistinct ns) (sym (map_now (λ b. b.number)))
-          (distinct_of (map (λ s. (batch_in s x).number) front ++ (batch_in m x).number ∷ map (λ s. (batch_in s x).number) back)
-          (once_more (batch_in m x).number (map (λ s. (batch_in s x).number) front) (map (λ s. (batch_in s x).number) back)
-          (once_of (map (λ s. (batch_in s x).number) front ++ map (λ s. (batch_in s x).number) back)
-          (subst (λ (ns : List ℕ). AreDistinct ns) (sym (map_then (λ b. b.number))) stands.has_order))
-          (not_in_below x (batch_in m x).number front front_below) (not_in_below x (batch_in m x).number back back_below)));
+          (distinct_insert (batch_in m x).number (map (λ s. (batch_in s x).number) front) (map (λ s. (batch_in s x).number) back)
+          (subst (λ (ns : List ℕ). AreDistinct ns) (sym (map_then (λ b. b.number))) stands.has_order)
+          (not_in_below x (batch_in m x).number front front_below) (not_in_below x (batch_in m x).number back back_below));
       has_blocks =
           ap (λ (h : List (List ℕ)). all_laid_over h (open_batches c)) homes
           ∙ ap (all_laid_over (home x)) batches_opened
@@ -295,10 +295,8 @@ module _ (x c label : List ℕ) (blocks : List (List ℕ)) (m : ℕ) (stands : S
           (λ s low high is. its_descriptor s (valid_open x label blocks stands s (still_open s (omega (arith, high)) is))));
       has_order =
           subst (λ (ns : List ℕ). AreDistinct ns) (sym (map_left (λ b. b.number)))
-          (distinct_of (map (λ s. (batch_in s x).number) front ++ map (λ s. (batch_in s x).number) back)
-          (once_less (batch_in m x).number (map (λ s. (batch_in s x).number) front) (map (λ s. (batch_in s x).number) back)
-          (once_of (map (λ s. (batch_in s x).number) front ++ (batch_in m x).number ∷ map (λ s. (batch_in s x).number) back)
-          (subst (λ (ns : List ℕ). AreDistinct ns) (map_before (λ b. b.number)) stands.has_order))));
+          (distinct_remove (batch_in m x).number (map (λ s. (batch_in s x).number) front) (map (λ s. (batch_in s x).number) back)
+          (subst (λ (ns : List ℕ). AreDistinct ns) (map_before (λ b. b.number)) stands.has_order));
       has_blocks = refl;
     }
 
@@ -316,7 +314,7 @@ module _ (x c label : List ℕ) (blocks : List (List ℕ)) (m : ℕ) (stands : S
           ∙ ap (λ (l : List Batch). batch_in m x ∷ rising l) (sym (map_left (λ b. b)))
 
       -- the segments in memory, without this one
-      pub held_closed : (h : Held) (held : List Held) → h.place ≡ m → AreOpen (h ∷ held) x → AreOpen held c
+      pub held_closed : (h : HeldBatch) (held : List HeldBatch) → h.place ≡ m → AreOpen (h ∷ held) x → AreOpen held c
       held_closed h held here are = record {
         batches = let all : batch_in m x ∷ open_batches c ≡ h.batch ∷ batches_of held = sym batches_closed ∙ are.batches in cc;
         each = held_left held are.rise.0 are.each.1;
@@ -329,7 +327,7 @@ module _ (x c label : List ℕ) (blocks : List (List ℕ)) (m : ℕ) (stands : S
         rise = are.rise.1;
       }
         where
-          held_left : (hs : List Held) → HaveMore h.batch.number hs → AreHeld hs x → AreHeld hs c
+          held_left : (hs : List HeldBatch) → HaveMore h.batch.number hs → AreHeld hs x → AreHeld hs c
           held_left [] more each = tt
           held_left (g ∷ hs) more each =
               let other : g.place ≢ m = λ e. absurd (
@@ -389,7 +387,8 @@ closed_or_not x c label blocks m stands opened least carried same = elim (cases_
 ]
 
 -- and with the segments in memory
-pub opened_open : (x c label : List ℕ) (blocks : List (List ℕ)) (m : ℕ) (held : List Held) → StandsFor x label blocks → is_open m x ≡ false
+pub opened_open : (x c label : List ℕ) (blocks : List (List ℕ)) (m : ℕ) (held : List HeldBatch) → StandsFor x label blocks
+    → is_open m x ≡ false
     → m < segment_count x → IsDescriptor (home_size x) (block (descriptor_place m) x) → AreOpen held x → HaveLess (batch_in m x).number held
     → SameBut (λ k. k ≡ gate_place m) x c → is_open m c ≡ true
     → StandsFor c label (laid_over blocks (batch_in m x).numbers (batch_in m x).images)
@@ -400,7 +399,7 @@ opened_open x c label blocks m held stands shut within valid are less same opene
       held_opened x c label blocks m stands within same shut opened valid greatest held are less,
     )
 
-pub closed_open : (x c label : List ℕ) (blocks : List (List ℕ)) (h : Held) (held : List Held) → StandsFor x label blocks
+pub closed_open : (x c label : List ℕ) (blocks : List (List ℕ)) (h : HeldBatch) (held : List HeldBatch) → StandsFor x label blocks
     → AreOpen (h ∷ held) x → IsCarried x → SameBut (λ k. k ≡ gate_place h.place) x c → is_open h.place c ≡ false
     → StandsFor c label blocks × (IsCarried c × AreOpen held c)
 closed_open x c label blocks h held stands are carried same shut =

@@ -5,17 +5,14 @@ use Rattle.std.proofs.lemmas.List.{ext_get_or, get_or-set_same, get_or-set_other
 use Rattle.std.proofs.lemmas.Bool.{cases_eq, cases_lt}
 use Rattle.model.specs.Volume.{Batch, laid_over, all_laid_over}
 use Rattle.model.proofs.Blocks.{length-laid_over}
-use Rattle.segment_laws.specs.Batches.{AgreeBut, AreFull, HaveNone}
+use Rattle.segment_laws.specs.Batches.{AgreeBut, AreFull, HaveNone, IsNoneOf}
 
 pub length-all : (bs : List Batch) (xs : List (List ℕ)) → length (all_laid_over xs bs) ≡ length xs
 length-all [] xs = refl
 length-all (b ∷ bs) xs = length-all bs (laid_over xs b.numbers b.images) ∙ length-laid_over xs b.numbers b.images
 
-abbrev None : ℕ → List ℕ → Type 0
-None k ns = (i : ℕ) → i < length ns → k ≢ get_or ns i 0
-
 -- a block of which the batch has no image stays
-laid_kept : (ns : List ℕ) (images xs : List (List ℕ)) (k : ℕ) → None k ns → get_or (laid_over xs ns images) k [] ≡ get_or xs k []
+laid_kept : (ns : List ℕ) (images xs : List (List ℕ)) (k : ℕ) → IsNoneOf k ns → get_or (laid_over xs ns images) k [] ≡ get_or xs k []
 laid_kept [] images xs k none = refl
 laid_kept (n ∷ ns) [] xs k none = refl
 laid_kept (n ∷ ns) (image ∷ images) xs k none =
@@ -28,18 +25,18 @@ all_kept (b ∷ bs) xs k none = all_kept bs (laid_over xs b.numbers b.images) k 
 
 -- a block of which it has one doesn't matter
 laid_same : (ns : List ℕ) (images xs ys : List (List ℕ)) (k : ℕ) → length ns ≤ length images → length xs ≡ length ys
-    → (None k ns → get_or xs k [] ≡ get_or ys k []) → get_or (laid_over xs ns images) k [] ≡ get_or (laid_over ys ns images) k []
+    → (IsNoneOf k ns → get_or xs k [] ≡ get_or ys k []) → get_or (laid_over xs ns images) k [] ≡ get_or (laid_over ys ns images) k []
 laid_same [] images xs ys k enough size same = same (λ i within. absurd (omega arith))
 laid_same (n ∷ ns) [] xs ys k enough size same = absurd (omega arith)
 laid_same (n ∷ ns) (image ∷ images) xs ys k enough size same =
     laid_same ns images (set xs n image) (set ys n image) k (omega arith) (length-set xs n image ∙ size ∙ sym (length-set ys n image))
     (λ none. each none (cases_eq k n) (cases_lt k (length xs)))
   where
-    apart : k ≢ n → None k ns → None k (n ∷ ns)
+    apart : k ≢ n → IsNoneOf k ns → IsNoneOf k (n ∷ ns)
     apart other none zero within = other
     apart other none (suc i) within = none i (omega arith)
 
-    each : None k ns → (k ≡ n) ⊎ (k ≡ n → ⊥) → (k < length xs) ⊎ (length xs ≤ k)
+    each : IsNoneOf k ns → (k ≡ n) ⊎ (k ≡ n → ⊥) → (k < length xs) ⊎ (length xs ≤ k)
         → get_or (set xs n image) k [] ≡ get_or (set ys n image) k []
     each none (inl is) (inl within) =
         ap (λ (j : ℕ). get_or (set xs j image) k []) (sym is)
@@ -89,13 +86,13 @@ last_again bs cs xs full =
 
 -- a home on the way: the first batches are there, and the first images of the next
 pub on_the_way : (bs cs : List Batch) (b : Batch) (xs : List (List ℕ)) (numbers : List ℕ) (images : List (List ℕ))
-    → ((k : ℕ) → None k b.numbers → None k numbers) → AgreeBut (bs ++ b ∷ cs) xs (laid_over (all_laid_over xs bs) numbers images)
+    → ((k : ℕ) → IsNoneOf k b.numbers → IsNoneOf k numbers) → AgreeBut (bs ++ b ∷ cs) xs (laid_over (all_laid_over xs bs) numbers images)
 on_the_way bs cs b xs numbers images fewer = record {
   size = length-laid_over (all_laid_over xs bs) numbers images ∙ length-all bs xs;
   same = λ k none. laid_kept numbers images (all_laid_over xs bs) k (fewer k (here bs k none)) ∙ all_kept bs xs k (front bs k none);
 }
   where
-    here : (bs : List Batch) (k : ℕ) → HaveNone k (bs ++ b ∷ cs) → None k b.numbers
+    here : (bs : List Batch) (k : ℕ) → HaveNone k (bs ++ b ∷ cs) → IsNoneOf k b.numbers
     here [] k none = none.0
     here (c ∷ bs) k none = here bs k none.1
 

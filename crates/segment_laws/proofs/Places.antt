@@ -1,9 +1,8 @@
 -- The places of open segments.
-use Rattle.std.proofs.Common.{◌≡◌, ◌≢◌, inl, inr, ◌<◌, ◌≤◌, ℕ, zero, suc, ◌+◌, ◌-◌, cond, Bool, true, false, List, [], ◌∷◌, ◌++◌, length}
-use Rattle.std.proofs.Common.{get_or, map, refl, sym, ◌∙◌, ap, subst, arith}
+use Rattle.std.proofs.Common.{◌≡◌, ◌≢◌, inl, inr, ◌<◌, ◌≤◌, ℕ, zero, suc, ◌+◌, ◌-◌, cond, Bool, true, false, List, ◌∷◌, ◌++◌}
+use Rattle.std.proofs.Common.{map, refl, sym, ◌∙◌, ap, subst, arith}
 use Rattle.std.specs.List.{All, filter, range_with_len}
 use Rattle.std.proofs.lemmas.List.Elements.{All-nil, All-cons, All-head, All-tail, filter-append}
-use Rattle.model.specs.Volume.{AreDistinct}
 
 -- tests that agree on a range
 pub filter_same : (f g : ℕ → Bool) (a n : ℕ) → ((s : ℕ) → a ≤ s → s < a + n → f s ≡ g s)
@@ -84,52 +83,3 @@ module _ (f : ℕ → Bool) (m k : ℕ) (within : m < k) where
 
   pub without_place : f m ≡ false → filter f (range_with_len 0 k) ≡ before ++ behind
   without_place is = split ∙ ap (λ (b : Bool). before ++ cond b (m ∷ behind) behind) is
-
--- ---- numbers that stand once
-
-abbrev pub NotIn : ℕ → List ℕ → Type 0
-NotIn n [] = Unit {0}
-NotIn n (m ∷ ms) = (n ≢ m) × NotIn n ms
-
-abbrev pub Once : List ℕ → Type 0
-Once [] = Unit {0}
-Once (n ∷ ns) = NotIn n ns × Once ns
-
-not_in_of : (n : ℕ) (ns : List ℕ) → ((j : ℕ) → j < length ns → n ≢ get_or ns j 0) → NotIn n ns
-not_in_of n [] other = tt
-not_in_of n (m ∷ ms) other = (other 0 (omega arith), not_in_of n ms (λ j within. other (suc j) (omega arith)))
-
-not_in_at : (n : ℕ) (ns : List ℕ) → NotIn n ns → (j : ℕ) → j < length ns → n ≢ get_or ns j 0
-not_in_at n [] none j within = absurd (omega arith)
-not_in_at n (m ∷ ms) none zero within = none.0
-not_in_at n (m ∷ ms) none (suc j) within = not_in_at n ms none.1 j (omega arith)
-
-pub once_of : (ns : List ℕ) → AreDistinct ns → Once ns
-once_of [] distinct = tt
-once_of (n ∷ ns) distinct = (
-  not_in_of n ns (λ j within. distinct 0 (suc j) (omega arith) (omega arith)),
-  once_of ns (λ i j less within. distinct (suc i) (suc j) (omega arith) (omega arith)),
-)
-
-pub distinct_of : (ns : List ℕ) → Once ns → AreDistinct ns
-distinct_of [] once i j less within = absurd (omega arith)
-distinct_of (n ∷ ns) once zero zero less within = absurd (omega arith)
-distinct_of (n ∷ ns) once zero (suc j) less within = not_in_at n ns once.0 j (omega arith)
-distinct_of (n ∷ ns) once (suc i) zero less within = absurd (omega arith)
-distinct_of (n ∷ ns) once (suc i) (suc j) less within = distinct_of ns once.1 i j (omega arith) (omega arith)
-
-not_in_more : (p n : ℕ) (ps qs : List ℕ) → p ≢ n → NotIn p (ps ++ qs) → NotIn p (ps ++ n ∷ qs)
-not_in_more p n [] qs other none = (other, none)
-not_in_more p n (r ∷ ps) qs other none = (none.0, not_in_more p n ps qs other none.1)
-
-not_in_less : (p n : ℕ) (ps qs : List ℕ) → NotIn p (ps ++ n ∷ qs) → NotIn p (ps ++ qs)
-not_in_less p n [] qs none = none.1
-not_in_less p n (r ∷ ps) qs none = (none.0, not_in_less p n ps qs none.1)
-
-pub once_more : (n : ℕ) (ps qs : List ℕ) → Once (ps ++ qs) → NotIn n ps → NotIn n qs → Once (ps ++ n ∷ qs)
-once_more n [] qs once none also = (also, once)
-once_more n (p ∷ ps) qs once none also = (not_in_more p n ps qs (λ e. none.0 (sym e)) once.0, once_more n ps qs once.1 none.1 also)
-
-pub once_less : (n : ℕ) (ps qs : List ℕ) → Once (ps ++ n ∷ qs) → Once (ps ++ qs)
-once_less n [] qs once = once.1
-once_less n (p ∷ ps) qs once = (not_in_less p n ps qs once.0, once_less n ps qs once.1)

@@ -13,8 +13,8 @@ use Rattle.disk.proofs.Images.{get_or-part, part-torn_apart, same_parts}
 use Rattle.model.specs.Volume.{AreDistinct, Batch, IsDescriptor, IsSuperblock, StandsFor, all_laid_over, batch_in, block, blocks_from}
 use Rattle.model.specs.Volume.{descriptor_place, format_at, gate_place, home, home_place, home_size, image_place, insert, is_open, label_of}
 use Rattle.model.specs.Volume.{listed, number_at, open_segments, rising, segment_count}
-use Rattle.segment_laws.specs.Batches.{AgreeBut, AreFull, HaveNone}
-use Rattle.segment_laws.specs.Held.{AreHeld, AreOpen, Held}
+use Rattle.segment_laws.specs.Batches.{AgreeBut, AreFull, HaveNone, IsNoneOf}
+use Rattle.segment_laws.specs.Held.{AreHeld, AreOpen, HeldBatch}
 use Rattle.segment_laws.specs.Images.{IsHomeOfOpen, IsInside, IsOpenIn, SameBut, open_batches}
 use Rattle.segment_laws.proofs.Blocks.{blocks_from_same, get_or-blocks_from, length-blocks_from}
 use Rattle.segment_laws.proofs.Laying.{all_same}
@@ -126,15 +126,13 @@ full_rising (b ∷ bs) all = full_insert b (rising bs) all.0 (full_rising bs all
 pub full_open : (x : List ℕ) → AreFull (open_batches x)
 full_open x = full_rising (map (λ s. batch_in s x) (open_segments x)) (full_map x (open_segments x))
 
-abbrev None : ℕ → List ℕ → Type 0
-None k ns = (i : ℕ) → i < length ns → k ≢ get_or ns i 0
-
-none_insert : (k : ℕ) (b : Batch) (bs : List Batch) → HaveNone k (insert b bs) → None k b.numbers × HaveNone k bs
+none_insert : (k : ℕ) (b : Batch) (bs : List Batch) → HaveNone k (insert b bs) → IsNoneOf k b.numbers × HaveNone k bs
 none_insert k b [] none = (none.0, tt)
 none_insert k b (c ∷ bs) none = go (none_insert k b bs) (ltb c.number b.number) none
   where
-    go : (HaveNone k (insert b bs) → None k b.numbers × HaveNone k bs) → (t : Bool) → HaveNone k (if t then c ∷ insert b bs else b ∷ c ∷ bs)
-        → None k b.numbers × HaveNone k (c ∷ bs)
+    go : (HaveNone k (insert b bs) → IsNoneOf k b.numbers × HaveNone k bs) → (t : Bool)
+        → HaveNone k (if t then c ∷ insert b bs else b ∷ c ∷ bs)
+        → IsNoneOf k b.numbers × HaveNone k (c ∷ bs)
     go more true has = let rest = more has.1 in (rest.0, (has.0, rest.1))
     go more false has = (has.0, has.1)
 
@@ -142,20 +140,21 @@ none_rising : (k : ℕ) (bs : List Batch) → HaveNone k (rising bs) → HaveNon
 none_rising k [] none = tt
 none_rising k (b ∷ bs) none = let parts = none_insert k b (rising bs) none in (parts.0, none_rising k bs parts.1)
 
-none_each : (k : ℕ) (x : List ℕ) (ss : List ℕ) → HaveNone k (map (λ s. batch_in s x) ss) → All (λ s. None k (batch_in s x).numbers) ss
-none_each k x [] none = Rattle.std.proofs.lemmas.List.Elements.All-nil (λ s. None k (batch_in s x).numbers)
-none_each k x (s ∷ ss) none = Rattle.std.proofs.lemmas.List.Elements.All-cons (λ s. None k (batch_in s x).numbers) s ss none.0
+none_each : (k : ℕ) (x : List ℕ) (ss : List ℕ) → HaveNone k (map (λ s. batch_in s x) ss) → All (λ s. IsNoneOf k (batch_in s x).numbers) ss
+none_each k x [] none = Rattle.std.proofs.lemmas.List.Elements.All-nil (λ s. IsNoneOf k (batch_in s x).numbers)
+none_each k x (s ∷ ss) none = Rattle.std.proofs.lemmas.List.Elements.All-cons (λ s. IsNoneOf k (batch_in s x).numbers) s ss none.0
     (none_each k x ss none.1)
 
-pub none_open : (k : ℕ) (x : List ℕ) → HaveNone k (open_batches x) → (s : ℕ) → IsOpenIn s x → None k (batch_in s x).numbers
+pub none_open : (k : ℕ) (x : List ℕ) → HaveNone k (open_batches x) → (s : ℕ) → IsOpenIn s x → IsNoneOf k (batch_in s x).numbers
 none_open k x none s opened =
-    each_at (λ s. None k (batch_in s x).numbers) (λ s. is_open s x) 0 (segment_count x)
+    each_at (λ s. IsNoneOf k (batch_in s x).numbers) (λ s. is_open s x) 0 (segment_count x)
     (none_each k x (open_segments x) (none_rising k (map (λ s. batch_in s x) (open_segments x)) none)) s (omega arith)
     (omega (arith, opened.0)) opened.1
 
 -- ---- segments in memory
 
-pub held_same : (x c : List ℕ) (held : List Held) → ((s : ℕ) → IsOpenIn s x → IsOpenIn s c × (batch_in s c ≡ batch_in s x)) → AreHeld held x
+pub held_same : (x c : List ℕ) (held : List HeldBatch) → ((s : ℕ) → IsOpenIn s x → IsOpenIn s c × (batch_in s c ≡ batch_in s x))
+    → AreHeld held x
     → AreHeld held c
 held_same x c [] same are = tt
 held_same x c (h ∷ held) same are = let s = same h.place are.0.0 in ((s.0, s.1 ∙ are.0.1), held_same x c held same are.1)
@@ -191,7 +190,7 @@ module _ (x c label : List ℕ) (blocks : List (List ℕ)) (stands : StandsFor x
   pub batches_same : open_batches c ≡ open_batches x
   batches_same = ap rising (map_open (λ b. b))
 
-  pub are_open_kept : (held : List Held) → AreOpen held x → AreOpen held c
+  pub are_open_kept : (held : List HeldBatch) → AreOpen held x → AreOpen held c
   are_open_kept held are = record {
     batches = batches_same ∙ are.batches;
     each = held_same x c held (λ s opened. ((omega (arith, opened.0, head.count), gates s opened.0 ∙ opened.1), each_batch s opened))
@@ -252,7 +251,7 @@ module _ (x c label : List ℕ) (blocks : List (List ℕ)) (m : ℕ) (stands : S
       ∙ stands.has_blocks)
       (stands_over x c label blocks stands (head_same x c unread_zeroth same.size) unread_gates unread_inside)
 
-  pub unread_open : (held : List Held) → AreOpen held x → AreOpen held c
+  pub unread_open : (held : List HeldBatch) → AreOpen held x → AreOpen held c
   unread_open = are_open_kept x c label blocks stands (head_same x c unread_zeroth same.size) unread_gates unread_inside
 
 -- torn homes of blocks of which an open segment has an image
@@ -291,7 +290,7 @@ module _ (x c label : List ℕ) (blocks : List (List ℕ)) (stands : StandsFor x
       ∙ stands.has_blocks)
       (stands_over x c label blocks stands (head_same x c torn_zeroth same.size) torn_gates torn_inside)
 
-  pub torn_open : (held : List Held) → AreOpen held x → AreOpen held c
+  pub torn_open : (held : List HeldBatch) → AreOpen held x → AreOpen held c
   torn_open = are_open_kept x c label blocks stands (head_same x c torn_zeroth same.size) torn_gates torn_inside
 
 -- the gate of the format is not read
@@ -370,7 +369,7 @@ module _ (x c label : List ℕ) (blocks : List (List ℕ)) (stands : StandsFor x
       ∙ stands.has_blocks)
       (stands_over x c label blocks stands head_kept format_gates format_inside)
 
-  pub format_open : (held : List Held) → AreOpen held x → AreOpen held c
+  pub format_open : (held : List HeldBatch) → AreOpen held x → AreOpen held c
   format_open = are_open_kept x c label blocks stands head_kept format_gates format_inside
 
 -- ---- no open segment

@@ -3,13 +3,13 @@ use Rattle.std.proofs.Common.{◌≡◌, inl, inr, ◌<◌, ℕ, zero, suc, ◌+
 use Rattle.std.proofs.lemmas.List.{ext_get_or}
 use Rattle.model.specs.Volume.{Batch, StandsFor, batch_in, block, blocks_from, descriptor_place, home_place, image_place, listed, number_at}
 use Rattle.model.specs.Volume.{segment_count}
-use Rattle.segment_laws.specs.Held.{AreHeld, AreOpen, Held, IsHomeOfHeld, IsWrittenIn, batch_of}
+use Rattle.segment_laws.specs.Held.{AreHeld, AreOpen, HeldBatch, IsHomeOfHeld, IsWrittenIn, batch_of}
 use Rattle.segment_laws.specs.Images.{IsHomeOfOpen, SameBut}
 use Rattle.segment_laws.proofs.Blocks.{get_or-blocks_from, length-blocks_from, same_but_more}
 use Rattle.segment_laws.proofs.Standing.{torn, torn_open}
 
 -- homes of the segments in memory are those of open ones
-homes_of_open : (held : List Held) (x : List ℕ) → AreHeld held x → (k : ℕ) → IsHomeOfHeld (segment_count x) held k → IsHomeOfOpen x k
+homes_of_open : (held : List HeldBatch) (x : List ℕ) → AreHeld held x → (k : ℕ) → IsHomeOfHeld (segment_count x) held k → IsHomeOfOpen x k
 homes_of_open [] x each k here = absurd here
 homes_of_open (h ∷ held) x each k (inl here) = (
   h.place,
@@ -19,20 +19,21 @@ homes_of_open (h ∷ held) x each k (inl here) = (
 )
 homes_of_open (h ∷ held) x each k (inr rest) = homes_of_open held x each.1 k rest
 
-pub torn_held : (x c label : List ℕ) (blocks : List (List ℕ)) (held : List Held) → StandsFor x label blocks → AreOpen held x
+pub torn_held : (x c label : List ℕ) (blocks : List (List ℕ)) (held : List HeldBatch) → StandsFor x label blocks → AreOpen held x
     → SameBut (IsHomeOfHeld (segment_count x) held) x c → StandsFor c label blocks
 torn_held x c label blocks held stands are same =
     torn x c label blocks stands (same_but_more (IsHomeOfHeld (segment_count x) held) (IsHomeOfOpen x) x c
     (homes_of_open held x are.each) same)
 
-pub torn_held_open : (x c label : List ℕ) (blocks : List (List ℕ)) (held : List Held) → StandsFor x label blocks → AreOpen held x
+pub torn_held_open : (x c label : List ℕ) (blocks : List (List ℕ)) (held : List HeldBatch) → StandsFor x label blocks → AreOpen held x
     → SameBut (IsHomeOfHeld (segment_count x) held) x c → AreOpen held c
 torn_held_open x c label blocks held stands are same =
     torn_open x c label blocks stands
     (same_but_more (IsHomeOfHeld (segment_count x) held) (IsHomeOfOpen x) x c (homes_of_open held x are.each) same) held are
 
 -- the home of an image of one of them
-pub home_of_held : (segments : ℕ) (held : List Held) (j i : ℕ) (d : Held) → j < length held → i < length (get_or held j d).batch.numbers
+pub home_of_held : (segments : ℕ) (held : List HeldBatch) (j i : ℕ) (d : HeldBatch) → j < length held
+    → i < length (get_or held j d).batch.numbers
     → IsHomeOfHeld segments held (home_place segments (get_or (get_or held j d).batch.numbers i 0))
 home_of_held segments [] j i d there within = absurd (omega (arith, there))
 home_of_held segments (h ∷ held) zero i d there within = inl (i, within, refl)

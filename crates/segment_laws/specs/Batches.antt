@@ -7,10 +7,14 @@ abbrev pub AreFull : List Batch → Type 0
 AreFull [] = Unit {0}
 AreFull (batch ∷ batches) = (length batch.numbers ≤ length batch.images) × AreFull batches
 
+-- a number that is none of these
+abbrev pub IsNoneOf : ℕ → List ℕ → Type 0
+IsNoneOf k ns = (i : ℕ) → i < length ns → k ≢ slice_index ns i
+
 -- no batch has an image of block k
 abbrev pub HaveNone : ℕ → List Batch → Type 0
 HaveNone k [] = Unit {0}
-HaveNone k (batch ∷ batches) = ((i : ℕ) → i < length batch.numbers → k ≢ slice_index batch.numbers i) × HaveNone k batches
+HaveNone k (batch ∷ batches) = IsNoneOf k batch.numbers × HaveNone k batches
 
 -- homes that differ only in blocks of which some batch has an image
 pub record AgreeBut (batches : List Batch) (old new : List (List ℕ)) : Type 0 where

@@ -11,7 +11,7 @@ ghost use Rattle.model.specs.Spool.{Spool};
 ghost use Rattle.model.specs.Volume.{Batch, IsDescriptor, IsSuperblock, StandsFor, all_laid_over, batch_in, block, descriptor_place};
 ghost use Rattle.model.specs.Volume.{format_at, format_number, gate_place, home, home_place, home_size, is_open, label_of, laid_over};
 ghost use Rattle.model.specs.Volume.{logical_blocks, number_at, segment_count};
-ghost use Rattle.segment_laws.specs.Held.{AreOpen, HaveLess, Held, IsHomeOfHeld};
+ghost use Rattle.segment_laws.specs.Held.{AreOpen, HaveLess, HeldBatch, IsHomeOfHeld};
 ghost use Rattle.segment_laws.specs.Held.{IsHomeOnTheWay, IsWrittenIn, batch_of, batches_of, held_in};
 ghost use Rattle.segment_laws.specs.Images.{IsCarried, IsHomeOfOpen, IsInside, IsOpenIn, SameBut, open_batches};
 
@@ -40,7 +40,7 @@ pub fn a_volume_is_judged_by_its_segments()
 pub fn the_gate_of_the_format_is_not_read()
     ensures stands { (old new label : List ℕ) (blocks : List (List ℕ)) → StandsFor old label blocks → Torn format_at 1 old new
         → StandsFor new label blocks }
-    ensures open { (old new label : List ℕ) (blocks : List (List ℕ)) (held : List Held) → StandsFor old label blocks
+    ensures open { (old new label : List ℕ) (blocks : List (List ℕ)) (held : List HeldBatch) → StandsFor old label blocks
         → Torn format_at 1 old new → AreOpen held old → AreOpen held new }
 {}
 
@@ -58,7 +58,7 @@ pub fn a_closed_segment_is_not_read()
     ensures stands { (old new label : List ℕ) (blocks : List (List ℕ)) (s : ℕ) → StandsFor old label blocks → is_open s old ≡ false
         → s < segment_count old
         → SameBut (IsInside s) old new → StandsFor new label blocks }
-    ensures open { (old new label : List ℕ) (blocks : List (List ℕ)) (s : ℕ) (held : List Held) → StandsFor old label blocks
+    ensures open { (old new label : List ℕ) (blocks : List (List ℕ)) (s : ℕ) (held : List HeldBatch) → StandsFor old label blocks
         → is_open s old ≡ false → s < segment_count old
         → SameBut (IsInside s) old new → AreOpen held old → AreOpen held new }
 {}
@@ -79,7 +79,7 @@ pub fn an_opened_gate_lays_its_batch_last()
         → ((t : ℕ) → IsOpenIn t old → (batch_in t old).number < (batch_in s old).number)
         → SameBut (λ k. k ≡ gate_place s) old new
         → StandsFor new label blocks ⊎ StandsFor new label (laid_over blocks (batch_in s old).numbers (batch_in s old).images) }
-    ensures open { (old new label : List ℕ) (blocks : List (List ℕ)) (s : ℕ) (held : List Held) → StandsFor old label blocks
+    ensures open { (old new label : List ℕ) (blocks : List (List ℕ)) (s : ℕ) (held : List HeldBatch) → StandsFor old label blocks
         → is_open s old ≡ false → s < segment_count old
         → IsDescriptor (home_size old) (block (descriptor_place s) old) → AreOpen held old → HaveLess (batch_in s old).number held
         → SameBut (λ k. k ≡ gate_place s) old new → is_open s new ≡ true
@@ -92,22 +92,23 @@ pub fn an_opened_gate_lays_its_batch_last()
 pub fn torn_homes_are_laid_over()
     ensures stands { (old new label : List ℕ) (blocks : List (List ℕ)) → StandsFor old label blocks → SameBut (IsHomeOfOpen old) old new
         → StandsFor new label blocks }
-    ensures open { (old new label : List ℕ) (blocks : List (List ℕ)) (held : List Held) → StandsFor old label blocks
+    ensures open { (old new label : List ℕ) (blocks : List (List ℕ)) (held : List HeldBatch) → StandsFor old label blocks
         → SameBut (IsHomeOfOpen old) old new → AreOpen held old → AreOpen held new }
-    ensures held { (old new label : List ℕ) (blocks : List (List ℕ)) (held : List Held) → StandsFor old label blocks → AreOpen held old
+    ensures held { (old new label : List ℕ) (blocks : List (List ℕ)) (held : List HeldBatch) → StandsFor old label blocks → AreOpen held old
         → SameBut (IsHomeOfHeld (segment_count old) held) old new → StandsFor new label blocks }
 {}
 
 /// A home write carries one more image of the next batch. After its last image the batch is done.
 pub fn a_home_write_carries_one_image()
-    ensures one { (first : List (List ℕ)) (done : List Held) (next : Batch) (i : ℕ) (image : List ℕ) → i < length next.numbers
+    ensures one { (first : List (List ℕ)) (done : List HeldBatch) (next : Batch) (i : ℕ) (image : List ℕ) → i < length next.numbers
         → i < length next.images
         → length (slice_index_or next.images i []) ≡ 4096 → slice_index next.numbers i < home_size image
         → 4096 * home_place (segment_count image) (home_size image) ≤ length image
         → IsHomeOnTheWay first done next i image
         → IsHomeOnTheWay first done next (i + 1)
         (overwritten (4096 * home_place (segment_count image) (slice_index next.numbers i)) (slice_index_or next.images i []) image) }
-    ensures all { (first : List (List ℕ)) (done : List Held) (h : Held) (image : List ℕ) → length h.batch.images ≡ length h.batch.numbers
+    ensures all { (first : List (List ℕ)) (done : List HeldBatch) (h : HeldBatch) (image : List ℕ)
+        → length h.batch.images ≡ length h.batch.numbers
         → IsHomeOnTheWay first done h.batch (length h.batch.numbers) image
         → home image ≡ all_laid_over first (batches_of (done ++ h ∷ [])) }
 {}
@@ -123,7 +124,7 @@ pub fn the_oldest_gate_may_be_closed()
     ensures stands { (old new label : List ℕ) (blocks : List (List ℕ)) (s : ℕ) → StandsFor old label blocks → IsOpenIn s old
         → ((t : ℕ) → IsOpenIn t old → t ≢ s → (batch_in s old).number < (batch_in t old).number) → IsCarried old
         → SameBut (λ k. k ≡ gate_place s) old new → StandsFor new label blocks × IsCarried new }
-    ensures open { (old new label : List ℕ) (blocks : List (List ℕ)) (h : Held) (held : List Held) → StandsFor old label blocks
+    ensures open { (old new label : List ℕ) (blocks : List (List ℕ)) (h : HeldBatch) (held : List HeldBatch) → StandsFor old label blocks
         → AreOpen (h ∷ held) old → IsCarried old
         → SameBut (λ k. k ≡ gate_place h.place) old new → is_open h.place new ≡ false
         → StandsFor new label blocks × (IsCarried new × AreOpen held new) }

@@ -6,7 +6,7 @@ ghost use Rattle.journal.specs.Journal.{IsIdle};
 use crate::answering::SessionThread;
 use crate::watching::Watching;
 use crate::{ServeError, Server};
-use accepting::{Acceptor, Call, Doors, FAREWELLS, Parting, linger_all};
+use accepting::{Acceptor, Caller, Doors, FAREWELLS, Parting, linger_all};
 use crossbeam_channel::{Receiver, Sender, bounded};
 use disk::Disk;
 use flusher::{
@@ -112,14 +112,14 @@ struct Parts {
     batch: BatchBuf,
     writers: Vec<ReplyWriter>,
     channels: Channels,
-    caller: Sender<Call>,
+    caller: Sender<Caller>,
     acceptors: Vec<JoinHandle<()>>,
 }
 
 /// The channels between the threads, and the clock that they read.
 #[derive(Drop)]
 struct Channels {
-    calls: Receiver<Call>,
+    calls: Receiver<Caller>,
     parting: Sender<Parting>,
     partings: Receiver<Parting>,
     operator: Operator,
@@ -148,7 +148,7 @@ impl<'a, R, K, G> Drop for Hall<'a, R, K, G> {
 /// The way to the sessions' threads, and room for the threads of the acceptors.
 #[derive(Drop)]
 struct Acceptors {
-    caller: Sender<Call>,
+    caller: Sender<Caller>,
     acceptors: Vec<JoinHandle<()>>,
 }
 
@@ -283,7 +283,7 @@ fn start_accepting<
 >(
     scope: &Scope<'s, E>,
     hall: &'s Hall<'s, R, K, G>,
-    caller: Sender<Call>,
+    caller: Sender<Caller>,
     acceptors: &mut Vec<JoinHandle<()>>,
 ) -> bool {
     for listener in hall.doors.listeners {

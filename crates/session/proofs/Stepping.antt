@@ -12,13 +12,13 @@ use Rattle.model.specs.declared.message.Message.{Message}
 use Rattle.model.specs.declared.message.Message.TheVariants as message
 use Rattle.model.specs.declared.session.Awaits.TheVariants as awaits
 use Rattle.model.specs.declared.session.Session.{Session}
-use Rattle.posting_commands.specs.Outcomes.{Said, post_said, said_served, then_line}
+use Rattle.posting_commands.specs.Outcomes.{Replied, post_said, said_served, then_line}
 use Rattle.replies.specs.Answered.{answered}
 use Rattle.session.specs.Steps.{step_of}
 
 module _ (host : Octets) (S : Spool) (x : Session) (t : ℕ) (m : Message) where
   -- by whether it is an article that is too long
-  abbrev by_length : Bool → Said
+  abbrev by_length : Bool → Replied
   by_length b = if b then record { answered = answered (says (awaiting x awaits.Line) not_accepted) 0; mark = mark.Long }
       else said_served (answered (served host S x t x.awaits m) (served_reads host S x t x.awaits m))
 
@@ -36,25 +36,25 @@ module _ (host : Octets) (S : Spool) (x : Session) (t : ℕ) (m : Message) where
   mark_by true = refl
   mark_by false = refl
 
-  pub step_answer : (s : Said) → s ≡ step_of host S x t x.awaits m → s.answered.answer ≡ answer host S x m t s.mark
-  step_answer s is = subst (λ (s : Said). s.answered.answer ≡ answer host S x m t s.mark) (sym is)
+  pub step_answer : (s : Replied) → s ≡ step_of host S x t x.awaits m → s.answered.answer ≡ answer host S x m t s.mark
+  step_answer s is = subst (λ (s : Replied). s.answered.answer ≡ answer host S x m t s.mark) (sym is)
       (answer_by (is_long_by host S x.awaits m))
 
-  pub step_reads : (s : Said) → s ≡ step_of host S x t x.awaits m → s.answered.reads ≡ reads host S x m t s.mark
-  step_reads s is = subst (λ (s : Said). s.answered.reads ≡ reads host S x m t s.mark) (sym is) (reads_by (is_long_by host S x.awaits m))
+  pub step_reads : (s : Replied) → s ≡ step_of host S x t x.awaits m → s.answered.reads ≡ reads host S x m t s.mark
+  step_reads s is = subst (λ (s : Replied). s.answered.reads ≡ reads host S x m t s.mark) (sym is) (reads_by (is_long_by host S x.awaits m))
 
-  pub step_mark : (s : Said) → s ≡ step_of host S x t x.awaits m → s.mark ≡ (if is_long host S x m then mark.Long else mark.Served)
+  pub step_mark : (s : Replied) → s ≡ step_of host S x t x.awaits m → s.mark ≡ (if is_long host S x m then mark.Long else mark.Served)
   unfolding is_long
-  step_mark s is = subst (λ (s : Said). s.mark ≡ (if is_long_by host S x.awaits m then mark.Long else mark.Served)) (sym is)
+  step_mark s is = subst (λ (s : Replied). s.mark ≡ (if is_long_by host S x.awaits m then mark.Long else mark.Served)) (sym is)
       (mark_by (is_long_by host S x.awaits m))
 
 -- What is said of a posted article is its step.
 module _ (host : Octets) (S : Spool) (x : Session) (t : ℕ) (text : Octets) where
-  abbrev said_by : Bool → Said
+  abbrev said_by : Bool → Replied
   said_by b = if b then record { answered = answered (then_line x not_accepted None) 0; mark = mark.Long }
       else said_served (answered (post_answer host S x t text) (outcome_reads S (post_outcome host S text)))
 
-  abbrev step_by : Bool → Said
+  abbrev step_by : Bool → Replied
   step_by b = if b then record { answered = answered (says (awaiting x awaits.Line) not_accepted) 0; mark = mark.Long }
       else said_served (answered (served host S x t awaits.PostBlock (message.Block text))
       (served_reads host S x t awaits.PostBlock (message.Block text)))

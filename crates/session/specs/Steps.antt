@@ -10,11 +10,11 @@ use Rattle.model.specs.declared.message.Message.{Message}
 use Rattle.model.specs.declared.session.Awaits.{Awaits}
 use Rattle.model.specs.declared.session.Awaits.TheVariants as awaits
 use Rattle.model.specs.declared.session.Session.{Session}
-use Rattle.posting_commands.specs.Outcomes.{Said, said_served}
+use Rattle.posting_commands.specs.Outcomes.{Replied, said_served}
 use Rattle.replies.specs.Answered.{answered}
 
 -- an article that would be too long as it is stored is refused and marked `Long`; everything else is served
-abbrev pub step_of : Octets → Spool → Session → ℕ → Awaits → Message → Said
+abbrev pub step_of : Octets → Spool → Session → ℕ → Awaits → Message → Replied
 step_of host S x t what m =
     if is_long_by host S what m then record { answered = answered (says (awaiting x awaits.Line) not_accepted) 0; mark = mark.Long }
     else said_served (answered (served host S x t what m) (served_reads host S x t what m))

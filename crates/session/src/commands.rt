@@ -12,7 +12,7 @@ use model::{Command, Moment, Session};
 use plain_commands::{date, mode_reader, quit};
 use posting_commands::{ihave, post};
 use reading_commands::{fetch, group, last, list_group, next, over};
-use replies::{Answered, Block, says_block};
+use replies::{Answered, FixedBlock, says_block};
 use std::alloc::{AllocError, Global};
 
 /// The answer to a command, with what it reads.
@@ -29,10 +29,10 @@ pub(crate) fn command<L: LookUps>(
         (command_reads (L.host_of spool.now) (L.changes spool.now) session.now moment command)) }
 {
     match command {
-        Command::Capabilities => says_block(alloc, session, Block::Capabilities),
+        Command::Capabilities => says_block(alloc, session, FixedBlock::Capabilities),
         Command::ModeReader => mode_reader(alloc, session, spool.host()),
         Command::Quit => quit(alloc, session),
-        Command::Help => says_block(alloc, session, Block::Help),
+        Command::Help => says_block(alloc, session, FixedBlock::Help),
         Command::Date => date(alloc, session, moment),
         Command::Group(name) => group(alloc, spool, session, name),
         Command::ListGroup(name, range) => list_group(alloc, spool, session, &name, &range),

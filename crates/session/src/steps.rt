@@ -28,8 +28,8 @@ pub(crate) fn step<'m, L: LookUps>(
 ) -> Result<Step<'m>, AllocError>
     ensures answer { IfOk result (λ step. (said step).answered.answer ≡ answers.answer (L.host_of spool.now)
         (L.changes spool.now) session.now received.entry moment step.mark) }
-    ensures reads { IfOk result (λ step. step.answered.reads ≡ reads (L.host_of spool.now) (L.changes spool.now) session.now received.entry moment
-        step.mark) }
+    ensures reads { IfOk result (λ step. step.answered.reads ≡ reads (L.host_of spool.now)
+        (L.changes spool.now) session.now received.entry moment step.mark) }
     ensures mark { IfOk result (λ step. step.mark ≡ if answers.is_long (L.host_of spool.now)
         (L.changes spool.now) session.now received.entry then mark.Long else mark.Served) }
 {

@@ -12,7 +12,7 @@ use script::{Line, ParseError, parse};
 use std::alloc::Global;
 use std::io::{BufRead, Write};
 use wcache::WCache;
-use world::{Answer, Event, StepError};
+use world::{Event, StepAnswer, StepError};
 
 /// The most device calls from the first of a batch to its end. The commit is call `n + 4`. A checkpoint of eight
 /// segments adds a write for each home block, a sync, and a write and a sync for each gate. A batch has at most 512
@@ -188,7 +188,7 @@ fn join<D: Device, W: Write>(
     output: &mut W,
 ) -> Result<(), Failure> {
     match sim.step(alloc, &Event::Join) {
-        Ok(Answer::Joined(session)) => Ok(writeln!(output, "join {session}")?),
+        Ok(StepAnswer::Joined(session)) => Ok(writeln!(output, "join {session}")?),
         Ok(_) => Ok(()),
         Err(error) => Ok(print_refusal(&error, output)?),
     }
@@ -213,7 +213,7 @@ fn commit<D: Device, W: Write>(
     output: &mut W,
 ) -> Result<(), Failure> {
     match sim.step(alloc, &Event::Take) {
-        Ok(Answer::Took(Some(_))) => {}
+        Ok(StepAnswer::Took(Some(_))) => {}
         Ok(_) => return Ok(()),
         Err(error) => return Ok(print_refusal(&error, output)?),
     }
@@ -258,13 +258,17 @@ impl Until {
 }
 
 /// Makes device calls until one gives the awaited answer, or is refused.
-fn carry<D: Device>(alloc: Global, sim: &mut Sim<D>, until: Until) -> Result<Answer, StepError> {
+fn carry<D: Device>(
+    alloc: Global,
+    sim: &mut Sim<D>,
+    until: Until,
+) -> Result<StepAnswer, StepError> {
     for _ in 0..MOST_CALLS {
-        if let Answer::Progressed(progress) = sim.step(alloc, &Event::Dev)? {
+        if let StepAnswer::Progressed(progress) = sim.step(alloc, &Event::Dev)? {
             if until.is_met(progress) {
                 break;
             }
         }
     }
-    Ok(Answer::Done)
+    Ok(StepAnswer::Done)
 }

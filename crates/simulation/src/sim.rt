@@ -6,7 +6,7 @@ use memdisk::Pick;
 use outbox::ReadyBuf;
 use std::alloc::Global;
 use std::marker::Model;
-use world::{Answer, Event, OpenError, Refused, Spool, StepError, World};
+use world::{Event, OpenError, Refused, Spool, StepAnswer, StepError, World};
 
 /// A world over a device of the simulation.
 #[derive(Drop)]
@@ -63,7 +63,7 @@ impl<D: Device> Closed<D> {
 
 impl<D: Device> Sim<D> {
     /// Makes one event happen.
-    pub(crate) fn step(&mut self, alloc: Global, event: &Event) -> Result<Answer, StepError> {
+    pub(crate) fn step(&mut self, alloc: Global, event: &Event) -> Result<StepAnswer, StepError> {
         self.world.step(alloc, event)
     }
 

@@ -12,7 +12,7 @@ use Rattle.model.specs.SpoolFiles.{change_file}
 use Rattle.model.specs.declared.change.Change.{Change}
 use Rattle.model.proofs.HoldsOne.{changes_few, fits_lawful, holds_one, no_change, same_change}
 use Rattle.fs_layout.proofs.Tables.{length-table}
-use Rattle.spool_reading.specs.Said.{IsFileOf}
+use Rattle.spool_reading.specs.StoredChanges.{IsFileOf}
 use Rattle.spool_reading.proofs.Saying.{all_in_time}
 use Rattle.spool_changes.specs.Stored.{HasChange}
 

@@ -1,18 +1,18 @@
 //! Copies the contents of a change's file into a change.
 
 ghost use Rattle.std.specs.Prelude.{◌≡◌, IfOk};
-ghost use Rattle.spool_reading.specs.Said.{change_of};
+ghost use Rattle.spool_reading.specs.StoredChanges.{change_of};
 
 use model::{Change, Expiry, Filing, NewGroup, Text};
-use spool_reading::Said;
+use spool_reading::StoredChange;
 use std::alloc::{AllocError, Global};
 
 /// The change that a file describes, with its own copies of the octets. Refused only for want of memory.
-pub fn change_said(alloc: Global, said: &Said<'_>) -> Result<Change, AllocError>
+pub fn change_said(alloc: Global, said: &StoredChange<'_>) -> Result<Change, AllocError>
     ensures { IfOk result (λ change. change ≡ change_of said.now) }
 {
     match said {
-        Said::Group {
+        StoredChange::Group {
             name,
             status,
             description,
@@ -23,11 +23,11 @@ pub fn change_said(alloc: Global, said: &Said<'_>) -> Result<Change, AllocError>
             description: copy(alloc, description)?,
             moment: *moment,
         })),
-        Said::Article { text, envelope } => Ok(Change::Article(Filing {
+        StoredChange::Article { text, envelope } => Ok(Change::Article(Filing {
             text: copy(alloc, text)?,
             envelope: envelope.copy(alloc)?,
         })),
-        Said::Expiry { group, number } => Ok(Change::Expire(Expiry {
+        StoredChange::Expiry { group, number } => Ok(Change::Expire(Expiry {
             group: copy(alloc, group)?,
             number: u64::from(*number),
         })),

@@ -51,7 +51,8 @@ filtered p (y ∷ xs) x has = by_test (p y) refl has (λ later. filtered p xs x 
   by_test true at (suc k, low, is) rest = rest (k, omega arith, is)
   by_test false at has rest = rest has
 
-pub filed_here : (host : Octets) (S : Spool) (f : Filing) (g : Octets) → MayFile host S f → Contains f.envelope.groups g → is_here S g ≡ true
+pub filed_here : (host : Octets) (S : Spool) (f : Filing) (g : Octets) → MayFile host S f → Contains f.envelope.groups g
+    → is_here S g ≡ true
 filed_here host S f g may has = filtered (is_here S) (groups_of f.text) g (subst (λ (gs : List Octets). Contains gs g) may.filed has)
 
 -- ---- a group at its place

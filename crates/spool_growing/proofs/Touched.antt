@@ -83,12 +83,14 @@ module _ (host : Octets) (inodes : ℕ) (blocks : List Octets) (S : Spool) (f : 
       let asks = changes_ask_few host S (Article f) (changes_are_few host inodes blocks S is) is.held.lawful may in
       omega (arith, asks.changed, reached_by (length octets_of) asks.made)
 
-  few_touched : (octets : Octets) (pieces : List Piece) → octets ≡ octets_of → ArePieces (table inodes blocks) S f.text f.envelope.groups pieces
+  few_touched : (octets : Octets) (pieces : List Piece) → octets ≡ octets_of
+      → ArePieces (table inodes blocks) S f.text f.envelope.groups pieces
       → 2 + touched_by_growth 0 (length octets) + touched_by_pieces (table inodes blocks) pieces ≤ 254
   few_touched octets pieces says are =
       let pieces_are = sym (pieces_touch (table inodes blocks) S f.text f.envelope.groups pieces are) in
       subst (λ (n : ℕ). 2 + touched_by_growth 0 (length octets) + n ≤ 254) pieces_are
-      (subst (λ (o : Octets). 2 + touched_by_growth 0 (length o) + sum_by (blocks_filed S f.text) f.envelope.groups ≤ 254) (sym says) few_changed)
+      (subst (λ (o : Octets). 2 + touched_by_growth 0 (length o) + sum_by (blocks_filed S f.text) f.envelope.groups ≤ 254)
+          (sym says) few_changed)
 
   pub article_touches : (serial : ℕ) (octets : Octets) (pieces : List Piece) (seen new : List Octets)
       → seen ≡ blocks → serial ≡ length S + 1

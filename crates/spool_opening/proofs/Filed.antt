@@ -101,7 +101,8 @@ pub article_replayed : (host : Octets) (inodes : ℕ) (blocks : List Octets) (R 
     → IsReplayed host inodes blocks y q (R ++ Article f ∷ [])
 article_replayed host inodes blocks R x y p q at f rule replayed its may all indexed placed = record {
   read = article_is_read host inodes blocks R replayed.read f rule may its.is.room
-      (its_file_there inodes blocks at (length R + 1) (Article f) its) (pieces_by_names (table inodes blocks) R f.text f.envelope.groups all);
+      (its_file_there inodes blocks at (length R + 1) (Article f) its)
+      (pieces_by_names (table inodes blocks) R f.text f.envelope.groups all);
   indexed = indexed;
   placed =
       subst (AreNamed (table inodes blocks) (R ++ Article f ∷ [])) (sym placed)

@@ -85,7 +85,11 @@ article_grows Overview S f g = ap overview_of (filed_article S g f) ∙ by_test 
 grows : (w : Which) (S : Spool) (c : Change) (g : Octets) → (rest : Octets) × (file_for w (S ++ c ∷ []) g ≡ file_for w S g ++ rest)
 grows w S (Group created) g = ([], other_grows w S (Group created) g refl ∙ sym (append-nil (file_for w S g)))
 grows w S (Expire expiry) g = ([], other_grows w S (Expire expiry) g refl ∙ sym (append-nil (file_for w S g)))
-grows w S (Article filing) g = (cond (list_any (is_name g) filing.envelope.groups) (piece_for w S filing.text g) [], article_grows w S filing g)
+grows w S (Article filing) g = (
+  cond (list_any (is_name g) filing.envelope.groups)
+      (piece_for w S filing.text g) [],
+  article_grows w S filing g,
+)
 
 pub front_for : (w : Which) (S T : Spool) (g : Octets) → (rest : Octets) × (file_for w (S ++ T) g ≡ file_for w S g ++ rest)
 front_for w S [] g = ([], ap (λ (R : Spool). file_for w R g) (append-nil S) ∙ sym (append-nil (file_for w S g)))

@@ -7,7 +7,7 @@ use Rattle.std.proofs.lemmas.Bool.{true≢false}
 use Rattle.std.proofs.lemmas.Slice.Eq.{bytes_eq-Decides}
 use Rattle.model.specs.Stream.{Octets}
 use Rattle.model.specs.Files.{File}
-use Rattle.model.specs.Spool.{Spool, Entry, entries_from, entries, NewsGroup, group_made, group_named, groups, is_here, is_name}
+use Rattle.model.specs.Spool.{Spool, SpoolEntry, entries_from, entries, NewsGroup, group_made, group_named, groups, is_here, is_name}
 use Rattle.model.specs.Spool.{news_group}
 use Rattle.model.specs.FileKinds.{is_of_change}
 use Rattle.model.specs.SpoolFiles.{change_file, entry_files, files_of, index_files, numbers_name, numbers_file, overview_name}
@@ -21,13 +21,13 @@ use Rattle.spool_opening.specs.Stored.{Which, Numbers, Overview, name_for, file_
 
 -- ---- the files of a group
 
-pub record MakesGroup (es : List Entry) (g : Octets) : Type 0 where
+pub record MakesGroup (es : List SpoolEntry) (g : Octets) : Type 0 where
   pub serial : ℕ
   pub created : NewGroup
   pub named : created.name ≡ g
   pub here : Contains es (record { serial = serial; change = Group created })
 
-later : (e : Entry) (es : List Entry) (g : Octets) → MakesGroup es g → MakesGroup (e ∷ es) g
+later : (e : SpoolEntry) (es : List SpoolEntry) (g : Octets) → MakesGroup es g → MakesGroup (e ∷ es) g
 later e es g makes = record {
   serial = makes.serial;
   created = makes.created;
@@ -77,7 +77,7 @@ made_group_here n (c ∷ cs) created m (suc k, low, is) = past c (made_group_her
   past (Article filing) its = its
   past (Expire expiry) its = its
 made_group_here n (Group other ∷ cs) created m (zero, low, is) =
-    let same : other.name ≡ created.name = name_same (ap (λ (e : Entry). e.change) is) in
+    let same : other.name ≡ created.name = name_same (ap (λ (e : SpoolEntry). e.change) is) in
     ap (λ (b : Bool). is_some (cond b
     (Some (news_group n other))
     (find (λ (h : NewsGroup). is_name created.name h.name) (filter_map group_made (entries_from (suc n) cs)))))
@@ -86,9 +86,9 @@ made_group_here n (Group other ∷ cs) created m (zero, low, is) =
     name_same : Group other ≡ Group created → other.name ≡ created.name
     name_same same = let one : other ≡ created = cc in ap (λ (h : NewGroup). h.name) one
 made_group_here n (Article filing ∷ cs) created m (zero, low, is) =
-    absurd (let same : Article filing ≡ Group created = ap (λ (e : Entry). e.change) is in cc)
+    absurd (let same : Article filing ≡ Group created = ap (λ (e : SpoolEntry). e.change) is in cc)
 made_group_here n (Expire expiry ∷ cs) created m (zero, low, is) =
-    absurd (let same : Expire expiry ≡ Group created = ap (λ (e : Entry). e.change) is in cc)
+    absurd (let same : Expire expiry ≡ Group created = ap (λ (e : SpoolEntry). e.change) is in cc)
 
 pub has_index : (w : Which) (S : Spool) (g : Octets) → is_here S g ≡ true
     → Contains (files_of S) (record { name = name_for w g; content = file_for w S g })
@@ -115,7 +115,7 @@ first_of : Which → ℕ
 first_of Numbers = 110
 first_of Overview = 111
 
-not_change : (w : Which) (e : Entry) (g content : Octets) → change_file e ≡ record { name = name_for w g; content = content } → ⊥
+not_change : (w : Which) (e : SpoolEntry) (g content : Octets) → change_file e ≡ record { name = name_for w g; content = content } → ⊥
 not_change w e g content is = by_kind w e.serial e.change is where
   by_kind : (v : Which) (n : ℕ) (c : Change) → change_file (record { serial = n; change = c }) ≡ record {
     name = name_for v g;
@@ -158,7 +158,8 @@ index_is w S g content has =
     let source = joined_from (entry_files S) (entries_from 1 S) (record { name = name_for w g; content = content }) has in
     by_place source.item source.here source.has
   where
-    by_place : (e : Entry) → Contains (entries_from 1 S) e → Contains (entry_files S e) (record { name = name_for w g; content = content })
+    by_place : (e : SpoolEntry) → Contains (entries_from 1 S) e
+        → Contains (entry_files S e) (record { name = name_for w g; content = content })
         → IsIndex w S g content
     by_place e there (zero, low, is) = absurd (not_change w e g content is)
     by_place e there (suc k, low, is) =
@@ -186,6 +187,6 @@ named_for S f has not =
     let source = joined_from (entry_files S) (entries_from 1 S) f has in
     by_place source.item source.has
   where
-    by_place : (e : Entry) → Contains (entry_files S e) f → (w : Which) × ((g : Octets) × (f.name ≡ name_for w g))
+    by_place : (e : SpoolEntry) → Contains (entry_files S e) f → (w : Which) × ((g : Octets) × (f.name ≡ name_for w g))
     by_place e (zero, low, is) = absurd (true≢false (sym (of_change e.serial e.change) ∙ ap is_of_change is ∙ not))
     by_place e (suc k, low, is) = index_named S e.change f (k, omega arith, is)

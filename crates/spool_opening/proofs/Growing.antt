@@ -92,7 +92,8 @@ module _ (host : Octets) (inodes : ℕ) (blocks : List Octets) (R : Spool) (read
     changes = changes_more (λ n c. HasRoomInFile (n + 1) c
         × Contains (files_in (table inodes blocks)) (change_file (record { serial = n + 1; change = c }))) R
         (Article f) read.changes (room, there);
-    fronts = λ w g here. by_test w g (read.fronts w g (here_before R (Article f) g refl here)) (list_any (is_name g) f.envelope.groups) refl;
+    fronts = λ w g here. by_test w g (read.fronts w g (here_before R (Article f) g refl here))
+        (list_any (is_name g) f.envelope.groups) refl;
   } where
     by_test : (w : Which) (g : Octets) → HasFront (table inodes blocks) (name_for w g) (file_for w R g) → (b : Bool)
         → list_any (is_name g) f.envelope.groups ≡ b → HasFront (table inodes blocks) (name_for w g) (file_for w (R ++ Article f ∷ []) g)

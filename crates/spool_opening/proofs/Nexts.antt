@@ -21,7 +21,7 @@ use Rattle.model.proofs.Joined.{bytes_same}
 use Rattle.model.proofs.Growing.{here_stays}
 use Rattle.fs_layout.proofs.Tables.{length-table}
 use Rattle.index.specs.View.{IndexView}
-use Rattle.spool_reading.specs.Said.{IsFileOf}
+use Rattle.spool_reading.specs.StoredChanges.{IsFileOf}
 use Rattle.spool_reading.specs.Sorted.{AreSorted, free}
 use Rattle.spool_reading.proofs.Saying.{may_in_time}
 use Rattle.spool_reading.proofs.Slots.{its_slot}

@@ -8,7 +8,7 @@ use Rattle.model.specs.SpoolFiles.{overview_file}
 use Rattle.model.specs.declared.change.Change.{Change}
 use Rattle.index.specs.View.{IndexView, Indexes}
 use Rattle.places.specs.Places.{AreNamed}
-use Rattle.spool_reading.specs.Said.{IsFileOf}
+use Rattle.spool_reading.specs.StoredChanges.{IsFileOf}
 use Rattle.spool_opening.specs.Stored.{AreRead, HasPiece, IsFileAt, Which, file_for, name_for, piece_for}
 
 pub record IsReplayed (host : Octets) (inodes : ℕ) (blocks : List Octets) (index : IndexView) (places : FilePlaces)

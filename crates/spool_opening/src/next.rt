@@ -7,13 +7,13 @@ ghost use Rattle.model.specs.Spool.{Spool};
 ghost use Rattle.model.specs.declared.change.Change.{Change};
 ghost use Rattle.spool_opening.specs.Replayed.{AreReplayed, AreReplayedTo, CanReplay, IsItsFile, IsReplayed};
 ghost use Rattle.spool_opening.specs.Stored.{IsNext};
-ghost use Rattle.spool_reading.specs.Said.{change_of};
+ghost use Rattle.spool_reading.specs.StoredChanges.{change_of};
 ghost use Rattle.spool_reading.specs.Sorted.{AreSorted, free};
 
 use crate::replay::{Replay, replay_article, replay_expiry, replay_group};
 use model::{Moment, Status};
 use records::{FileKind, file_name};
-use spool_reading::{Files, ReadSpoolError, Said, file_at, read_change};
+use spool_reading::{Files, ReadSpoolError, StoredChange, file_at, read_change};
 use std::alloc::Global;
 use volume::Blocks;
 
@@ -64,7 +64,7 @@ fn replay_said<B: Blocks>(
     files: &Files,
     replay: &mut Replay,
     at: u32,
-    said: Said<'_>,
+    said: StoredChange<'_>,
 ) -> Result<(), ReadSpoolError>
     requires room { HasRoom inodes (B.blocks blocks.now) }
     requires rule { IsFileSystem inodes (B.blocks blocks.now) }
@@ -79,16 +79,16 @@ fn replay_said<B: Blocks>(
         → Holds host.now inodes (B.blocks blocks.now) S → IsNext host.now R S (change_of said.entry) → ⊥) }
 {
     match said {
-        Said::Group {
+        StoredChange::Group {
             name,
             status,
             description,
             moment,
         } => replay_named(alloc, files, replay, at, name, status, description, moment),
-        Said::Article { text, envelope } => replay_article(
+        StoredChange::Article { text, envelope } => replay_article(
             alloc, blocks, inodes, host, files, replay, at, text, envelope,
         ),
-        Said::Expiry { group, number } => replay_expiry(replay, at, group, number),
+        StoredChange::Expiry { group, number } => replay_expiry(replay, at, group, number),
     }
 }
 

@@ -24,7 +24,7 @@ use Rattle.model.proofs.Strings.{little_split}
 use Rattle.records.specs.Kinds.{front_of}
 use Rattle.records.specs.declared.names.FileKind.{FileKind}
 use Rattle.records.specs.declared.names.FileKind.TheVariants as kind
-use Rattle.spool_reading.specs.Said.{IsFileOf, IsInTime}
+use Rattle.spool_reading.specs.StoredChanges.{IsFileOf, IsInTime}
 use Rattle.spool_reading.proofs.Slots.{one_serial, serial_first}
 
 -- ---- moments

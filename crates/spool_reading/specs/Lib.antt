@@ -1,3 +1,3 @@
-pub mod Said
+pub mod StoredChanges
 pub mod Sorted
 pub mod Laws

@@ -15,5 +15,5 @@ pub use files::{NamedFile, file_at, file_name_at, file_size_at, read_file};
 pub use inodes::Inodes;
 pub use laws::files_are_sorted_by_serial;
 pub use pass::sort;
-pub use reading::{Said, read_change};
+pub use reading::{StoredChange, read_change};
 pub use sorting::{Files, SERIAL_SIZE, is_change};

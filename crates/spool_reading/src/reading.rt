@@ -4,7 +4,7 @@ ghost use Rattle.std.specs.Prelude.{◌≡◌, ◌^◌, ◌<◌, ◌++◌, ◌�
 ghost use Rattle.model.specs.Records.{last_digits};
 ghost use Rattle.model.specs.SpoolFiles.{group_name};
 ghost use Rattle.model.specs.declared.change.Change.{Change};
-ghost use Rattle.spool_reading.specs.Said.{IsFileOf, change_of};
+ghost use Rattle.spool_reading.specs.StoredChanges.{IsFileOf, change_of};
 
 use model::{Envelope, Moment, Status};
 use records::{FileKind, kind_of, read_article, read_expiry, read_group, serial_digits};
@@ -12,7 +12,7 @@ use std::alloc::{AllocError, Global};
 
 /// The contents of a change's file.
 #[derive(Drop)]
-pub enum Said<'a> {
+pub enum StoredChange<'a> {
     Group {
         name: &'a [u8],
         status: Status,
@@ -36,7 +36,7 @@ pub fn read_change<'a>(
     name: &'a [u8],
     content: &'a [u8],
     serial: u64,
-) -> Result<Option<Said<'a>>, AllocError>
+) -> Result<Option<StoredChange<'a>>, AllocError>
     requires { length content.now < 2 ^ 32 }
     ensures { IfOk result (λ said. MatchOption said
         ((c : Change) → IsFileOf serial c name.now content.now → ⊥)
@@ -53,7 +53,7 @@ pub fn read_change<'a>(
 }
 
 /// The contents of a group's file.
-fn group_said<'a>(group: &'a [u8], content: &'a [u8], serial: u64) -> Option<Said<'a>>
+fn group_said<'a>(group: &'a [u8], content: &'a [u8], serial: u64) -> Option<StoredChange<'a>>
     ensures { MatchOption result
         ((c : Change) → IsFileOf serial c (group_name group.now) content.now → ⊥)
         (λ s. IsFileOf serial (change_of s) (group_name group.now) content.now) }
@@ -70,7 +70,7 @@ fn group_said<'a>(group: &'a [u8], content: &'a [u8], serial: u64) -> Option<Sai
     let Some(moment) = Moment::at(said.moment) else {
         return None;
     };
-    Some(Said::Group {
+    Some(StoredChange::Group {
         name: group,
         status,
         description: said.description,
@@ -84,7 +84,7 @@ fn article_said<'a>(
     digits: &'a [u8],
     content: &'a [u8],
     serial: u64,
-) -> Result<Option<Said<'a>>, AllocError>
+) -> Result<Option<StoredChange<'a>>, AllocError>
     requires { length content.now < 2 ^ 32 }
     ensures { IfOk result (λ said. MatchOption said
         ((c : Change) → IsFileOf serial c (codes "a." ++ digits.now) content.now → ⊥)
@@ -99,14 +99,14 @@ fn article_said<'a>(
     if said.serial != serial {
         return Ok(None);
     }
-    Ok(Some(Said::Article {
+    Ok(Some(StoredChange::Article {
         text: said.text,
         envelope: said.envelope,
     }))
 }
 
 /// The contents of the file of an expiry whose name has these digits.
-fn expiry_said<'a>(digits: &'a [u8], content: &'a [u8], serial: u64) -> Option<Said<'a>>
+fn expiry_said<'a>(digits: &'a [u8], content: &'a [u8], serial: u64) -> Option<StoredChange<'a>>
     ensures { MatchOption result
         ((c : Change) → IsFileOf serial c (codes "x." ++ digits.now) content.now → ⊥)
         (λ s. IsFileOf serial (change_of s) (codes "x." ++ digits.now) content.now) }
@@ -120,7 +120,7 @@ fn expiry_said<'a>(digits: &'a [u8], content: &'a [u8], serial: u64) -> Option<S
     if said.serial != serial {
         return None;
     }
-    Some(Said::Expiry {
+    Some(StoredChange::Expiry {
         group: said.group,
         number: said.number,
     })

@@ -11,7 +11,7 @@ use Rattle.model.specs.Stream.{Octets}
 use Rattle.model.specs.Files.{File, HasRoom, IsFile, IsFileSystem, content_of, entry, size, table}
 use Rattle.model.specs.Indexed.{ArePlaces, FilePlaces}
 use Rattle.model.specs.Records.{article_record}
-use Rattle.model.specs.Spool.{Spool, Entry, NewsArticle, article_filed, entries, news_article}
+use Rattle.model.specs.Spool.{Spool, SpoolEntry, NewsArticle, article_filed, entries, news_article}
 use Rattle.model.specs.FileKinds.{article_file}
 use Rattle.model.specs.SpoolFiles.{article_name, change_file}
 use Rattle.model.specs.declared.change.Change.{Change}
@@ -55,13 +55,13 @@ filed_file n (Expire expiry) a is = absurd (cc)
 filed_file n (Article filing) a is = ap (λ (b : NewsArticle). article_file b) (same_Some (news_article n filing) a is)
 
 record Its (S : Spool) (k : ℕ) (a : NewsArticle) : Type 0 where
-  change : Entry
+  change : SpoolEntry
   at : slice_get (entries S) k ≡ Some change
   file_is : change_file change ≡ article_file a
 
 its : (S : Spool) (k : ℕ) (a : NewsArticle) → article_with S (suc k) ≡ Some a → Its S k a
 its S k a is = by_entry (slice_get (entries S) k) refl is where
-  by_entry : (o : Option Entry) → slice_get (entries S) k ≡ o → option_and_then article_filed o ≡ Some a → Its S k a
+  by_entry : (o : Option SpoolEntry) → slice_get (entries S) k ≡ o → option_and_then article_filed o ≡ Some a → Its S k a
   by_entry None at same = absurd (cc)
   by_entry (Some e) at same = record { change = e; at = at; file_is = filed_file e.serial e.change a same }
 

@@ -1,6 +1,6 @@
 -- Worked examples of the two formats: the gate's octet, the blocks that files own, and pointers.
 use Rattle.std.specs.Prelude.{◌≡◌, ◌-◌, ◌+◌, ◌==◌, if◌then◌else◌, [], ◌∷◌, ◌++◌, replicate}
-use Rattle.model.specs.Files.{Entry, first_data, indirect_pointer, pointer}
+use Rattle.model.specs.Files.{FileEntry, first_data, indirect_pointer, pointer}
 use Rattle.model.specs.Room.{blocks_for}
 use Rattle.model.specs.Stream.{Octets}
 use Rattle.model.specs.Volume.{format_in}
@@ -30,7 +30,7 @@ Steps =
 abbrev pub four : Octets
 four = 0 ∷ 0 ∷ 0 ∷ []
 
-abbrev pub last_of : Entry
+abbrev pub last_of : FileEntry
 last_of = record {
   inode = replicate 52 0 ++ 20 ∷ four ++ 21 ∷ four ++ replicate 4 0;
   slot = [];

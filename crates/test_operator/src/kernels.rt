@@ -1,8 +1,8 @@
 //! A kernel that counts the groups that it is asked for, and makes none.
 
 use flusher::{
-    AdminError, Answered, BatchBuf, ExecError, ExpireError, JoinError, Kern, KernelCounts, Stale,
-    Ticket,
+    AdminError, BatchBuf, ExecError, ExecOutcome, ExpireError, JoinError, Kern, KernelCounts,
+    Stale, Ticket,
 };
 use model::{Message, Mode, Moment};
 use names::{GroupName, GroupRequest};
@@ -48,7 +48,7 @@ impl Kern for Counting {
         _message: &Message,
         _moment: Moment,
         _into: &mut ReadyBuf,
-    ) -> Result<Answered, ExecError> {
+    ) -> Result<ExecOutcome, ExecError> {
         Err(ExecError::NoSession)
     }
 

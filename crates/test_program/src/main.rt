@@ -7,7 +7,7 @@
 #![tactic(auto)]
 
 use anyhow::{Result, anyhow};
-use program::{Outcome, Service, import, run};
+use program::{AfterRun, ServeOptions, import, run};
 use std::alloc::{AllocError, Global};
 use std::fs::File;
 use std::io::{BufRead, BufReader, BufWriter, Write};
@@ -120,11 +120,11 @@ impl Script {
             run(rt, alloc, self.words.as_slice(), &mut input, output, faults)
         };
         match outcome {
-            Outcome::Ends(status) => Ok(status),
-            Outcome::Imports(path) => {
+            AfterRun::Ends(status) => Ok(status),
+            AfterRun::Imports(path) => {
                 Ok(import(rt, alloc, path, &mut input, output, faults, false))
             }
-            Outcome::Serves(service) => {
+            AfterRun::Serves(service) => {
                 describe(output, &service)?;
                 Ok(0)
             }
@@ -133,7 +133,7 @@ impl Script {
 }
 
 /// Prints which server the words ask for.
-fn describe<W: Write>(output: &mut W, service: &Service<'_>) -> Result<()> {
+fn describe<W: Write>(output: &mut W, service: &ServeOptions<'_>) -> Result<()> {
     write!(output, "serves {} on", service.path)?;
     for endpoint in &service.endpoints {
         write!(output, " {endpoint}")?;

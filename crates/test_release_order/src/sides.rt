@@ -2,8 +2,8 @@
 
 use crate::stops::{Point, Stop};
 use flusher::{
-    AdminError, Answered, BatchBuf, ExecError, ExpireError, JoinError, Kern, KernelCounts, Locked,
-    Stale, Ticket,
+    AdminError, BatchBuf, ExecError, ExecOutcome, ExpireError, JoinError, Kern, KernelCounts,
+    Locked, Stale, Ticket,
 };
 use model::{Message, Mode, Moment};
 use names::{GroupName, GroupRequest};
@@ -35,7 +35,7 @@ impl<'a> Kern for Side<'a> {
         message: &Message,
         moment: Moment,
         into: &mut ReadyBuf,
-    ) -> Result<Answered, ExecError> {
+    ) -> Result<ExecOutcome, ExecError> {
         let answered = self.inner.answer(rt, alloc, sid, message, moment, into);
         self.stop.pass(rt, Point::AfterAnswer);
         answered

@@ -1,8 +1,8 @@
 //! A kernel two of whose calls a test can refuse.
 
 use flusher::{
-    AdminError, Answered, BatchBuf, ExecError, ExpireError, JoinError, Kern, Kernel, KernelCounts,
-    Locked, Stale, Ticket,
+    AdminError, BatchBuf, ExecError, ExecOutcome, ExpireError, JoinError, Kern, Kernel,
+    KernelCounts, Locked, Stale, Ticket,
 };
 use model::{Message, Mode, Moment};
 use names::{GroupName, GroupRequest};
@@ -56,7 +56,7 @@ impl<H: Hooks> Kern for Hooked<H> {
         message: &Message,
         moment: Moment,
         into: &mut ReadyBuf,
-    ) -> Result<Answered, ExecError> {
+    ) -> Result<ExecOutcome, ExecError> {
         match self.hooks.refusal_of(message) {
             Some(error) => Err(error),
             None => self.inner.answer(rt, alloc, sid, message, moment, into),

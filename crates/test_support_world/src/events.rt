@@ -4,7 +4,7 @@ use crate::errors::SimError;
 use model::Mark;
 use script::{Line, ParseError, number, parse};
 use std::alloc::{AllocError, Global};
-use world::{Answer, Event, StepError};
+use world::{Event, StepAnswer, StepError};
 
 /// A line of a script, or `release S` for what is ready of one session, and its answer.
 pub type Row = (&'static str, &'static str);
@@ -56,22 +56,22 @@ pub(crate) fn read(alloc: Global, rows: &[Row], events: &mut Vec<Event>) -> Resu
 /// An answer in words.
 pub(crate) fn said(
     alloc: Global,
-    answered: Result<Answer, StepError>,
+    answered: Result<StepAnswer, StepError>,
 ) -> Result<String, AllocError> {
     match answered {
-        Ok(Answer::Done) => String::from_str(alloc, "done"),
-        Ok(Answer::Joined(number)) => format!(in alloc; "joined {number}"),
-        Ok(Answer::Served(None)) => String::from_str(alloc, "no message"),
-        Ok(Answer::Served(Some((next, Mark::Served)))) => {
+        Ok(StepAnswer::Done) => String::from_str(alloc, "done"),
+        Ok(StepAnswer::Joined(number)) => format!(in alloc; "joined {number}"),
+        Ok(StepAnswer::Served(None)) => String::from_str(alloc, "no message"),
+        Ok(StepAnswer::Served(Some((next, Mark::Served)))) => {
             format!(in alloc; "served, {next:?} is next")
         }
-        Ok(Answer::Served(Some((next, Mark::Stopped)))) => {
+        Ok(StepAnswer::Served(Some((next, Mark::Stopped)))) => {
             format!(in alloc; "stopped, {next:?} is next")
         }
-        Ok(Answer::Served(Some(_))) => String::from_str(alloc, "full"),
-        Ok(Answer::Made(serial)) => format!(in alloc; "made {serial}"),
-        Ok(Answer::Took(last)) => format!(in alloc; "took {last:?}"),
-        Ok(Answer::Progressed(progress)) => format!(in alloc; "{progress:?}"),
+        Ok(StepAnswer::Served(Some(_))) => String::from_str(alloc, "full"),
+        Ok(StepAnswer::Made(serial)) => format!(in alloc; "made {serial}"),
+        Ok(StepAnswer::Took(last)) => format!(in alloc; "took {last:?}"),
+        Ok(StepAnswer::Progressed(progress)) => format!(in alloc; "{progress:?}"),
         Err(error) => format!(in alloc; "{error}"),
     }
 }

@@ -12,7 +12,7 @@ use new_volume::{FORMAT_2, VolumePlan, are_sizes, device_octets, format};
 use std::alloc::Global;
 use std::marker::Model;
 use volume_format::layout::BLOCK;
-use world::{Answer, Entry, Event, OpenError, Refused, StepError, World};
+use world::{Entry, Event, OpenError, Refused, StepAnswer, StepError, World};
 
 /// The logical blocks of the device.
 pub const BLOCKS: u64 = 1024;
@@ -261,7 +261,11 @@ fn opened(alloc: Global, disk: MemDisk) -> Result<World<MemDisk>, Refused<MemDis
     World::open(alloc, disk)
 }
 
-fn stepped(alloc: Global, world: &mut World<MemDisk>, event: &Event) -> Result<Answer, StepError> {
+fn stepped(
+    alloc: Global,
+    world: &mut World<MemDisk>,
+    event: &Event,
+) -> Result<StepAnswer, StepError> {
     world.step(alloc, event)
 }
 

@@ -5,17 +5,18 @@ use Rattle.std.specs.Prelude.{◌||◌, nat_lt, if◌then◌else◌}
 use Rattle.std.proofs.lemmas.List.{append-nil}
 use Rattle.std.proofs.lemmas.Bool.{ltb-true}
 use Rattle.std.proofs.lemmas.Bool.Decides.{nat_tests}
-use Rattle.outbox.specs.Queue.{Held, Giving, nothing_more, cut_at, behind, give}
+use Rattle.outbox.specs.Queue.{HeldOutput, Giving, nothing_more, cut_at, behind, give}
 use Rattle.synchrony.specs.Dependency.{Output}
 use Rattle.synchrony.specs.Progress.{EachFilled, Gives}
 use Rattle.synchrony.proofs.Giving.{gives_go_on}
 use Rattle.traced_kernel.specs.Traced.{without_ends, EndsLast}
 
 -- what holds of what is given, where it holds of each of the three ways
-module _ (P : ℕ → ℕ → List Held → Giving → Type 0) (p : ℕ)
+module _ (P : ℕ → ℕ → List HeldOutput → Giving → Type 0) (p : ℕ)
     (none : (room given : ℕ) → P room given [] (nothing_more room given []))
-    (stop : (room given : ℕ) (held : Held) (rest : List Held) → P room given (held ∷ rest) (nothing_more room given (held ∷ rest)))
-    (cut : (room given : ℕ) (held : Held) (rest : List Held) → held.dependency ≤ p → room < length held.octets
+    (stop : (room given : ℕ) (held : HeldOutput) (rest : List HeldOutput)
+    → P room given (held ∷ rest) (nothing_more room given (held ∷ rest)))
+    (cut : (room given : ℕ) (held : HeldOutput) (rest : List HeldOutput) → held.dependency ≤ p → room < length held.octets
     → P room given (held ∷ rest) (record {
       room = 0;
       octets = take room held.octets;
@@ -23,11 +24,11 @@ module _ (P : ℕ → ℕ → List Held → Giving → Type 0) (p : ℕ)
       given = given;
       held = cut_at room held ∷ rest;
     }))
-    (whole : (room given : ℕ) (held : Held) (rest : List Held) → held.dependency ≤ p → length held.octets ≤ room
+    (whole : (room given : ℕ) (held : HeldOutput) (rest : List HeldOutput) → held.dependency ≤ p → length held.octets ≤ room
     → P (room - length held.octets) held.dependency rest (give p (room - length held.octets) held.dependency rest)
     → P room given (held ∷ rest) (behind held (give p (room - length held.octets) held.dependency rest)))
   where
-    pub give_cases : (room given : ℕ) (held : List Held) → P room given held (give p room given held)
+    pub give_cases : (room given : ℕ) (held : List HeldOutput) → P room given held (give p room given held)
     give_cases room given [] = none room given
     give_cases room given (held ∷ rest) =
         go (nat_lt p held.dependency || room == 0) (nat_lt room (length held.octets)) refl refl
@@ -47,7 +48,7 @@ module _ (P : ℕ → ℕ → List Held → Giving → Type 0) (p : ℕ)
         go false false e f h = whole room given held rest (grind (arith, nat_tests)) (grind (arith, nat_tests)) h
 
 -- no more is given than there is room for
-pub give_room : (p room given : ℕ) (held : List Held) → length (give p room given held).octets + (give p room given held).room ≤ room
+pub give_room : (p room given : ℕ) (held : List HeldOutput) → length (give p room given held).octets + (give p room given held).room ≤ room
 give_room p room given held =
     give_cases (λ room given held g. length g.octets + g.room ≤ room) p
     (λ room given. omega arith)
@@ -57,11 +58,11 @@ give_room p room given held =
     room given held
 
 -- the front of what is held is given
-Goes : ℕ → List Held → Giving → Type 0
+Goes : ℕ → List HeldOutput → Giving → Type 0
 Goes p held g = (before : List Output) (before_given : List ℕ) → EachFilled (without_ends held)
     → Gives p before (without_ends held) before_given → Gives p before (without_ends g.held) (before_given ++ g.octets)
 
-give_goes : (p room given : ℕ) (held : List Held) → Goes p held (give p room given held)
+give_goes : (p room given : ℕ) (held : List HeldOutput) → Goes p held (give p room given held)
 unfolding Goes
 give_goes p room given held =
     give_cases (λ room given held g. Goes p held g) p
@@ -76,7 +77,7 @@ give_goes p room given held =
     (gives_go_on.whole p before (record { octets = one.octets; dependency = one.dependency }) (without_ends rest) was h filled near)))
     room given held
 
-pub give_gives : (p room given : ℕ) (held : List Held) → EachFilled (without_ends held)
+pub give_gives : (p room given : ℕ) (held : List HeldOutput) → EachFilled (without_ends held)
     → Gives p (without_ends held) (without_ends (give p room given held).held) (give p room given held).octets
 unfolding Goes
 give_gives p room given held filled =
@@ -84,16 +85,16 @@ give_gives p room given held filled =
 
 -- an end goes last: a session that ended holds nothing more, and was closed; of another the last output held still ends it, where it is
 -- closed
-abbrev pub Ends : Bool → List Held → Giving → Type 0
+abbrev pub Ends : Bool → List HeldOutput → Giving → Type 0
 Ends closed held g = EndsLast closed held → (g.ended ≡ true → (g.held ≡ []) × (closed ≡ true)) × (g.ended ≡ false → EndsLast closed g.held)
 
-ends_cut : (closed : Bool) (room : ℕ) (held : Held) (rest : List Held) → EndsLast closed (held ∷ rest)
+ends_cut : (closed : Bool) (room : ℕ) (held : HeldOutput) (rest : List HeldOutput) → EndsLast closed (held ∷ rest)
     → EndsLast closed (cut_at room held ∷ rest)
 ends_cut closed room held [] h = h
 ends_cut closed room held (next ∷ rest) h = h
 
-ends_whole : (closed : Bool) (held : Held) (rest : List Held) (later : Giving)
-    → ((next : Held) (others : List Held) → rest ≡ next ∷ others → Ends closed rest later)
+ends_whole : (closed : Bool) (held : HeldOutput) (rest : List HeldOutput) (later : Giving)
+    → ((next : HeldOutput) (others : List HeldOutput) → rest ≡ next ∷ others → Ends closed rest later)
     → (rest ≡ [] → (later.ended ≡ false) × (later.held ≡ [])) → Ends closed (held ∷ rest) (behind held later)
 ends_whole closed held [] later more last h = go held.ends refl
   where
@@ -112,7 +113,7 @@ ends_whole closed held (next ∷ rest) later more last h =
     let same : (held.ends || later.ended) ≡ later.ended = ap (λ b. b || later.ended) h.0 in
     (λ t. now.0 (sym same ∙ t), λ f. now.1 (sym same ∙ f))
 
-pub give_ends : (closed : Bool) (p room given : ℕ) (held : List Held) → Ends closed held (give p room given held)
+pub give_ends : (closed : Bool) (p room given : ℕ) (held : List HeldOutput) → Ends closed held (give p room given held)
 give_ends closed p room given held =
     give_cases (λ room given held g. Ends closed held g) p
     (λ room given h. (λ t. absurd (cc t), λ _. h))

@@ -3,7 +3,7 @@ use Rattle.std.proofs.Common.{◌≡◌, ℕ, ◌≤◌, ◌-◌, Bool, true, fa
 use Rattle.std.proofs.Common.{subst, arith, length-take}
 use Rattle.std.specs.Prelude.{IfSome, OnOk, Result, Ok, Err, is_some, nat_le, option_map, if◌then◌else◌}
 use Rattle.std.proofs.lemmas.Bool.Decides.{nat_tests}
-use Rattle.framing.specs.Held.{Held}
+use Rattle.framing.specs.Held.{HeldInput}
 use Rattle.framing.proofs.StandsLaws.{stands_when_fed, stands_when_found, stands_when_none}
 use Rattle.kernel.specs.Kernel.{FitsMode}
 use Rattle.model.specs.Stream.{ReadsAlike, limited, message_length, message_of, next, unstuffed}
@@ -16,11 +16,11 @@ use Rattle.model.proofs.LawfulLaws.{none_by_test}
 use Rattle.traced_kernel.specs.declared.input.Input.{Input}
 use Rattle.traced_kernel.specs.Input.{Found, HoldsMessage, MayAsk, Waits}
 
-abbrev input_with : Held → Option Message → Input
+abbrev input_with : HeldInput → Option Message → Input
 input_with reader message = record { reader = reader; message = message }
 
 -- further octets are fed
-pub Waits-fed : (old new : Held) (message : Option Message) (piece : List ℕ) → new.rest ≡ old.rest ++ piece → new.awaits ≡ old.awaits
+pub Waits-fed : (old new : HeldInput) (message : Option Message) (piece : List ℕ) → new.rest ≡ old.rest ++ piece → new.awaits ≡ old.awaits
     → (m : Mode) (stream : List ℕ) → Waits (input_with old message) m stream → Waits (input_with new message) m (stream ++ piece)
 Waits-fed old new None piece rest awaits m stream h =
     (stands_when_fed old new piece stream rest awaits h.0, subst (λ o. IfSome o (λ awaited. awaited ≡ m)) (sym awaits) h.1)
@@ -28,19 +28,19 @@ Waits-fed old new (Some message) piece rest awaits m stream h =
     (h.0 ++ piece, next-append m stream piece h.0 message h.1, stands_when_fed old new piece h.0 rest awaits h.2, awaits ∙ h.3)
 
 -- a message is found, or is not
-pub Found-held : (held : Held) (message : Option Message) (m : Mode) (stream : List ℕ) (found : Message) → message ≡ Some found
+pub Found-held : (held : HeldInput) (message : Option Message) (m : Mode) (stream : List ℕ) (found : Message) → message ≡ Some found
     → Waits (input_with held message) m stream → Found true (input_with held message) m stream
 Found-held held None m stream found is h = absurd (cc is)
 Found-held held (Some message) m stream found is h = (message, refl, h)
 
-pub Found-new : (old new : Held) (m : Mode) (stream : List ℕ) (found : Message) → IfSome old.awaits (λ awaited. awaited ≡ m)
+pub Found-new : (old new : HeldInput) (m : Mode) (stream : List ℕ) (found : Message) → IfSome old.awaits (λ awaited. awaited ≡ m)
     → next m old.rest ≡ Some (found, new.rest) → new.awaits ≡ None → Waits (input_with old None) m stream
     → Found true (input_with new (Some found)) m stream
 Found-new old new m stream found may is awaits h =
     let s = stands_when_found old new m stream found may is awaits h.0 in
     (found, refl, (new.rest, s.0, s.1, awaits))
 
-pub Found-none : (old new : Held) (m : Mode) (stream : List ℕ) → IfSome old.awaits (λ awaited. awaited ≡ m) → next m old.rest ≡ None
+pub Found-none : (old new : HeldInput) (m : Mode) (stream : List ℕ) → IfSome old.awaits (λ awaited. awaited ≡ m) → next m old.rest ≡ None
     → ReadsAlike m old.rest new.rest → new.awaits ≡ Some m → Waits (input_with old None) m stream
     → Found false (input_with new None) m stream
 Found-none old new m stream may is alike awaits h =
@@ -48,13 +48,13 @@ Found-none old new m stream may is alike awaits h =
     (s.0, (s.1, subst (λ o. IfSome o (λ awaited. awaited ≡ m)) (sym awaits) refl))
 
 -- the reader of an input that stands for a stream may be asked
-pub Waits-may : (held : Held) (message : Option Message) (m : Mode) (stream : List ℕ) → Waits (input_with held message) m stream
+pub Waits-may : (held : HeldInput) (message : Option Message) (m : Mode) (stream : List ℕ) → Waits (input_with held message) m stream
     → MayAsk (input_with held message) m
 Waits-may held None m stream h = h.1
 Waits-may held (Some message) m stream h = tt
 
 -- once the message is served, the reader stands for what follows it
-pub Waits-served : (held : Held) (message : Message) (m other : Mode) (stream : List ℕ)
+pub Waits-served : (held : HeldInput) (message : Message) (m other : Mode) (stream : List ℕ)
     (h : HoldsMessage (input_with held (Some message)) m stream message) → Waits (input_with held None) other h.0
 Waits-served held message m other stream h = (h.2, subst (λ o. IfSome o (λ awaited. awaited ≡ other)) (sym h.3) tt)
 
@@ -67,7 +67,7 @@ pub found_held : (input : Input) (m : Mode) → is_some input.message ≡ true �
     → Found true input m stream
 found_held input m is stream h = let found = some_some input.message is in Found-held input.reader input.message m stream found.0 found.1 h
 
-pub found_new : (input : Input) (new : Held) (m : Mode) (found : Message) → is_some input.message ≡ false → MayAsk input m
+pub found_new : (input : Input) (new : HeldInput) (m : Mode) (found : Message) → is_some input.message ≡ false → MayAsk input m
     → next m input.reader.rest ≡ Some (found, new.rest) → new.awaits ≡ None → (stream : List ℕ) → Waits input m stream
     → Found true (input_with new (Some found)) m stream
 found_new input new m found is may e awaits stream h =
@@ -75,7 +75,8 @@ found_new input new m found is may e awaits stream h =
     Found-new input.reader new m stream found (subst (λ o. MayAsk (input_with input.reader o) m) none may) e awaits
     (subst (λ o. Waits (input_with input.reader o) m stream) none h)
 
-pub found_none : (input : Input) (new : Held) (m : Mode) → is_some input.message ≡ false → MayAsk input m → next m input.reader.rest ≡ None
+pub found_none : (input : Input) (new : HeldInput) (m : Mode) → is_some input.message ≡ false → MayAsk input m
+    → next m input.reader.rest ≡ None
     → ReadsAlike m input.reader.rest new.rest → new.awaits ≡ Some m → (stream : List ℕ) → Waits input m stream
     → Found false (input_with new input.message) m stream
 found_none input new m is may e alike awaits stream h =

@@ -7,11 +7,11 @@ use Rattle.model.specs.News.{service}
 use Rattle.model.specs.Stream.{Octets}
 use Rattle.model.specs.declared.change.Change.{Change}
 use Rattle.model.specs.declared.session.Session.{Session}
-use Rattle.outbox.specs.Queue.{Held}
+use Rattle.outbox.specs.Queue.{HeldOutput}
 use Rattle.seats.specs.Seats.{Seat}
 use Rattle.synchrony.specs.Dependency.{Output, octets_of}
 use Rattle.synchrony.specs.Progress.{unreleased}
-use Rattle.synchrony.specs.Server.{Connection, Server}
+use Rattle.synchrony.specs.Server.{Connection, PlainServer}
 use Rattle.synchrony.specs.Synchrony.{IsReleased}
 use Rattle.synchrony.proofs.Cut.{IsCut, sync_cut}
 use Rattle.synchrony.proofs.Released.{octets_of-unreleased}
@@ -20,12 +20,12 @@ use Rattle.traced_kernel.specs.Traced.{FollowsPlain, IsServed, IsSession, Sent, 
 use Rattle.traced_kernel.specs.Traced.{octets_of_held, plain, replies_to, session_at, without_ends}
 use Rattle.model.proofs.NewsLaws.{lawful}
 
-held_octets : (held : List Held) → octets_of (without_ends held) ≡ octets_of_held held
+held_octets : (held : List HeldOutput) → octets_of (without_ends held) ≡ octets_of_held held
 held_octets [] = refl
 held_octets (first ∷ held) = ap (λ (o : Octets). first.octets ++ o) (held_octets held)
 
 -- what was released, and what of the outputs was not, are all of them
-whole : (durable : ℕ) (released : Octets) (outputs : List Output) (held : List Held) → IsReleased durable released outputs
+whole : (durable : ℕ) (released : Octets) (outputs : List Output) (held : List HeldOutput) → IsReleased durable released outputs
     → without_ends held ≡ unreleased (length released) outputs → released ++ octets_of_held held ≡ octets_of outputs
 whole durable released outputs held h is =
     let rest : octets_of_held held ≡ h.begins.0 = sym (held_octets held) ∙ ap octets_of is ∙ octets_of-unreleased (length released) outputs
@@ -44,7 +44,7 @@ ended_of host durable sent connection outputs h stays = (h.there stays).all
 
 pub follows_plain : (served : TracedView) → IsServed served → FollowsPlain served
 follows_plain served h = record {
-  spool = sym h.spool ∙ ap (λ (s : Server Session Change). s.spool) same;
+  spool = sym h.spool ∙ ap (λ (s : PlainServer Session Change). s.spool) same;
   there = λ number seat is. there_of host served.kernel.durable (session_at served.sessions number) seat
       ((account served).server.connections number) ((account served).outputs number)
       (subst (λ (o : Option Seat). IsSession host served.kernel.durable (session_at served.sessions number) o
@@ -67,4 +67,4 @@ follows_plain served h = record {
         let cut : IsCut (length (first_spool served)) _ _ _ _ =
         (sync_cut (service served.kernel.host) (lawful served.kernel.host) (length (first_spool served)) (first_spool served)
         (arrived_at served) served.trace (omega arith)).each number in
-        ap concat (sym (ap (λ (s : Server Session Change). (s.connections number).replies) same) ∙ cut.all)
+        ap concat (sym (ap (λ (s : PlainServer Session Change). (s.connections number).replies) same) ∙ cut.all)

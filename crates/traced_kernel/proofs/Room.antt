@@ -8,7 +8,7 @@ use Rattle.seats.specs.Kept.{RiseFrom}
 use Rattle.std.specs.Option.{IsSome}
 use Rattle.seats.specs.Seats.{Ready, Seat, ready, ready_of}
 use Rattle.seats.proofs.SeatsLaws.{eqb-same, find_place}
-use Rattle.outbox.specs.Queue.{Entry}
+use Rattle.outbox.specs.Queue.{ReadyEntry}
 use Rattle.synchrony.specs.Server.{updated}
 use Rattle.model.proofs.Joined.{front_more}
 use Rattle.traced_kernel.specs.Events.{with_released}
@@ -77,13 +77,13 @@ get_past (y ∷ xs) (suc place) zero x none is = omega arith
 get_past (y ∷ xs) (suc place) (suc k) x none is = omega (arith, get_past xs place k x none is)
 
 -- what the loop over the entries leaves
-pub record Files (entries : List Entry) (old new : List Peer) (index : ℕ) : Type 0 where
+pub record Files (entries : List ReadyEntry) (old new : List Peer) (index : ℕ) : Type 0 where
   pub sent : sents new ≡ with_released (sents old) (take index entries)
   pub input : inputs new ≡ inputs old
   pub known : AreKnown (sents new) (drop index entries)
   pub room : HaveRoom new (λ number. length (given_in number (drop index entries)))
 
-released_more : (sessions : List Sent) (entries : List Entry) (entry : Entry)
+released_more : (sessions : List Sent) (entries : List ReadyEntry) (entry : ReadyEntry)
     → with_released sessions (entries ++ entry ∷ []) ≡ with_sent (with_released sessions entries) entry.0
     (record (sent_at (with_released sessions entries) entry.0) {
       released =
@@ -100,9 +100,9 @@ drop_more (y ∷ xs) zero x is = let same : y ≡ x = cc is in ap (λ z. z ∷ x
 drop_more (y ∷ xs) (suc k) x is = let e : suc k + 1 ≡ suc (k + 1) = omega arith in
     drop_more xs k x is ∙ ap (λ n. x ∷ drop n (y ∷ xs)) (sym e)
 
-module _ (entries : List Entry) (old now : List Peer) (index : ℕ) (number : ℕ) (octets : List ℕ) (ends : Bool)
+module _ (entries : List ReadyEntry) (old now : List Peer) (index : ℕ) (number : ℕ) (octets : List ℕ) (ends : Bool)
     (entry : slice_get entries index ≡ Some (number, octets, ends)) (h : Files entries old now index) where
-  rest : List Entry
+  rest : List ReadyEntry
   rest = drop (index + 1) entries
 
   front : drop index entries ≡ (number, octets, ends) ∷ drop (index + 1) entries

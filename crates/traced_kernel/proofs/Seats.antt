@@ -5,7 +5,7 @@ use Rattle.std.specs.Prelude.{not, ◌&&◌, find, filter, if◌then◌else◌}
 use Rattle.std.proofs.lemmas.Bool.{eqb-true, eqb-false, eq-eqb}
 use Rattle.std.proofs.lemmas.Bool.Decides.{nat_tests}
 use Rattle.std.proofs.lemmas.List.{append-nil}
-use Rattle.outbox.specs.Queue.{Giving, Entry, give, entry_of, nothing_more, octets_in}
+use Rattle.outbox.specs.Queue.{Giving, ReadyEntry, give, entry_of, nothing_more, octets_in}
 use Rattle.outbox.proofs.GivingLaws.{give-full}
 use Rattle.seats.specs.Seats.{Seat, Ready, given_of, ready, ready_by, ready_of, seat_given, with_seat}
 use Rattle.seats.specs.Kept.{RiseFrom}
@@ -37,7 +37,7 @@ seat_in-below n number (first ∷ seats) rise le =
 
 -- ---- what a session is given in a release
 
-given_in-append : (number : ℕ) (one two : List Entry) → given_in number (one ++ two) ≡ given_in number one ++ given_in number two
+given_in-append : (number : ℕ) (one two : List ReadyEntry) → given_in number (one ++ two) ≡ given_in number one ++ given_in number two
 given_in-append number [] two = refl
 given_in-append number (entry ∷ one) two = ap (λ xs. (if entry.0 == number then entry.1 else []) ++ xs) (given_in-append number one two)
     ∙ sym (append_assoc (if entry.0 == number then entry.1 else []) (given_in number one) (given_in number two))
@@ -237,7 +237,7 @@ given_nothing p (Some seat) =
     let none : give p 0 seat.given seat.held ≡ nothing_more 0 seat.given seat.held = give-full p 0 seat.given seat.held refl in
     (0, ap (seat_after seat) (sym none), ap (λ (g : Giving). g.octets) (sym none))
 
-pub one_gives : (p : ℕ) (entries : List Entry) (number : ℕ) (seats : List Seat) (k : ℕ)
+pub one_gives : (p : ℕ) (entries : List ReadyEntry) (number : ℕ) (seats : List Seat) (k : ℕ)
     → Given p (seat_in seats k) (seat_in (ready_of p entries number seats).seats k) (given_in k (ready_of p entries number seats).entries)
 one_gives p entries number seats k = go (seat_in seats number) refl
   where
@@ -305,7 +305,7 @@ ready_short p room (seat ∷ seats) number =
       give_room p room seat.given seat.held,
     )
 
-pub one_short : (p : ℕ) (entries : List Entry) (number : ℕ) (seats : List Seat) (k : ℕ)
+pub one_short : (p : ℕ) (entries : List ReadyEntry) (number : ℕ) (seats : List Seat) (k : ℕ)
     → length (given_in k (ready_of p entries number seats).entries) ≤ 65536
 one_short p entries number seats k = go (seat_in seats number)
   where

@@ -6,7 +6,7 @@ use Rattle.std.specs.Option.{IsSome}
 use Rattle.std.proofs.lemmas.List.{append-nil, length-set}
 use Rattle.std.proofs.lemmas.Option.{slice_get_past, slice_get_within, slice_get-map}
 use Rattle.std.proofs.lemmas.List.Elements.{All-head, All-tail}
-use Rattle.outbox.specs.Queue.{Entry, Giving, give, entry_of}
+use Rattle.outbox.specs.Queue.{ReadyEntry, Giving, give, entry_of}
 use Rattle.seats.specs.Seats.{Seat, given_of, ready, ready_by, ready_of}
 use Rattle.seats.specs.Kept.{IsSeat}
 use Rattle.seats.proofs.SeatsLaws.{eqb-same, find_place}
@@ -114,7 +114,7 @@ more_none (Some sent) = ap (λ xs. Some (record { arrived = sent.arrived; releas
     (sym (append-nil sent.released))
 
 -- one entry's octets
-module _ (sessions : List Sent) (entry : Entry) (known : IsSome (session_at sessions entry.0)) where
+module _ (sessions : List Sent) (entry : ReadyEntry) (known : IsSome (session_at sessions entry.0)) where
   abbrev pub given_to : List Sent
   given_to = with_sent sessions entry.0 (record (sent_at sessions entry.0) { released = (sent_at sessions entry.0).released ++ entry.1 })
 
@@ -155,7 +155,7 @@ is_some-map : (octets : List ℕ) (o : Option Sent) → IsSome o → IsSome (opt
 is_some-map octets None is = absurd (cc is)
 is_some-map octets (Some sent) is = refl
 
-pub AreKnown-given : (sessions : List Sent) (entry : Entry) (known : IsSome (session_at sessions entry.0)) (entries : List Entry)
+pub AreKnown-given : (sessions : List Sent) (entry : ReadyEntry) (known : IsSome (session_at sessions entry.0)) (entries : List ReadyEntry)
     → AreKnown sessions entries → AreKnown (given_to sessions entry known) entries
 AreKnown-given sessions entry known [] h = tt
 AreKnown-given sessions entry known (next ∷ entries) h = (
@@ -164,7 +164,7 @@ AreKnown-given sessions entry known (next ∷ entries) h = (
   AreKnown-given sessions entry known entries h.1,
 )
 
-pub with_released-at : (sessions : List Sent) (entries : List Entry) → AreKnown sessions entries → (k : ℕ)
+pub with_released-at : (sessions : List Sent) (entries : List ReadyEntry) → AreKnown sessions entries → (k : ℕ)
     → session_at (with_released sessions entries) k ≡ option_map (sent_more (given_in k entries)) (session_at sessions k)
 with_released-at sessions [] known k = more_none (session_at sessions k)
 with_released-at sessions (entry ∷ entries) known k =
@@ -172,7 +172,7 @@ with_released-at sessions (entry ∷ entries) known k =
     ∙ (ap (option_map (sent_more (given_in k entries))) (given_to-at sessions entry known.0 k)
     ∙ map_more (if entry.0 == k then entry.1 else []) (given_in k entries) (session_at sessions k))
 
-pub length-with_released : (sessions : List Sent) (entries : List Entry) → length (with_released sessions entries) ≡ length sessions
+pub length-with_released : (sessions : List Sent) (entries : List ReadyEntry) → length (with_released sessions entries) ≡ length sessions
 length-with_released sessions [] = refl
 length-with_released sessions (entry ∷ entries) =
     length-with_released (with_sent sessions entry.0
@@ -180,7 +180,7 @@ length-with_released sessions (entry ∷ entries) =
     ∙ length-with_sent sessions entry.0 _
 
 -- what is handed out is of sessions that are there
-AreKnown-append : (sessions : List Sent) (one two : List Entry) → AreKnown sessions one → AreKnown sessions two
+AreKnown-append : (sessions : List Sent) (one two : List ReadyEntry) → AreKnown sessions one → AreKnown sessions two
     → AreKnown sessions (one ++ two)
 AreKnown-append sessions [] two h k = k
 AreKnown-append sessions (entry ∷ one) two h k = (h.0, AreKnown-append sessions one two h.1 k)
@@ -203,7 +203,7 @@ ready_known host S joined p room sessions (seat ∷ seats) long h =
     (session_at-some sessions seat.number this.some (omega (arith, this.spent))))
     (ready_known host S joined p (give p room seat.given seat.held).room sessions seats long (All-tail (IsSeat host S joined) seat seats h))
 
-pub one_known : (host : List ℕ) (S : List Change) (joined p : ℕ) (entries : List Entry) (number : ℕ) (sessions : List Sent)
+pub one_known : (host : List ℕ) (S : List Change) (joined p : ℕ) (entries : List ReadyEntry) (number : ℕ) (sessions : List Sent)
     (seats : List Seat) → length sessions ≡ joined → All (IsSeat host S joined) seats
     → AreKnown sessions (ready_of p entries number seats).entries
 one_known host S joined p entries number sessions seats long h = go (seat_in seats number) refl

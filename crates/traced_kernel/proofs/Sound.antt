@@ -488,7 +488,7 @@ abbrev pub IsRefused : {E V : Type 0} → (Refusal → E) → E → Option Refus
 IsRefused as_error memory early refusal old new error =
     (((error ≡ memory) × (early ≡ None)) ⊎ ((r : Refusal) × (refusal ≡ Some r) × (error ≡ as_error r))) × (new ≡ old)
 
-abbrev err_of : {A E : Type 0} → E → Result A E → E
+abbrev pub err_of : {A E : Type 0} → E → Result A E → E
 err_of e (Ok x) = e
 err_of e (Err y) = y
 

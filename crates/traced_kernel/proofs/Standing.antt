@@ -8,7 +8,7 @@ use mathlib.Core.List.{IsPrefix}
 use Rattle.model.specs.Stream.{Octets}
 use Rattle.model.specs.News.{greeting, mode_of}
 use Rattle.model.specs.declared.session.Session.{Session}
-use Rattle.outbox.specs.Queue.{Held, Giving, give, last_dependency}
+use Rattle.outbox.specs.Queue.{HeldOutput, Giving, give, last_dependency}
 use Rattle.outbox.proofs.GivingLaws.{give-last_dependency}
 use Rattle.seats.specs.Seats.{Seat, new_seat}
 use Rattle.synchrony.specs.Server.{Connection}
@@ -99,11 +99,11 @@ IsSession-left host durable sent seat connection outputs h = record { released =
 
 -- ---- a message is served
 
-last_pushed : (given : ℕ) (held : List Held) (last : Held) → last_dependency given (held ++ last ∷ []) ≡ last.dependency
+last_pushed : (given : ℕ) (held : List HeldOutput) (last : HeldOutput) → last_dependency given (held ++ last ∷ []) ≡ last.dependency
 last_pushed given [] last = refl
 last_pushed given (first ∷ held) last = last_pushed first.dependency held last
 
-EndsLast-pushed : (closed : Bool) (held : List Held) (last : Held) → EndsLast false held → last.ends ≡ closed
+EndsLast-pushed : (closed : Bool) (held : List HeldOutput) (last : HeldOutput) → EndsLast false held → last.ends ≡ closed
     → EndsLast closed (held ++ last ∷ [])
 EndsLast-pushed closed [] last h is = is
 EndsLast-pushed closed (first ∷ []) last h is = (h, is)
@@ -130,7 +130,7 @@ pub IsSession-served : (host : Octets) (durable : ℕ) (sent : Sent) (seat : Sea
     (outputs ++ output_of reply (max (greatest outputs) reads) ∷ [])
 IsSession-served host durable sent seat connection outputs next reply rest reads h awaits filled =
     let was : IsPresent seat sent connection outputs = h.there in
-    let last : Held = record {
+    let last : HeldOutput = record {
       octets = reply;
       dependency = max (last_dependency seat.given seat.held) reads;
       ends = is_none (mode_of next.awaits);
@@ -138,7 +138,7 @@ IsSession-served host durable sent seat connection outputs next reply rest reads
     let output : Output = output_of reply (max (greatest outputs) reads) in
     let same : max (last_dependency seat.given seat.held) reads ≡ max (greatest outputs) reads = ap (λ n. max n reads) was.read in
     let held : without_ends (seat.held ++ last ∷ []) ≡ unreleased (length sent.released) (outputs ++ output ∷ []) =
-    map-append (λ (h : Held). output_of h.octets h.dependency) seat.held (last ∷ [])
+    map-append (λ (h : HeldOutput). output_of h.octets h.dependency) seat.held (last ∷ [])
     ∙ ((λ i. was.held i ++ output_of reply (same i) ∷ [])
     ∙ sym (unreleased-more (length sent.released) outputs output (prefix_length sent.released (octets_of outputs) h.released.begins)
     filled)) in

@@ -6,7 +6,7 @@ use Rattle.model.specs.declared.change.Change.{Change}
 use Rattle.model.specs.declared.message.Message.{Message}
 use Rattle.model.specs.declared.message.Mark.{Mark}
 use Rattle.model.specs.declared.message.Mode.{Mode}
-use Rattle.outbox.specs.Queue.{Entry as Given}
+use Rattle.outbox.specs.Queue.{ReadyEntry}
 use Rattle.kernel.specs.Kernel.{KernelView, seat_of, mode_at, joined, left, released, released_of, exec_refusal, first_failing, Refusal}
 use Rattle.kernel.specs.Kernel.{NoSession, Execs, Administers, TestedOrMemory}
 use Rattle.seats.specs.Seats.{ready, ready_of}
@@ -42,7 +42,7 @@ leaves served number =
     }
 
 -- each entry's octets count as released to its session
-abbrev pub with_released : List Sent → List Given → List Sent
+abbrev pub with_released : List Sent → List ReadyEntry → List Sent
 with_released sessions [] = sessions
 with_released sessions (entry ∷ entries) =
     with_released (with_sent sessions entry.0

@@ -7,7 +7,7 @@ use Rattle.model.specs.News.{mode_of}
 use Rattle.model.specs.declared.change.Change.{Change}
 use Rattle.model.specs.declared.message.Mark.{Mark}
 use Rattle.model.specs.declared.message.Mode.{Mode}
-use Rattle.outbox.specs.Queue.{Entry as Given}
+use Rattle.outbox.specs.Queue.{ReadyEntry}
 use Rattle.model.specs.declared.session.Session.{Session}
 use Rattle.synchrony.specs.Server.{Connection, Entry, Command as Commanded, Admin as Administered}
 use Rattle.traced_kernel.specs.Input.{Waits}
@@ -48,12 +48,12 @@ Becomes old new number R = (before : Input) → numbered old number ≡ Some bef
     → (after : Input) × (new ≡ with_numbered old number after) × R before after
 
 -- the octets of a session's entries
-abbrev pub given_in : ℕ → List Given → List ℕ
+abbrev pub given_in : ℕ → List ReadyEntry → List ℕ
 given_in number [] = []
 given_in number (entry ∷ entries) = (if entry.0 == number then entry.1 else []) ++ given_in number entries
 
 -- each entry is of a session that joined
-abbrev pub AreKnown : List Sent → List Given → Type 0
+abbrev pub AreKnown : List Sent → List ReadyEntry → Type 0
 AreKnown sessions [] = Unit {0}
 AreKnown sessions (entry ∷ entries) = IsSome (numbered sessions entry.0) × AreKnown sessions entries
 

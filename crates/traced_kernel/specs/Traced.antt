@@ -10,10 +10,10 @@ use Rattle.model.specs.declared.change.Change.{Change}
 use Rattle.model.specs.declared.message.Message.{Message}
 use Rattle.model.specs.declared.message.Mark.{Mark}
 use Rattle.model.specs.declared.session.Session.{Session}
-use Rattle.outbox.specs.Queue.{Held, Entry as Given, last_dependency}
+use Rattle.outbox.specs.Queue.{HeldOutput, ReadyEntry, last_dependency}
 use Rattle.kernel.specs.Kernel.{KernelView, seat_of}
 use Rattle.seats.specs.Seats.{Seat}
-use Rattle.synchrony.specs.Server.{Entry, Connection, Server, opened, sync, taken}
+use Rattle.synchrony.specs.Server.{Entry, Connection, PlainServer, opened, sync, taken}
 use Rattle.synchrony.specs.Dependency.{Output, Account, greatest, account_of, octets_of}
 use Rattle.synchrony.specs.Progress.{EachFindsMessage, unreleased}
 use Rattle.synchrony.specs.Synchrony.{IsReleased}
@@ -35,7 +35,7 @@ pub record TracedView : Type 0 where
   pub sessions : List Sent
   pub trace : Trace
   -- what the last release handed out
-  pub ready : List Given
+  pub ready : List ReadyEntry
 
 -- ---- look-ups
 
@@ -81,11 +81,11 @@ next_of served number = taken (service served.kernel.host) (account served).serv
 
 -- ---- together with the plain server
 
-abbrev pub without_ends : List Held → List Output
-without_ends held = map (λ (h : Held). record { octets = h.octets; dependency = h.dependency }) held
+abbrev pub without_ends : List HeldOutput → List Output
+without_ends held = map (λ (h : HeldOutput). record { octets = h.octets; dependency = h.dependency }) held
 
 -- only the last output held ends the session, and only if it is closed
-abbrev pub EndsLast : Bool → List Held → Type 0
+abbrev pub EndsLast : Bool → List HeldOutput → Type 0
 EndsLast closed [] = closed ≡ false
 EndsLast closed (last ∷ []) = last.ends ≡ closed
 EndsLast closed (held ∷ next ∷ rest) = (held.ends ≡ false) × EndsLast closed (next ∷ rest)
@@ -138,15 +138,15 @@ pub record IsServed (served : TracedView) : Type 0 where
 -- ---- the same, in terms of the plain server
 
 -- the plain server after the trace
-abbrev pub plain : TracedView → Server Session Change
+abbrev pub plain : TracedView → PlainServer Session Change
 plain served = sync (service served.kernel.host) (first_spool served) (arrived_at served) served.trace
 
 -- all that a session is sent in the end
 abbrev pub replies_to : TracedView → ℕ → Octets
 replies_to served number = concat ((plain served).connections number).replies
 
-abbrev pub octets_of_held : List Held → Octets
-octets_of_held held = concat (map (λ (h : Held). h.octets) held)
+abbrev pub octets_of_held : List HeldOutput → Octets
+octets_of_held held = concat (map (λ (h : HeldOutput). h.octets) held)
 
 -- The kernel has the plain server's spool. For a session that exists, what was released followed by what is held gives its
 -- replies. For one that ended, all its replies were released.

@@ -4,6 +4,7 @@ use Rattle.std.proofs.Common.{arith, length-set}
 use Rattle.std.proofs.lemmas.List.{ext_get_or, set-get_or, set-set, set_comm, get_or-set_same, get_or-set_other, get_or_past}
 use Rattle.std.proofs.lemmas.Bool.{cases_eq, cases_lt}
 use Rattle.model.specs.Volume.{AreDistinct, laid_over}
+use Rattle.model.proofs.Distinct.{distinct_tail}
 
 -- where the blocks are the images already
 pub laid_over_done : (xs : List (List ℕ)) (ns : List ℕ) (images : List (List ℕ))
@@ -52,19 +53,14 @@ laid_over_other xs (n ∷ ns) (image ∷ images) k other =
     laid_over_other (set xs n image) ns images k (λ i h. other (suc i) (omega arith))
     ∙ get_or-set_other xs n k image [] (other 0 (omega arith))
 
-pub distinct_tail : (n : ℕ) (ns : List ℕ) → AreDistinct (n ∷ ns) → AreDistinct ns
-distinct_tail n ns distinct i j less low = distinct (suc i) (suc j) (omega arith) (omega arith)
-
-distinct_head : (n : ℕ) (ns : List ℕ) → AreDistinct (n ∷ ns) → (i : ℕ) → i < length ns → n ≢ get_or ns i 0
-distinct_head n ns distinct i low = distinct 0 (suc i) (omega arith) (omega arith)
-
 -- a block that gets one
 pub laid_over_at : (xs : List (List ℕ)) (ns : List ℕ) (images : List (List ℕ)) (i : ℕ) → AreDistinct ns → i < length ns
     → length ns ≤ length images → get_or ns i 0 < length xs → get_or (laid_over xs ns images) (get_or ns i 0) [] ≡ get_or images i []
 laid_over_at xs [] images i distinct low enough there = absurd (omega arith)
 laid_over_at xs (n ∷ ns) [] i distinct low enough there = absurd (omega arith)
 laid_over_at xs (n ∷ ns) (image ∷ images) zero distinct low enough there =
-    laid_over_other (set xs n image) ns images n (distinct_head n ns distinct) ∙ get_or-set_same xs n image [] there
+    laid_over_other (set xs n image) ns images n (λ i low. distinct 0 (suc i) (omega arith) (omega arith))
+    ∙ get_or-set_same xs n image [] there
 laid_over_at xs (n ∷ ns) (image ∷ images) (suc i) distinct low enough there =
     laid_over_at (set xs n image) ns images i (distinct_tail n ns distinct) (omega arith) (omega arith)
     (omega (arith, length-set xs n image))
@@ -92,6 +88,6 @@ laid_over_set xs [] images i b distinct low enough = absurd (omega arith)
 laid_over_set xs (n ∷ ns) [] i b distinct low enough = absurd (omega arith)
 laid_over_set xs (n ∷ ns) (image ∷ images) zero b distinct low enough =
     ap (λ (l : List (List ℕ)). laid_over l ns images) (sym (set-set xs n image b))
-    ∙ laid_over_after (set xs n image) ns images n b (distinct_head n ns distinct)
+    ∙ laid_over_after (set xs n image) ns images n b (λ j low. distinct 0 (suc j) (omega arith) (omega arith))
 laid_over_set xs (n ∷ ns) (image ∷ images) (suc i) b distinct low enough =
     laid_over_set (set xs n image) ns images i b (distinct_tail n ns distinct) (omega arith) (omega arith)

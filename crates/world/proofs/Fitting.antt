@@ -14,7 +14,7 @@ use Rattle.model.specs.declared.session.Session.{Session}
 use Rattle.kernel.specs.Kernel.{KernelView, seat_of}
 use Rattle.seats.specs.Seats.{Seat}
 use Rattle.kernel.specs.Kept.{IsKept}
-use Rattle.synchrony.specs.Server.{Connection, Server, sync}
+use Rattle.synchrony.specs.Server.{Connection, PlainServer, sync}
 use Rattle.synchrony.specs.Dependency.{Output}
 use Rattle.synchrony.specs.Synchrony.{IsExternallySynchronous, IsReleased}
 use Rattle.synchrony.proofs.Released.{IsReleased-none, IsReleased-raise}
@@ -52,7 +52,7 @@ is_synchronous served h p le image stands =
     run = (sync (service host) (first_spool served) (arrived_at served) served.trace).spool
 
     same : run ≡ served.kernel.spool
-    same = sym (ap (λ (s : Server _ _). s.spool) (account_sync (service host) (first_spool served) (arrived_at served) served.trace))
+    same = sym (ap (λ (s : PlainServer _ _). s.spool) (account_sync (service host) (first_spool served) (arrived_at served) served.trace))
         ∙ h.spool
 
     all : IsExternallySynchronous (service host) (first_spool served) (arrived_at served) served.trace (released_at served) p (take p run)

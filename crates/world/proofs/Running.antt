@@ -9,7 +9,7 @@ use Rattle.world.specs.Events.{Did, Ran, Went, for_memory, more, none}
 use Rattle.world.specs.Images.{EachNow, EachSince, Fits, LeftFits}
 use Rattle.world.specs.Tied.{IsWorld}
 use Rattle.world.specs.World.{WorldView}
-use Rattle.world.specs.declared.events.Answer.{Answer}
+use Rattle.world.specs.declared.events.StepAnswer.{StepAnswer}
 use Rattle.world.specs.declared.events.Event.{Event}
 use Rattle.world.specs.declared.events.StepError.{StepError}
 use Rattle.world.specs.declared.events.StepError.TheVariants as error
@@ -17,7 +17,7 @@ use Rattle.world.proofs.Fitting.{now_fits}
 use Rattle.world.proofs.Since.{step_goes_on}
 
 module _ {D : Type 0} (device : D → Device) (write_grows sync_grows : Bool) where
-  went_more : (old middle new : WorldView D) (events : List Event) (event : Event) (result : Result Answer StepError)
+  went_more : (old middle new : WorldView D) (events : List Event) (event : Event) (result : Result StepAnswer StepError)
       → Went device write_grows sync_grows old events middle → result ≢ Err error.Memory
       → Did device write_grows sync_grows middle event result new → Went device write_grows sync_grows old (events ++ event ∷ []) new
   went_more old middle new events event result (none world) fine did = more world new new event [] result fine did (none new)
@@ -55,7 +55,7 @@ module _ {D : Type 0} (device : D → Device) (write_grows sync_grows : Bool) wh
         since = λ tells t image le left. inl left;
       }
 
-  pub running_more : (old now new : WorldView D) (events : List Event) (i : ℕ) (event : Event) (result : Result Answer StepError)
+  pub running_more : (old now new : WorldView D) (events : List Event) (i : ℕ) (event : Event) (result : Result StepAnswer StepError)
       → Running old now events i → slice_get events i ≡ Some event → result ≢ Err error.Memory
       → Did device write_grows sync_grows now event result new → IsWorld device new
       → LeftFits (device now.journal.disk) (device new.journal.disk) (Fits now) → Running old new events (i + 1)
@@ -102,7 +102,7 @@ ran_all device write_grows sync_grows old now events i all h =
 
 -- an event that was refused for memory: a crash leaves what fits the world before it
 module _ {D : Type 0} (device : D → Device) (write_grows sync_grows : Bool) (old now new : WorldView D) (events : List Event) (i : ℕ)
-    (event : Event) (result : Result Answer StepError) (h : Running device write_grows sync_grows old now events i)
+    (event : Event) (result : Result StepAnswer StepError) (h : Running device write_grows sync_grows old now events i)
     (is : result ≡ Err error.Memory) (did : Did device write_grows sync_grows now event result new) (world : IsWorld device new)
     (left : LeftFits (device now.journal.disk) (device new.journal.disk) (Fits now)) where
   pub ran_before : slice_get events i ≡ Some event → i < length events → Ran device write_grows sync_grows old events i new
@@ -128,7 +128,7 @@ module _ {D : Type 0} (device : D → Device) (write_grows sync_grows : Bool) (o
       (left (subst IsTrue (sym h.tells) tells) (device old.journal.disk).clock image h.later gone)
 
 -- whether memory was refused
-pub memory_is : (r : Result Answer StepError) → for_memory r ≡ true → r ≡ Err error.Memory
+pub memory_is : (r : Result StepAnswer StepError) → for_memory r ≡ true → r ≡ Err error.Memory
 memory_is (Ok a) is = absurd (cc is)
 memory_is (Err error.Fault) is = absurd (cc is)
 memory_is (Err error.Memory) is = refl
@@ -141,5 +141,5 @@ memory_is (Err error.NoSession) is = absurd (cc is)
 memory_is (Err error.Exists) is = absurd (cc is)
 memory_is (Err error.NotFound) is = absurd (cc is)
 
-pub memory_not : (r : Result Answer StepError) → for_memory r ≡ false → r ≢ Err error.Memory
+pub memory_not : (r : Result StepAnswer StepError) → for_memory r ≡ false → r ≢ Err error.Memory
 memory_not r is e = absurd (let both : true ≡ false = sym (ap for_memory e) ∙ is in cc)

@@ -20,7 +20,7 @@ use Rattle.journal.specs.declared.JournalError.TheVariants as journal
 use Rattle.world.specs.Images.{EachSince, Fits, IsSynchronous, LeftFits, MayBeLeft}
 use Rattle.world.specs.Tied.{IsWorld}
 use Rattle.world.specs.World.{WorldView, kernel_of, with_served}
-use Rattle.world.specs.declared.events.Answer.{Answer}
+use Rattle.world.specs.declared.events.StepAnswer.{StepAnswer}
 use Rattle.world.specs.declared.events.Event.{Event}
 use Rattle.world.specs.declared.events.Event.TheVariants as event
 use Rattle.world.specs.declared.events.StepError.{StepError}
@@ -59,7 +59,7 @@ module _ {D : Type 0} (device : D → Device) (write_grows sync_grows : Bool) (o
   by_tests as_error memory early refusal (Ok x) done f h = f x h.1
   by_tests as_error memory early refusal (Err e) done f h = by_world h.1
 
-  left_exec : (number moment : ℕ) (m : Option Mode) (found : Option (Message × Octets)) (r : Result Answer StepError)
+  left_exec : (number moment : ℕ) (m : Option Mode) (found : Option (Message × Octets)) (r : Result StepAnswer StepError)
       → DidExec old number moment m found r new → Left
   left_exec number moment None found r d = by_world d.1
   left_exec number moment (Some mode) None (Ok a) d = by_world d.1
@@ -67,7 +67,7 @@ module _ {D : Type 0} (device : D → Device) (write_grows sync_grows : Bool) (o
   left_exec number moment (Some mode) (Some found) (Ok a) d = by_served new.served d.1.3
   left_exec number moment (Some mode) (Some found) (Err e) d = by_world d.1
 
-  left_take : (r : Result Answer StepError) → DidTake old r new → Left
+  left_take : (r : Result StepAnswer StepError) → DidTake old r new → Left
   left_take r d = go old.journal.halted refl (idle_or_flies old.journal.next) (has_batch (kernel_of old)) refl
     where
       begins : old.journal.halted ≡ false → old.journal.next ≡ next.Idle → has_batch (kernel_of old) ≡ true → Left
@@ -81,7 +81,7 @@ module _ {D : Type 0} (device : D → Device) (write_grows sync_grows : Bool) (o
       go false is (inr flies) true is_there = by_world (d.stays (λ ready has. flies ready.1)).1
 
   -- a device call
-  left_dev : (r : Result Answer StepError) → IsWorld device new → DidDev device write_grows sync_grows old r new → Left
+  left_dev : (r : Result StepAnswer StepError) → IsWorld device new → DidDev device write_grows sync_grows old r new → Left
   unfolding Left FitsAt
   left_dev r h d = go old.journal.halted refl (idle_or_flies old.journal.next)
     where
@@ -111,12 +111,12 @@ module _ {D : Type 0} (device : D → Device) (write_grows sync_grows : Bool) (o
       go false is (inl idle) = same (d.steps.idle is idle).1
       go false is (inr flies) = calls is flies
 
-  left_release : (r : Result Answer StepError) (P : Answer → Type 0) → ((a : Answer) → P a → Left)
+  left_release : (r : Result StepAnswer StepError) (P : StepAnswer → Type 0) → ((a : StepAnswer) → P a → Left)
       → MatchResult r P (λ e. (e ≡ error.Memory) × (new ≡ old)) → Left
   left_release (Ok a) P f h = f a h
   left_release (Err e) P f h = by_world h.1
 
-  did_left : (e : Event) (r : Result Answer StepError) → IsWorld device new → Did device write_grows sync_grows old e r new → Left
+  did_left : (e : Event) (r : Result StepAnswer StepError) → IsWorld device new → Did device write_grows sync_grows old e r new → Left
   did_left event.Join r h d = by_tests of_kernel error.Memory None (join_refusal (kernel_of old)) r _ (λ a done. by_served _ done.1)
       (tested_or of_kernel error.Memory (join_refusal (kernel_of old)) old new r _ d)
   did_left (event.Leave number) r h d = by_served _ d.1
@@ -133,13 +133,13 @@ module _ {D : Type 0} (device : D → Device) (write_grows sync_grows : Bool) (o
   did_left (event.ReleaseOf number) r h d = left_release r _ (λ a done. by_served _ done.1) d
 
   -- a crash at some moment of the event leaves what fits the world before it
-  pub step_since : (e : Event) (r : Result Answer StepError) → IsWorld device new → Did device write_grows sync_grows old e r new
+  pub step_since : (e : Event) (r : Result StepAnswer StepError) → IsWorld device new → Did device write_grows sync_grows old e r new
       → LeftFits (device old.journal.disk) (device new.journal.disk) (Fits old)
   unfolding Left
   step_since e r h d = (did_left e r h d).0
 
   -- the device tells as before, and time goes on
-  pub step_goes_on : (e : Event) (r : Result Answer StepError) → IsWorld device new → Did device write_grows sync_grows old e r new
+  pub step_goes_on : (e : Event) (r : Result StepAnswer StepError) → IsWorld device new → Did device write_grows sync_grows old e r new
       → ((device new.journal.disk).tells ≡ (device old.journal.disk).tells)
       × ((device old.journal.disk).clock ≤ (device new.journal.disk).clock)
   unfolding Left

@@ -13,7 +13,7 @@ use Rattle.journal.specs.declared.Progress.{Progress}
 use Rattle.journal.specs.declared.Progress.TheVariants as progress
 use Rattle.kernel.specs.Kernel as refusal
 use Rattle.kernel.specs.declared.errors.ExecError.TheVariants as exec
-use Rattle.world.specs.declared.events.Answer.TheVariants as answer
+use Rattle.world.specs.declared.events.StepAnswer.TheVariants as answer
 use Rattle.std.specs.Prelude.{drop, ◌||◌, ◌&&◌, not, is_none, nat_le, nat_lt, IfOk, map, option_map, slice_index_or, OnErr, OnOk, Result}
 use Rattle.std.specs.Prelude.{Ok, Err}
 use Rattle.journal.specs.Journal.{IsReady, JournalView, sizes, still_open}
@@ -32,6 +32,7 @@ use Rattle.model.specs.declared.message.Message.{Message}
 use Rattle.model.specs.declared.message.Mode.{Mode}
 use Rattle.traced_kernel.specs.Events.{DidExec as ServedExec, releases, releases_of, with_kernel}
 use Rattle.traced_kernel.specs.Traced.{TracedView}
+use Rattle.traced_kernel.proofs.Sound.{err_of}
 use Rattle.world.specs.Events.{DidExec, Steps, begun, commits, exec_answer, fails, news_of, of_exec_error, of_kernel, told}
 use Rattle.world.specs.Fields.{IsSound, durable_news, failed_news, news_in}
 use Rattle.world.specs.Tied.{AreFaults, IsTied, Phase, Quiet, Flying, IsToBeTold}
@@ -55,14 +56,10 @@ pub Grows-seats : (old new : KernelView) (joined : ℕ) (seats : List Seat) → 
     → Grows old new
 Grows-seats old new joined seats is = subst (Grows old) (sym is) (Grows-refl old joined seats)
 
-abbrev err_of : {X Y : Type 0} → Y → Result X Y → Y
-err_of y (Ok x) = y
-err_of y (Err z) = z
-
 pub tested_or : {A E V : Type 0} (as_error : Refusal → E) (memory : E) (refusal : Option Refusal) (old new : V) (r : Result A E) (done : A
     → Type 0) → Tested as_error memory refusal old new r done → TestedOrMemory as_error memory None refusal old new r done
 tested_or as_error memory (Some refusal) old new (Ok x) done h = absurd (cc (h.0))
-tested_or {A} as_error memory (Some refusal) old new (Err e) done h = (inr (refusal, refl, ap (err_of {X = A} e) h.0), h.1)
+tested_or {A} as_error memory (Some refusal) old new (Err e) done h = (inr (refusal, refl, ap (err_of {A = A} e) h.0), h.1)
 tested_or as_error memory None old new (Ok x) done h = (refl, h)
 tested_or as_error memory None old new (Err e) done h = (inl (h.0, refl), h.1)
 

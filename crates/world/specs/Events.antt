@@ -31,8 +31,8 @@ use Rattle.names.specs.Requests.{group_of}
 use Rattle.traced_kernel.specs.Events.{Makes, Serves, arrive_refusal, arrives, joins, leaves, releases, releases_of, with_kernel}
 use Rattle.traced_kernel.specs.Traced.{next_of}
 use Rattle.world.specs.World.{HasFailed, IsDurable, News, WorldView, kernel_of, with_served}
-use Rattle.world.specs.declared.events.Answer.{Answer}
-use Rattle.world.specs.declared.events.Answer.TheVariants as answer
+use Rattle.world.specs.declared.events.StepAnswer.{StepAnswer}
+use Rattle.world.specs.declared.events.StepAnswer.TheVariants as answer
 use Rattle.world.specs.declared.events.Event.{Event}
 use Rattle.world.specs.declared.events.Event.TheVariants as event
 use Rattle.world.specs.declared.events.StepError.{StepError}
@@ -51,7 +51,8 @@ of_kernel refusal.Full = error.Full
 -- ---- Arrive and Exec
 
 -- a message is served, or refused and still the session's next one; if no message has arrived whole, nothing happens
-abbrev pub DidExec : {D : Type 0} → WorldView D → ℕ → ℕ → Option Mode → Option (Message × Octets) → Result Answer StepError → WorldView D
+abbrev pub DidExec : {D : Type 0} → WorldView D → ℕ → ℕ → Option Mode → Option (Message × Octets) → Result StepAnswer StepError
+    → WorldView D
     → Type 0
 DidExec old number moment None found result new = (result ≡ Err error.NoSession) × (new ≡ old)
 DidExec old number moment (Some mode) None result new =
@@ -68,7 +69,7 @@ abbrev pub begun : {D : Type 0} → JournalView D → KernelView → JournalView
 begun journal kernel = begins journal (length kernel.spool) kernel.dirty (map (λ n. slice_index_or kernel.blocks n []) kernel.dirty)
 
 -- a batch begins exactly if the journal is idle and not halted and the kernel has a batch
-pub record DidTake {D : Type 0} (old : WorldView D) (result : Result Answer StepError) (new : WorldView D) : Type 0 where
+pub record DidTake {D : Type 0} (old : WorldView D) (result : Result StepAnswer StepError) (new : WorldView D) : Type 0 where
   pub takes : IsReady old.journal → has_batch (kernel_of old) ≡ true →
       (result ≡ Ok (answer.Took (Some (length (kernel_of old).spool))))
       × (new ≡ record {
@@ -104,13 +105,14 @@ fails (Err journal.Fault) = true
 fails other = false
 
 -- its answer
-abbrev pub dev_answer : Result Progress JournalError → Result Answer StepError
+abbrev pub dev_answer : Result Progress JournalError → Result StepAnswer StepError
 dev_answer (Ok p) = Ok (answer.Progressed p)
 dev_answer (Err journal.Fault) = Err error.Fault
 dev_answer (Err journal.Memory) = Err error.Memory
 dev_answer (Err e) = Err error.Halted
 
-pub record DidDev {D : Type 0} (device : D → Device) (write_grows sync_grows : Bool) (old : WorldView D) (result : Result Answer StepError)
+pub record DidDev {D : Type 0} (device : D → Device) (write_grows sync_grows : Bool) (old : WorldView D)
+    (result : Result StepAnswer StepError)
     (new : WorldView D) : Type 0 where
   pub answered : Result Progress JournalError
   pub steps : Steps device write_grows sync_grows old.journal answered new.journal
@@ -129,7 +131,7 @@ told kernel (HasFailed ∷ later) = halted_for_good kernel
 -- What an event does, by its answer. A refusal changes nothing, except that a failed device call halts the journal. A
 -- call that the device refuses for want of memory leaves the device's content and counts as they were; only a device that
 -- takes memory for that call refuses it so.
-abbrev pub Did : {D : Type 0} → (D → Device) → Bool → Bool → WorldView D → Event → Result Answer StepError → WorldView D → Type 0
+abbrev pub Did : {D : Type 0} → (D → Device) → Bool → Bool → WorldView D → Event → Result StepAnswer StepError → WorldView D → Type 0
 Did device write_grows sync_grows old event.Join result new =
     Tested of_kernel error.Memory (join_refusal (kernel_of old)) old new result (λ a. (a ≡ answer.Joined ((kernel_of old).joined + 1))
     × (new ≡ with_served old (joins old.served)))
@@ -165,14 +167,14 @@ Did device write_grows sync_grows old (event.ReleaseOf number) result new =
     (λ e. (e ≡ error.Memory) × (new ≡ old))
 
 -- whether a result is a refusal for memory
-abbrev pub for_memory : Result Answer StepError → Bool
+abbrev pub for_memory : Result StepAnswer StepError → Bool
 for_memory (Err error.Memory) = true
 for_memory other = false
 
 -- these events were done one after another; those that were refused, but not for memory, were skipped
 pub data Went {D : Type 0} (device : D → Device) (write_grows sync_grows : Bool) : WorldView D → List Event → WorldView D → Type 0 where
   none : (world : WorldView D) → Went device write_grows sync_grows world [] world
-  more : (old middle new : WorldView D) (first : Event) (events : List Event) (result : Result Answer StepError)
+  more : (old middle new : WorldView D) (first : Event) (events : List Event) (result : Result StepAnswer StepError)
       → result ≢ Err error.Memory → Did device write_grows sync_grows old first result middle
       → Went device write_grows sync_grows middle events new → Went device write_grows sync_grows old (first ∷ events) new
 
@@ -197,7 +199,7 @@ of_exec_error exec.LaterOut = error.LaterOut
 of_exec_error exec.LaterDirty = error.LaterDirty
 of_exec_error exec.Memory = error.Memory
 
-abbrev pub exec_answer : Result (Option (Option Mode × Mark)) ExecError → Result Answer StepError
+abbrev pub exec_answer : Result (Option (Option Mode × Mark)) ExecError → Result StepAnswer StepError
 exec_answer (Ok answered) = Ok (answer.Served answered)
 exec_answer (Err e) = Err (of_exec_error e)
 

@@ -34,7 +34,7 @@ pub enum Event {
 
 /// The answer to an event.
 #[derive(Clone, Copy)]
-pub enum Answer {
+pub enum StepAnswer {
     Done,
     /// the session's number
     Joined(u64),

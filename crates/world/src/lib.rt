@@ -27,7 +27,7 @@ ghost use Rattle.world.specs.World.{WorldView, kernel_of, with_served};
 mod events;
 
 use disk::{Disk, DiskCall, Faults};
-pub use events::{Answer, Event, StepError};
+pub use events::{Event, StepAnswer, StepError};
 use journal::{Journal, JournalError, Progress};
 pub use kernel::Spool;
 use kernel::{AdminError, BatchBuf, ExecError, ExpireError, JoinError, Ticket};
@@ -167,7 +167,7 @@ impl<D: Disk> World<D> {
     /// is synchronous with those at its end. `did` says what the event does by its answer (`Did` in
     /// `specs/Events.antt`). `keeps` says that the system's invariant holds again afterwards (`IsWorld` in
     /// `specs/Tied.antt`).
-    pub fn step(&mut self, alloc: Global, event: &Event) -> Result<Answer, StepError>
+    pub fn step(&mut self, alloc: Global, event: &Event) -> Result<StepAnswer, StepError>
         ensures did { Did D.device D.write_grows D.sync_grows self.old event.now result self.new }
         ensures during { EachSince (D.device self.old.journal.disk) (D.device self.new.journal.disk) (Fits self.old) }
         ensures now { EachNow (D.device self.new.journal.disk) (Fits self.new) }
@@ -270,7 +270,7 @@ impl<D: Disk> World<D> {
         journal.into_disk()
     }
 
-    fn happen(&mut self, alloc: Global, event: &Event) -> Result<Answer, StepError>
+    fn happen(&mut self, alloc: Global, event: &Event) -> Result<StepAnswer, StepError>
         ensures { Did D.device D.write_grows D.sync_grows self.old event.now result self.new }
     {
         match event {
@@ -288,87 +288,92 @@ impl<D: Disk> World<D> {
         }
     }
 
-    fn join(&mut self, alloc: Global) -> Result<Answer, StepError>
+    fn join(&mut self, alloc: Global) -> Result<StepAnswer, StepError>
         ensures { Did D.device D.write_grows D.sync_grows self.old Event.Join result self.new }
     {
         self.served.kept();
         match self.served.join(alloc) {
-            Ok(number) => Ok(Answer::Joined(number)),
+            Ok(number) => Ok(StepAnswer::Joined(number)),
             Err(error) => Err(join_error(error)),
         }
     }
 
-    fn leave(&mut self, number: u64) -> Result<Answer, StepError>
+    fn leave(&mut self, number: u64) -> Result<StepAnswer, StepError>
         ensures { Did D.device D.write_grows D.sync_grows self.old (Event.Leave number) result self.new }
     {
         self.served.kept();
         self.served.leave(number);
-        Ok(Answer::Done)
+        Ok(StepAnswer::Done)
     }
 
-    fn arrive(&mut self, number: u64, octets: &[u8]) -> Result<Answer, StepError>
+    fn arrive(&mut self, number: u64, octets: &[u8]) -> Result<StepAnswer, StepError>
         ensures { Tested of_kernel StepError.Memory (arrive_refusal (kernel_of self.old) number) self.old self.new result
-            (λ a. (a ≡ Answer.Done) × (self.new ≡ with_served self.old (arrives self.old.served number octets.now))) }
+            (λ a. (a ≡ StepAnswer.Done) × (self.new ≡ with_served self.old (arrives self.old.served number octets.now))) }
     {
         self.served.kept();
         match self.served.arrive(number, octets) {
-            Ok(()) => Ok(Answer::Done),
+            Ok(()) => Ok(StepAnswer::Done),
             Err(error) => Err(arrive_error(error)),
         }
     }
 
-    fn exec(&mut self, alloc: Global, number: u64, moment: Moment) -> Result<Answer, StepError>
+    fn exec(&mut self, alloc: Global, number: u64, moment: Moment) -> Result<StepAnswer, StepError>
         ensures { DidExec self.old number moment (mode_at (kernel_of self.old) number) (next_of self.old.served number) result self.new }
     {
         self.served.kept();
         exec_answer(self.served.exec(alloc, number, moment))
     }
 
-    fn admin(&mut self, alloc: Global, group: &GroupRequest) -> Result<Answer, StepError>
+    fn admin(&mut self, alloc: Global, group: &GroupRequest) -> Result<StepAnswer, StepError>
         ensures { TestedOrMemory of_kernel StepError.Memory (early_refusal (kernel_of self.old))
             (admin_refusal_of (kernel_of self.old) (Group (group_of group.now))) self.old self.new result
-            (λ a. (serial : ℕ) × (a ≡ Answer.Made serial) × Makes self.old.served self.new.served (Group (group_of group.now)) serial
+            (λ a. (serial : ℕ) × (a ≡ StepAnswer.Made serial) × Makes self.old.served self.new.served (Group (group_of group.now)) serial
             × (self.new ≡ with_served self.old self.new.served)) }
     {
         self.served.kept();
         match self.served.admin(alloc, group) {
-            Ok(serial) => Ok(Answer::Made(serial)),
+            Ok(serial) => Ok(StepAnswer::Made(serial)),
             Err(error) => Err(admin_error(error)),
         }
     }
 
-    fn expire(&mut self, alloc: Global, name: &GroupName, number: u32) -> Result<Answer, StepError>
+    fn expire(
+        &mut self,
+        alloc: Global,
+        name: &GroupName,
+        number: u32,
+    ) -> Result<StepAnswer, StepError>
         ensures { TestedOrMemory of_kernel StepError.Memory (early_refusal (kernel_of self.old))
             (expire_refusal_of (kernel_of self.old) (Expire (record { group = name.now; number = number }))) self.old self.new result
-            (λ a. (serial : ℕ) × (a ≡ Answer.Made serial)
+            (λ a. (serial : ℕ) × (a ≡ StepAnswer.Made serial)
             × Makes self.old.served self.new.served (Expire (record { group = name.now; number = number })) serial
             × (self.new ≡ with_served self.old self.new.served)) }
     {
         self.served.kept();
         match self.served.expire(alloc, name, number) {
-            Ok(serial) => Ok(Answer::Made(serial)),
+            Ok(serial) => Ok(StepAnswer::Made(serial)),
             Err(error) => Err(expire_error(error)),
         }
     }
 
-    fn take(&mut self) -> Result<Answer, StepError>
+    fn take(&mut self) -> Result<StepAnswer, StepError>
         ensures { DidTake self.old result self.new }
     {
         self.served.kept();
         if !self.journal.is_idle() {
-            return Ok(Answer::Took(None));
+            return Ok(StepAnswer::Took(None));
         }
         let Some(ticket) = self.served.take_batch(&mut self.batch) else {
-            return Ok(Answer::Took(None));
+            return Ok(StepAnswer::Took(None));
         };
         self.journal
             .begin(ticket.last(), self.batch.numbers(), self.batch.images());
         self.ticket = Some(ticket);
         self.is_committed = false;
-        Ok(Answer::Took(Some(ticket.last())))
+        Ok(StepAnswer::Took(Some(ticket.last())))
     }
 
-    fn dev(&mut self) -> Result<Answer, StepError>
+    fn dev(&mut self) -> Result<StepAnswer, StepError>
         ensures { DidDev D.device D.write_grows D.sync_grows self.old result self.new }
     {
         let answered = self.journal.step();
@@ -377,39 +382,39 @@ impl<D: Disk> World<D> {
         dev_answer(answered)
     }
 
-    fn told(&mut self) -> Result<Answer, StepError>
+    fn told(&mut self) -> Result<StepAnswer, StepError>
         ensures { Did D.device D.write_grows D.sync_grows self.old Event.Told result self.new }
     {
         let Some(ticket) = committed_ticket(self.ticket, self.is_committed) else {
             if !self.has_failed {
-                return Ok(Answer::Done);
+                return Ok(StepAnswer::Done);
             }
             self.served.halt();
             self.has_failed = false;
-            return Ok(Answer::Done);
+            return Ok(StepAnswer::Done);
         };
         let _ = self.served.committed(ticket);
         self.ticket = None;
         self.is_committed = false;
-        Ok(Answer::Done)
+        Ok(StepAnswer::Done)
     }
 
-    fn release(&mut self) -> Result<Answer, StepError>
+    fn release(&mut self) -> Result<StepAnswer, StepError>
         ensures { Did D.device D.write_grows D.sync_grows self.old Event.Release result self.new }
     {
         self.served.kept();
         match self.served.release() {
-            Ok(()) => Ok(Answer::Done),
+            Ok(()) => Ok(StepAnswer::Done),
             Err(_) => Err(StepError::Memory),
         }
     }
 
-    fn release_of(&mut self, number: u64) -> Result<Answer, StepError>
+    fn release_of(&mut self, number: u64) -> Result<StepAnswer, StepError>
         ensures { Did D.device D.write_grows D.sync_grows self.old (Event.ReleaseOf number) result self.new }
     {
         self.served.kept();
         match self.served.release_of(number) {
-            Ok(()) => Ok(Answer::Done),
+            Ok(()) => Ok(StepAnswer::Done),
             Err(_) => Err(StepError::Memory),
         }
     }
@@ -458,11 +463,13 @@ fn arrive_error(error: ArriveError) -> StepError
 }
 
 /// The answer to an exec.
-fn exec_answer(served: Result<Option<(Option<Mode>, Mark)>, ExecError>) -> Result<Answer, StepError>
+fn exec_answer(
+    served: Result<Option<(Option<Mode>, Mark)>, ExecError>,
+) -> Result<StepAnswer, StepError>
     ensures { result ≡ exec_answer served }
 {
     match served {
-        Ok(answered) => Ok(Answer::Served(answered)),
+        Ok(answered) => Ok(StepAnswer::Served(answered)),
         Err(ExecError::NoSession) => Err(StepError::NoSession),
         Err(ExecError::LaterOut) => Err(StepError::LaterOut),
         Err(ExecError::LaterDirty) => Err(StepError::LaterDirty),
@@ -491,11 +498,11 @@ fn fails_too(failed: bool, answered: &Result<Progress, JournalError>) -> bool
 }
 
 /// The answer to a device call.
-fn dev_answer(answered: Result<Progress, JournalError>) -> Result<Answer, StepError>
+fn dev_answer(answered: Result<Progress, JournalError>) -> Result<StepAnswer, StepError>
     ensures { result ≡ dev_answer answered }
 {
     match answered {
-        Ok(progress) => Ok(Answer::Progressed(progress)),
+        Ok(progress) => Ok(StepAnswer::Progressed(progress)),
         Err(JournalError::Fault) => Err(StepError::Fault),
         Err(JournalError::Memory) => Err(StepError::Memory),
         Err(_) => Err(StepError::Halted),
@@ -534,7 +541,7 @@ fn committed_ticket(ticket: Option<Ticket>, committed: bool) -> Option<Ticket>
 }
 
 /// Whether an event was refused for memory.
-fn is_for_memory(answered: &Result<Answer, StepError>) -> bool
+fn is_for_memory(answered: &Result<StepAnswer, StepError>) -> bool
     ensures { result ≡ for_memory answered.now }
 {
     matches!(answered, Err(StepError::Memory))

@@ -2,7 +2,7 @@ use Rattle.std.proofs.Common.{◌≡◌, ◌≢◌, ◌≤◌, inl, inr, ℕ, Li
 use Rattle.std.specs.List.{All}
 use Rattle.std.proofs.lemmas.Bool.{false≢true}
 use Rattle.model.specs.Volume.{number_at}
-use Rattle.model.specs.Files.{Entry, IsFree, entry, entry_of, inode_of, kind, first_data}
+use Rattle.model.specs.Files.{FileEntry, IsFree, entry, entry_of, inode_of, kind, first_data}
 use Rattle.fs_check.specs.Checking.{IsSlot, HasPointers, most_octets}
 use Rattle.fs_check.proofs.Deciding.{entry_from_file, free_from_entry, free_small, most_few, slot_from_entry, pointers_from_entry, no_entry}
 use Rattle.fs_check.proofs.entry.is_entry.Goals as goal
@@ -31,7 +31,7 @@ to_inode first count most inodes at blocks has = record {
 pub returns-then-are_zeros : goal.returns-then-are_zeros
 returns-then-are_zeros g c =
     let blocks = g.B.Blocks.blocks c.args.blocks.now in
-    let e : Entry = entry c.args.inodes blocks c.args.at in
+    let e : FileEntry = entry c.args.inodes blocks c.args.at in
     let none : kind e ≡ 0 = sym (c.number32.ensures ∙ ap (λ (o : List ℕ). number_at 0 4 o) c.get_record.ensures) ∙ c.in-0.is in (
       (λ zeros.
           let free : IsFree e = record {
@@ -47,7 +47,7 @@ returns-then-are_zeros g c =
 pub returns-else-is_slot : goal.returns-else-is_slot
 returns-else-is_slot g c =
     let blocks = g.B.Blocks.blocks c.args.blocks.now in
-    let e : Entry = entry c.args.inodes blocks c.args.at in
+    let e : FileEntry = entry c.args.inodes blocks c.args.at in
     let is : c.number32.result ≡ kind e = c.number32.ensures ∙ ap (λ (o : List ℕ). number_at 0 4 o) c.get_record.ensures in (
       (λ slot. absurd (false≢true (sym c.if-is_slot.false ∙ slot))),
       (λ one. c.is_slot.ensures.1 (rw c.get_record-2.ensures
@@ -57,7 +57,7 @@ returns-else-is_slot g c =
 pub returns-in_default : goal.returns-in_default
 returns-in_default g c =
     let blocks = g.B.Blocks.blocks c.args.blocks.now in
-    let e : Entry = entry c.args.inodes blocks c.args.at in
+    let e : FileEntry = entry c.args.inodes blocks c.args.at in
     let is : c.number32.result ≡ kind e = c.number32.ensures ∙ ap (λ (o : List ℕ). number_at 0 4 o) c.get_record.ensures in
     let other : c.number32.result ≢ 0 = omega arith in
     let another : c.number32.result ≢ 1 = omega arith in (
@@ -69,7 +69,7 @@ returns-in_default g c =
 pub returns-then-is_slot : goal.returns-then-is_slot
 returns-then-is_slot g c =
     let blocks = g.B.Blocks.blocks c.args.blocks.now in
-    let e : Entry = entry c.args.inodes blocks c.args.at in
+    let e : FileEntry = entry c.args.inodes blocks c.args.at in
     let first = first_data c.args.inodes in
     let most = most_octets c.args.format in
     let has = λ (o : List ℕ). HasPointers most first (length blocks) (entry_of blocks o []) in

@@ -5,7 +5,7 @@ use Rattle.std.proofs.lemmas.Result.{on_ok_weaker}
 use Rattle.byteorder.specs.Endian.{little_bytes}
 use Rattle.disk.specs.Image.{overwritten}
 use Rattle.model.specs.Volume.{number_at}
-use Rattle.model.specs.Files.{Entry, entry, entry_of, free_blocks, inode_of, size, pointer, first_data, indirect_for, indirect_pointer}
+use Rattle.model.specs.Files.{FileEntry, entry, entry_of, free_blocks, inode_of, size, pointer, first_data, indirect_for, indirect_pointer}
 use Rattle.model.specs.Files.{block_count}
 use Rattle.model.proofs.Owning.{owns_pointer}
 use Rattle.fs_layout.specs.Blocks.{IsThere, PutsRecord}
@@ -19,7 +19,7 @@ use Rattle.fs_inodes.proofs.growing.add_piece.Goals.{then-within-eq0+in_ok-numbe
 pub add_block-requires-clause-names : goal.add_block-requires-clause-names
 add_block-requires-clause-names g c =
     let blocks = g.B.Blocks.blocks c.args.blocks.now in
-    let e : Entry = entry c.args.inodes blocks c.args.at in
+    let e : FileEntry = entry c.args.inodes blocks c.args.at in
     let sized : c.number64-size.result ≡ size e = c.number64-size.ensures ∙ ap (λ (o : List ℕ). number_at 4 8 o) c.get_record.ensures in
     let count : block_count e ≡ c.number64-size.result / 4096 = omega (arith, sized, c.if-within-eq0.true) in
     subst (λ (o : List ℕ). NamesBlocks (indirect_for (c.number64-size.result / 4096)) (inode_entry blocks o) blocks)
@@ -30,7 +30,7 @@ add_block-requires-clause-names g c =
 pub add_block-requires-clause-free : goal.add_block-requires-clause-free
 add_block-requires-clause-free g c =
     let blocks = g.B.Blocks.blocks c.args.blocks.now in
-    let e : Entry = entry c.args.inodes blocks c.args.at in
+    let e : FileEntry = entry c.args.inodes blocks c.args.at in
     let piece = c.args.piece.now in
     let sized : c.number64-size.result ≡ size e = c.number64-size.ensures ∙ ap (λ (o : List ℕ). number_at 4 8 o) c.get_record.ensures in
     let was : block_count e ≡ c.number64-size.result / 4096 = omega (arith, sized, c.if-within-eq0.true) in
@@ -42,7 +42,7 @@ add_block-requires-clause-free g c =
 pub pointer_at-number-requires-clause-double : goal.pointer_at-number-requires-clause-double
 pointer_at-number-requires-clause-double g c =
     let blocks = g.B.Blocks.blocks c.args.blocks.now in
-    let e : Entry = entry c.args.inodes blocks c.args.at in
+    let e : FileEntry = entry c.args.inodes blocks c.args.at in
     let sized : c.number64-size.result ≡ size e = c.number64-size.ensures ∙ ap (λ (o : List ℕ). number_at 4 8 o) c.get_record.ensures in
     subst (λ (o : List ℕ). 1034 ≤ c.number64-size.result / 4096 → IsThere (number_at 56 4 o) blocks) (sym c.get_record.ensures)
     (double_is_there c.args.inodes c.args.at blocks c.requires.room c.requires.rule c.requires.below c.requires.file
@@ -51,7 +51,7 @@ pointer_at-number-requires-clause-double g c =
 pub pointer_at-number-requires-clause-indirect : goal.pointer_at-number-requires-clause-indirect
 pointer_at-number-requires-clause-indirect g c =
     let blocks = g.B.Blocks.blocks c.args.blocks.now in
-    let e : Entry = entry c.args.inodes blocks c.args.at in
+    let e : FileEntry = entry c.args.inodes blocks c.args.at in
     let sized : c.number64-size.result ≡ size e = c.number64-size.ensures ∙ ap (λ (o : List ℕ). number_at 4 8 o) c.get_record.ensures in
     subst (λ (o : List ℕ). 10 ≤ c.number64-size.result / 4096
     → IsThere (indirect_pointer (entry_of blocks o []) ((c.number64-size.result / 4096 - 10) / 1024)) blocks) (sym c.get_record.ensures)
@@ -61,7 +61,7 @@ pointer_at-number-requires-clause-indirect g c =
 pub put_piece-requires-clause-there : goal.put_piece-requires-clause-there
 put_piece-requires-clause-there g c =
     let blocks = g.B.Blocks.blocks c.args.blocks.now in
-    let e : Entry = entry c.args.inodes blocks c.args.at in
+    let e : FileEntry = entry c.args.inodes blocks c.args.at in
     let i = c.number64-size.result / 4096 in
     let sized : c.number64-size.result ≡ size e = c.number64-size.ensures ∙ ap (λ (o : List ℕ). number_at 4 8 o) c.get_record.ensures in
     elim c.if-within-eq0.branch [
@@ -87,7 +87,7 @@ returns-clause-grown g c =
     let mid = g.B.Blocks.blocks c.if-within-eq0.blocks in
     let new = g.B.Blocks.blocks c.put_record.new.blocks in
     let at = c.args.at in
-    let e : Entry = entry c.args.inodes old at in
+    let e : FileEntry = entry c.args.inodes old at in
     let n = c.number64-size.result / 4096 in
     let r = c.number64-size.result % 4096 in
     let inode = c.if-within-eq0.inode in
@@ -143,7 +143,7 @@ returns-clause-touches g c =
     let mid = g.B.Blocks.blocks c.if-within-eq0.blocks in
     let new = g.B.Blocks.blocks c.put_record.new.blocks in
     let at = c.args.at in
-    let e : Entry = entry c.args.inodes old at in
+    let e : FileEntry = entry c.args.inodes old at in
     let n = c.number64-size.result / 4096 in
     let r = c.number64-size.result % 4096 in
     let inode = c.if-within-eq0.inode in

@@ -4,7 +4,7 @@ use Rattle.std.specs.Prelude.{min}
 use Rattle.std.proofs.lemmas.Bool.{cases_lt}
 use Rattle.std.proofs.lemmas.List.{take_all}
 use Rattle.model.specs.Volume.{number_at}
-use Rattle.model.specs.Files.{Entry, entry, entry_of, size, pointer, content_of, indirect_pointer, block_count}
+use Rattle.model.specs.Files.{FileEntry, entry, entry_of, size, pointer, content_of, indirect_pointer, block_count}
 use Rattle.model.proofs.Owning.{content_size, owns_pointer}
 use Rattle.fs_layout.specs.Blocks.{IsThere}
 use Rattle.fs_inodes.proofs.Contents.{content_part}
@@ -37,7 +37,7 @@ nothing (x ∷ xs) n none = absurd (omega arith)
 pub returns-then-size-place : goal.returns-then-size-place
 returns-then-size-place g c =
     let blocks = g.B.Blocks.blocks c.args.blocks.now in
-    let e : Entry = entry c.args.inodes blocks c.args.at in
+    let e : FileEntry = entry c.args.inodes blocks c.args.at in
     let sized : c.number64-size.result ≡ size e = c.number64-size.ensures ∙ ap (λ (o : List ℕ). number_at 4 8 o) c.get_record.ensures in
     let long = content_size blocks e c.requires.room.blocks_whole (λ b owns. (c.requires.rule.within c.args.at b c.requires.below owns).1)
     in
@@ -47,7 +47,7 @@ returns-then-size-place g c =
 pub pointer_at-number-requires-clause-double : goal.pointer_at-number-requires-clause-double
 pointer_at-number-requires-clause-double g c =
     let blocks = g.B.Blocks.blocks c.args.blocks.now in
-    let e : Entry = entry c.args.inodes blocks c.args.at in
+    let e : FileEntry = entry c.args.inodes blocks c.args.at in
     let sized : c.number64-size.result ≡ size e = c.number64-size.ensures ∙ ap (λ (o : List ℕ). number_at 4 8 o) c.get_record.ensures in
     subst (λ (o : List ℕ). 1034 ≤ c.args.place / 4096 → IsThere (number_at 56 4 o) blocks) (sym c.get_record.ensures)
     (double_is_there c.args.inodes c.args.at blocks c.requires.room c.requires.rule c.requires.below c.requires.file (c.args.place / 4096)
@@ -56,7 +56,7 @@ pointer_at-number-requires-clause-double g c =
 pub pointer_at-number-requires-clause-indirect : goal.pointer_at-number-requires-clause-indirect
 pointer_at-number-requires-clause-indirect g c =
     let blocks = g.B.Blocks.blocks c.args.blocks.now in
-    let e : Entry = entry c.args.inodes blocks c.args.at in
+    let e : FileEntry = entry c.args.inodes blocks c.args.at in
     let sized : c.number64-size.result ≡ size e = c.number64-size.ensures ∙ ap (λ (o : List ℕ). number_at 4 8 o) c.get_record.ensures in
     subst (λ (o : List ℕ). 10 ≤ c.args.place / 4096
     → IsThere (indirect_pointer (entry_of blocks o []) ((c.args.place / 4096 - 10) / 1024)) blocks) (sym c.get_record.ensures)
@@ -66,7 +66,7 @@ pointer_at-number-requires-clause-indirect g c =
 pub block-requires : goal.block-requires
 block-requires g c =
     let blocks = g.B.Blocks.blocks c.args.blocks.now in
-    let e : Entry = entry c.args.inodes blocks c.args.at in
+    let e : FileEntry = entry c.args.inodes blocks c.args.at in
     let i = c.args.place / 4096 in
     let sized : c.number64-size.result ≡ size e = c.number64-size.ensures ∙ ap (λ (o : List ℕ). number_at 4 8 o) c.get_record.ensures in
     let low : i < block_count e = omega arith in
@@ -78,7 +78,7 @@ block-requires g c =
 pub returns : goal.returns
 returns g c =
     let blocks = g.B.Blocks.blocks c.args.blocks.now in
-    let e : Entry = entry c.args.inodes blocks c.args.at in
+    let e : FileEntry = entry c.args.inodes blocks c.args.at in
     let place = c.args.place in
     let some = c.min-some.result in
     let sized : c.number64-size.result ≡ size e = c.number64-size.ensures ∙ ap (λ (o : List ℕ). number_at 4 8 o) c.get_record.ensures in

@@ -1,7 +1,7 @@
 use Rattle.std.proofs.Common.{◌≡◌, inl, inr, ℕ, ◌+◌, ◌-◌, ◌%◌, ◌≤◌, List, ◌++◌, length, take, drop, refl, sym, ◌∙◌, ap, arith, append_assoc}
 use Rattle.std.proofs.lemmas.Bool.{cases_lt}
 use Rattle.std.proofs.lemmas.List.{append-nil}
-use Rattle.model.specs.Files.{Entry, entry, size, content_of}
+use Rattle.model.specs.Files.{FileEntry, entry, size, content_of}
 use Rattle.model.proofs.Owning.{content_size}
 use Rattle.fs_inodes.proofs.Contents.{piece_size, take_then, taken_all}
 use Rattle.fs_inodes.proofs.reading.read_into.Goals as goal
@@ -20,7 +20,7 @@ loop-from-init g c =
 pub overflow_add-from : goal.overflow_add-from
 overflow_add-from g c =
     let blocks = g.B.Blocks.blocks c.args.blocks.now in
-    let e : Entry = entry c.args.inodes blocks c.args.at in
+    let e : FileEntry = entry c.args.inodes blocks c.args.at in
     let content = content_of blocks e in
     let from = c.loop-from.from in
     let long = content_size blocks e c.requires.room.blocks_whole (λ b owns. (c.requires.rule.within c.args.at b c.requires.below owns).1)
@@ -34,7 +34,7 @@ overflow_add-from g c =
 pub loop-from-preserved : goal.loop-from-preserved
 loop-from-preserved g c =
     let blocks = g.B.Blocks.blocks c.args.blocks.now in
-    let e : Entry = entry c.args.inodes blocks c.args.at in
+    let e : FileEntry = entry c.args.inodes blocks c.args.at in
     let content = content_of blocks e in
     let from = c.loop-from.from in
     let long = content_size blocks e c.requires.room.blocks_whole (λ b owns. (c.requires.rule.within c.args.at b c.requires.below owns).1)
@@ -60,7 +60,7 @@ loop-from-preserved g c =
 pub loop-from-smaller : goal.loop-from-smaller
 loop-from-smaller g c =
     let blocks = g.B.Blocks.blocks c.args.blocks.now in
-    let e : Entry = entry c.args.inodes blocks c.args.at in
+    let e : FileEntry = entry c.args.inodes blocks c.args.at in
     let content = content_of blocks e in
     let from = c.loop-from.from in
     let long = content_size blocks e c.requires.room.blocks_whole (λ b owns. (c.requires.rule.within c.args.at b c.requires.below owns).1)
@@ -74,7 +74,7 @@ loop-from-smaller g c =
 pub returns : goal.returns
 returns g c =
     let blocks = g.B.Blocks.blocks c.args.blocks.now in
-    let e : Entry = entry c.args.inodes blocks c.args.at in
+    let e : FileEntry = entry c.args.inodes blocks c.args.at in
     let sized = c.size_of.ensures in
     let long = content_size blocks e c.requires.room.blocks_whole (λ b owns. (c.requires.rule.within c.args.at b c.requires.below owns).1)
     in

@@ -3,7 +3,7 @@ use Rattle.std.proofs.lemmas.Result.{on_ok_weaker}
 use Rattle.byteorder.specs.Endian.{little_bytes}
 use Rattle.disk.specs.Image.{overwritten}
 use Rattle.model.specs.Volume.{number_at}
-use Rattle.model.specs.Files.{Entry, block_count, content_of, entry, entry_of, indirect_for, indirect_pointer, inode_of, pointer}
+use Rattle.model.specs.Files.{FileEntry, block_count, content_of, entry, entry_of, indirect_for, indirect_pointer, inode_of, pointer}
 use Rattle.model.proofs.Owning.{owns_pointer}
 use Rattle.fs_layout.specs.Blocks.{IsThere, PutsRecord}
 use Rattle.fs_layout.specs.Touches.{TouchesInode}
@@ -45,7 +45,7 @@ drop_pointer-requires-clause-last g c =
 pub unmark-requires-clause-there : goal.unmark-requires-clause-there
 unmark-requires-clause-there g c =
     let blocks = g.B.Blocks.blocks c.args.blocks.now in
-    let e : Entry = entry c.args.inodes blocks c.args.at in
+    let e : FileEntry = entry c.args.inodes blocks c.args.at in
     let is : c.pointer_at-number.result ≡ pointer e c.args.last = c.pointer_at-number.ensures
     ∙ ap (λ (o : List ℕ). pointer (entry_of blocks o []) c.args.last) c.get_record.ensures in
     let inside = (c.requires.rule.within c.args.at (pointer e c.args.last) c.requires.below
@@ -60,7 +60,7 @@ returns-clause-done g c =
     let new = g.B.Blocks.blocks c.put_record.new.blocks in
     let at = c.args.at in
     let last = c.args.last in
-    let e : Entry = entry c.args.inodes old at in
+    let e : FileEntry = entry c.args.inodes old at in
     let inode1 = c.drop_pointer.new.inode in
     let is : c.pointer_at-number.result ≡ pointer e last = c.pointer_at-number.ensures
     ∙ ap (λ (o : List ℕ). pointer (entry_of old o []) last) c.get_record.ensures in
@@ -84,7 +84,7 @@ returns-clause-none_taken g c =
     let new = g.B.Blocks.blocks c.put_record.new.blocks in
     let at = c.args.at in
     let last = c.args.last in
-    let e : Entry = entry c.args.inodes old at in
+    let e : FileEntry = entry c.args.inodes old at in
     let inode1 = c.drop_pointer.new.inode in
     let is : c.pointer_at-number.result ≡ pointer e last = c.pointer_at-number.ensures
     ∙ ap (λ (o : List ℕ). pointer (entry_of old o []) last) c.get_record.ensures in
@@ -107,7 +107,7 @@ returns-clause-touches g c =
     let new = g.B.Blocks.blocks c.put_record.new.blocks in
     let at = c.args.at in
     let last = c.args.last in
-    let e : Entry = entry c.args.inodes old at in
+    let e : FileEntry = entry c.args.inodes old at in
     let inode1 = c.drop_pointer.new.inode in
     let is : c.pointer_at-number.result ≡ pointer e last = c.pointer_at-number.ensures
     ∙ ap (λ (o : List ℕ). pointer (entry_of old o []) last) c.get_record.ensures in

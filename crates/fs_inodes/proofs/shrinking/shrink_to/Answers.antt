@@ -2,7 +2,7 @@ use Rattle.std.proofs.Common.{◌≡◌, ◌≤◌, ◌<◌, ℕ, ◌+◌, ◌-�
 use Rattle.std.proofs.lemmas.List.{length-take, length-take-le, take_all, take-take}
 use Rattle.std.proofs.lemmas.Result.{on_ok_weaker}
 use Rattle.model.specs.Volume.{number_at}
-use Rattle.model.specs.Files.{Entry, HasRoom, IsFile, IsFileSystem, block_count, entry, size, content_of}
+use Rattle.model.specs.Files.{FileEntry, HasRoom, IsFile, IsFileSystem, block_count, entry, size, content_of}
 use Rattle.model.proofs.Owning.{content_size}
 use Rattle.fs_inodes.specs.Changes.{ReplacesContent, SameMarks, TakesNone}
 use Rattle.fs_inodes.proofs.Replacing.{replaces_none, replaces_same, replaces_then, named_now, size_now}
@@ -82,7 +82,7 @@ module _ (inodes at end keep : ℕ) (old : List (List ℕ)) (room : HasRoom inod
 pub loop-left-init : goal.loop-left-init
 loop-left-init g c =
     let old = g.B.Blocks.blocks c.args.blocks.now in
-    let e : Entry = entry c.args.inodes old c.args.at in
+    let e : FileEntry = entry c.args.inodes old c.args.at in
     let sized : c.number64.result ≡ size e = c.number64.ensures ∙ ap (λ (o : List ℕ). number_at 4 8 o) c.get_record.ensures in
     let counted : c.content_blocks-left.result ≡ block_count e =
     c.content_blocks-left.ensures ∙ ap (λ (n : ℕ). (n + 4095) / 4096) sized in (

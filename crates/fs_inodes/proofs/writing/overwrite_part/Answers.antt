@@ -1,7 +1,7 @@
 use Rattle.std.proofs.Common.{◌≡◌, ℕ, ◌-◌, ◌/◌, ◌%◌, ◌<◌, ◌≤◌, List, [], length, get_or, set, sym, ◌∙◌, ap, subst, arith, ◌∷◌}
 use Rattle.disk.specs.Image.{overwritten}
 use Rattle.model.specs.Volume.{number_at}
-use Rattle.model.specs.Files.{Entry, entry, entry_of, pointer, content_of, indirect_pointer, block_count}
+use Rattle.model.specs.Files.{FileEntry, entry, entry_of, pointer, content_of, indirect_pointer, block_count}
 use Rattle.model.proofs.Owning.{owns_pointer}
 use Rattle.fs_layout.specs.Blocks.{IsThere}
 use Rattle.fs_inodes.specs.Changes.{ReplacesContent, SameMarks}
@@ -30,7 +30,7 @@ pointer_at-number-requires-clause-indirect g c =
 pub put_at-requires-clause-there : goal.put_at-requires-clause-there
 put_at-requires-clause-there g c =
     let blocks = g.B.Blocks.blocks c.args.blocks.now in
-    let e : Entry = entry c.args.inodes blocks c.args.at in
+    let e : FileEntry = entry c.args.inodes blocks c.args.at in
     let i = c.args.place / 4096 in
     let low : i < block_count e = omega arith in
     let is : c.pointer_at-number.result ≡ pointer e i = c.pointer_at-number.ensures
@@ -48,7 +48,7 @@ pub returns-clause-done : goal.returns-clause-done
 returns-clause-done g c =
     let old = g.B.Blocks.blocks c.args.blocks.now in
     let new = g.B.Blocks.blocks c.put_at.new.self in
-    let e : Entry = entry c.args.inodes old c.args.at in
+    let e : FileEntry = entry c.args.inodes old c.args.at in
     let i = c.args.place / 4096 in
     let octets = c.args.octets.now in
     let number = c.pointer_at-number.result in
@@ -66,7 +66,7 @@ pub returns-clause-marks : goal.returns-clause-marks
 returns-clause-marks g c =
     let old = g.B.Blocks.blocks c.args.blocks.now in
     let new = g.B.Blocks.blocks c.put_at.new.self in
-    let e : Entry = entry c.args.inodes old c.args.at in
+    let e : FileEntry = entry c.args.inodes old c.args.at in
     let i = c.args.place / 4096 in
     let octets = c.args.octets.now in
     let number = c.pointer_at-number.result in

@@ -1,7 +1,7 @@
 use Rattle.std.proofs.Common.{◌≡◌, ◌<◌, ℕ, ◌+◌, Bool, false, eqb, List, length, sym, ◌∙◌, ap, subst}
 use Rattle.std.specs.List.{All}
 use Rattle.model.specs.Volume.{number_at}
-use Rattle.segment_laws.specs.Held.{HaveLess, Held, IsAmong}
+use Rattle.segment_laws.specs.Held.{HaveLess, HeldBatch, IsAmong}
 use Rattle.journal_segments.specs.Staged.{staged_at}
 use Rattle.journal.specs.Flight.{flight_in, left_of}
 use Rattle.journal.specs.Inside.{IsKept}
@@ -111,7 +111,7 @@ returns-clause-lowest g c =
     (subst (λ (b : Bool). IsKept (g.D.Disk.device v.disk) v.blocks v.superblock.items v.next b v.room.items v.filled v.is_last) running
     c.self.invariant) in
     λ s below.
-    subst (λ (hs : List Held). IsAmong s hs)
+    subst (λ (hs : List HeldBatch). IsAmong s hs)
     (sym (held_now (g.D.Disk.device v.disk) v.blocks v.superblock.items v.room.items c.fill.new.room.items v.filled v.is_last kept
     c.lowest_closed-filled.result c.lowest_closed-filled.ensures c.fill.ensures.count c.fill.ensures.others))
     (lowest (g.D.Disk.device v.disk) v.blocks v.superblock.items v.room.items c.fill.new.room.items v.filled v.is_last kept
@@ -130,7 +130,7 @@ returns-clause-closed g c among =
     not_among (g.D.Disk.device v.disk) v.blocks v.superblock.items v.room.items c.fill.new.room.items v.filled v.is_last kept
     c.lowest_closed-filled.result c.lowest_closed-filled.ensures c.fill.ensures.count c.fill.ensures.others
     (subst (λ (p : ℕ). IsAmong p (left_of (flight_in v.room.items v.filled v.is_last))) c.fill.ensures.taken.place_is
-    (subst (λ (hs : List Held). IsAmong (staged_at c.fill.new.room.items c.lowest_closed-filled.result).place hs)
+    (subst (λ (hs : List HeldBatch). IsAmong (staged_at c.fill.new.room.items c.lowest_closed-filled.result).place hs)
     (held_now (g.D.Disk.device v.disk) v.blocks v.superblock.items v.room.items c.fill.new.room.items v.filled v.is_last kept
     c.lowest_closed-filled.result c.lowest_closed-filled.ensures c.fill.ensures.count c.fill.ensures.others) among))
 
@@ -145,7 +145,7 @@ returns-clause-greatest g c =
     c.self.invariant) in
     let below = subst (λ (n : ℕ). All (λ k. k < n) c.args.numbers.now) (sym (ap (λ (j : JournalView g.row.D.Denot). j.size) c.self.view_is))
     c.requires.below in
-    subst (λ (hs : List Held). HaveLess (number_at 0 8 (staged_at c.fill.new.room.items c.lowest_closed-filled.result).descriptor) hs)
+    subst (λ (hs : List HeldBatch). HaveLess (number_at 0 8 (staged_at c.fill.new.room.items c.lowest_closed-filled.result).descriptor) hs)
     (sym (held_now (g.D.Disk.device v.disk) v.blocks v.superblock.items v.room.items c.fill.new.room.items v.filled v.is_last kept
     c.lowest_closed-filled.result c.lowest_closed-filled.ensures c.fill.ensures.count c.fill.ensures.others))
     (greatest (g.D.Disk.device v.disk) v.blocks v.superblock.items v.room.items c.fill.new.room.items v.filled v.is_last kept

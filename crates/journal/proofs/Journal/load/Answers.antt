@@ -5,7 +5,7 @@ use Rattle.journal.specs.declared.Next.TheVariants.{Idle, Descriptor}
 use Rattle.journal.proofs.Calls.{kept_failed}
 use Rattle.journal.specs.Journal.{AreWhole, JournalView}
 use Rattle.model.specs.Volume.{all_laid_over, home, home_place, laid_over}
-use Rattle.segment_laws.specs.Held.{Held, batches_of}
+use Rattle.segment_laws.specs.Held.{HeldBatch, batches_of}
 use Rattle.journal.specs.declared.Next.{Next}
 use Rattle.journal_segments.specs.Staged.{staged_at}
 use Rattle.journal.proofs.Idle.{idle_home, idle_laid, idle_same, idle_size, left_in_room, left_live, left_there}
@@ -39,7 +39,7 @@ returns-in-Ok-clause-value g c =
     ∙ ap (λ (n : ℕ). part n 4096 (g.D.Disk.device c.self.inside.disk).content) place in
     sym (c.lay_over.ensures.laid (home x) (subst (λ (n : ℕ). c.args.block < n) (sym (idle_size _ _ _ _ _ _ told is running)) below)
     (idle_home _ _ _ _ _ _ told is running c.args.block below ∙ sym read))
-    ∙ ap (λ (hs : List Held). get_or (all_laid_over (home x) (batches_of hs)) c.args.block [])
+    ∙ ap (λ (hs : List HeldBatch). get_or (all_laid_over (home x) (batches_of hs)) c.args.block [])
     (left_in_room c.self.inside.room.items c.self.inside.filled c.self.inside.is_last c.lowest_closed-open.result c.self.invariant.there
     c.lowest_closed-open.ensures)
     ∙ ap (λ (bs : List (List ℕ)). get_or bs c.args.block []) (sym (idle_laid _ _ _ _ _ _ told is running)))

@@ -1,5 +1,5 @@
 use Rattle.std.proofs.Common.{ℕ, ◌*◌, true, [], ◌∷◌, length, get_or, sym, arith}
-use Rattle.segment_laws.specs.Held.{Held}
+use Rattle.segment_laws.specs.Held.{HeldBatch}
 use Rattle.model.specs.Volume.{descriptor_place, gate_place, home_place, image_place}
 use Rattle.journal.specs.Calls.{Call}
 use Rattle.journal_segments.specs.Staged.{Staged, held_as, staged_at}
@@ -38,7 +38,7 @@ returns-in-Home-clause-asked g c =
     let j = c.in-Home.j in
     let here = (c.requires.carried c.in-Home.j c.in-Home.i c.in-Home.is).0 in
     rw c.in-Home.is
-    (asked_as (λ (h : Held). Call.Write (4096 * home_place (length room) (get_or h.batch.numbers c.in-Home.i 0))
+    (asked_as (λ (h : HeldBatch). Call.Write (4096 * home_place (length room) (get_or h.batch.numbers c.in-Home.i 0))
     (get_or h.batch.images c.in-Home.i [])) (held_as (staged_at room j)) _ c.write_home.result _ _
     (sym (held_in_room room c.args.filled true c.requires.there j here))
     (asked_as (λ (s : Staged). Call.Write (4096 * home_place (length room) (get_or s.numbers c.in-Home.i 0))
@@ -54,7 +54,7 @@ returns-in-CloseGate-clause-asked g c =
     let j = c.in-CloseGate.j in
     let here = (c.requires.gate c.in-CloseGate.j c.in-CloseGate.is).0 in
     rw c.in-CloseGate.is
-    (asked_as (λ (h : Held). Call.Write (4096 * gate_place h.place) (0 ∷ []))
+    (asked_as (λ (h : HeldBatch). Call.Write (4096 * gate_place h.place) (0 ∷ []))
     (held_as (staged_at room j)) _ c.write_gate-in-CloseGate.result _ _
     (sym (held_in_room room c.args.filled true c.requires.there j here))
     (asked_as (λ (s : Staged). Call.Write (4096 * gate_place s.place) (0 ∷ [])) c.segment_at-in-CloseGate.result.now

@@ -1,5 +1,5 @@
 use Rattle.std.proofs.Common.{rules, ◌≡◌, ◌≤◌, ℕ, ◌+◌, cond, eqb, length, get_or, sym, ◌∙◌, ap, subst, arith}
-use Rattle.segment_laws.specs.Held.{Held}
+use Rattle.segment_laws.specs.Held.{HeldBatch}
 use Rattle.journal_segments.specs.Staged.{Staged, staged_at}
 use Rattle.journal.specs.Flight.{Flight, flight_in, sizes_of}
 use Rattle.journal.specs.Inside.{IsWithin}
@@ -21,7 +21,7 @@ returns-in-Home c =
     let low : j ≤ c.args.filled = omega (arith, here, length-all room c.args.filled c.args.is_last c.requires.there) in
     let count : c.count-in-Home.result ≡ get_or (sizes_of f) j 0 =
     c.count-in-Home.ensures.count ∙ ap (λ (s : Staged). length s.numbers) c.segment_at-in-Home.ensures
-    ∙ ap (λ (h : Held). length h.batch.numbers) (sym (held_in_room room c.args.filled c.args.is_last c.requires.there j low))
+    ∙ ap (λ (h : HeldBatch). length h.batch.numbers) (sym (held_in_room room c.args.filled c.args.is_last c.requires.there j low))
     ∙ sym (size_at f j last here) in
     let all : c.args.filled + 1 ≡ length (sizes_of f) =
     sym (length-sizes f last ∙ length-all room c.args.filled c.args.is_last c.requires.there) in

@@ -10,7 +10,7 @@ use Rattle.lookups.specs.Held.{all_known}
 use Rattle.replies.specs.Answered.{answered}
 use Rattle.replies.specs.declared.sessions.Answered.{Answered}
 use Rattle.listing_commands.specs.Lists.{lines_of}
-use Rattle.listing_commands.specs.declared.groups.Pick.TheVariants.{Since}
+use Rattle.listing_commands.specs.declared.groups.Choice.TheVariants.{Since}
 use Rattle.listing_commands.specs.declared.groups.Show.TheVariants.{Active}
 use Rattle.listing_commands.proofs.Listing.{block_since}
 use Rattle.listing_commands.proofs.lists.groups_since.Goals as goal

@@ -1,5 +1,5 @@
 use Rattle.std.proofs.Common.{◌∙◌, ap, arith}
-use Rattle.outbox.specs.Queue.{Held, buffered}
+use Rattle.outbox.specs.Queue.{HeldOutput, buffered}
 use Rattle.outboxes.specs.Sessions.{Session, sent, session_of, with_output}
 use Rattle.outboxes.specs.Outbox.{sessions}
 use Rattle.outboxes.proofs.Rising.{joined_first, joined_session}
@@ -13,6 +13,6 @@ put_at-requires-clause-countable c =
 
 pub returns-clause-ok : goal.returns-clause-ok
 returns-clause-ok c =
-    let output : Held = record { octets = c.args.octets.items; dependency = c.args.dependency; ends = c.args.ends } in
+    let output : HeldOutput = record { octets = c.args.octets.items; dependency = c.args.dependency; ends = c.args.ends } in
     c.put_at.ensures.sent ∙ ap (sent c.args.sid output) c.in_ok-at.ensures.ok
     ∙ joined_first (with_output output) c.args.sid (sessions c.args.seats.now.items)

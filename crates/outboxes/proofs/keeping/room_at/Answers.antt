@@ -1,5 +1,6 @@
 use Rattle.std.proofs.Common.{◌<◌, ◌≤◌, sym, ap, subst, arith}
 use Rattle.std.specs.Prelude.{OnErr, OnOk, Result, Ok, Err}
+use Rattle.std.proofs.lemmas.Result.{on_err_weaker}
 use Rattle.outboxes.specs.Sessions.{Session}
 use Rattle.outboxes.proofs.Places.{changed_set, room_here, room_less, room_now, sessions_set, stands_set}
 use Rattle.outboxes.proofs.keeping.room_at.Goals as goal
@@ -7,10 +8,6 @@ use Rattle.outboxes.proofs.keeping.room_at.Goals as goal
 by_result : {T E P : Type 0} (r : Result T E) → P → OnOk r P
 by_result (Ok x) holds = holds
 by_result (Err e) holds = tt
-
-by_error : {T E P : Type 0} (r : Result T E) → P → OnErr r P
-by_error (Ok x) holds = tt
-by_error (Err e) holds = holds
 
 pub returns-clause-at : goal.returns-clause-at
 returns-clause-at c = stands_set c.args.sid c.args.at c.args.seats.now.items c.index_mut.result.now c.reserve.new.self c.requires
@@ -23,8 +20,8 @@ returns-clause-ok c =
 
 pub returns-clause-err : goal.returns-clause-err
 returns-clause-err c =
-    by_error c.reserve.result (sessions_set c.args.sid c.args.at c.args.seats.now.items c.index_mut.result.now c.reserve.new.self c.requires
-    c.index_mut.ensures.value c.reserve.ensures.session)
+    on_err_weaker c.reserve.result (λ _. sessions_set c.args.sid c.args.at c.args.seats.now.items c.index_mut.result.now
+    c.reserve.new.self c.requires c.index_mut.ensures.value c.reserve.ensures.session) c.reserve.ensures.full
 
 pub returns-clause-room : goal.returns-clause-room
 returns-clause-room c =

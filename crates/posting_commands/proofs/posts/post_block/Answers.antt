@@ -1,7 +1,7 @@
 use Rattle.std.proofs.Common.{◌≡◌, ◌+◌, List, ℕ, sym, ◌∙◌, ap, subst}
 use Rattle.std.specs.Prelude.{IfOk, None}
 use Rattle.model.specs.Article.{Posted, cause}
-use Rattle.posting_commands.specs.Outcomes.{Said, posted_by, said, said_served}
+use Rattle.posting_commands.specs.Outcomes.{Replied, posted_by, said, said_served}
 use Rattle.posting_commands.proofs.Saying.{said_ok, said_refused}
 use Rattle.posting_commands.proofs.posts.post_block.Goals as goal
 
@@ -14,7 +14,7 @@ returns-in-Ok g c =
     let none = (λ i. cause (Posted (sym c.host-host.ensures i) (sym c.len-serial.ensures i + 1)) text) ∙ c.in-Ok.ensures.no_cause in
     let same = ap (λ t. said_served (posted_by host S x c.args.moment t)) c.in-Ok.ensures.ok
     ∙ sym (said_ok host S x c.args.moment text none) in
-    subst (λ (s : Said). IfOk c.taken.result (λ step. said step ≡ s)) same c.taken.ensures
+    subst (λ (s : Replied). IfOk c.taken.result (λ step. said step ≡ s)) same c.taken.ensures
 
 pub returns-in_ok-refusal-in-Err : goal.returns-in_ok-refusal-in-Err
 returns-in_ok-refusal-in-Err g c =

@@ -4,7 +4,7 @@ use Rattle.model.specs.Answer.{served}
 use Rattle.model.specs.Reads.{served_reads}
 use Rattle.model.specs.declared.message.Message.{Message}
 use Rattle.model.specs.declared.session.Awaits.TheVariants as awaits
-use Rattle.posting_commands.specs.Outcomes.{Said, said}
+use Rattle.posting_commands.specs.Outcomes.{Replied, said}
 use Rattle.session.specs.Steps.{step_of}
 use Rattle.session.proofs.Stepping.{transfer_step}
 use Rattle.session.proofs.messages.at_ihave.Goals as goal
@@ -16,8 +16,9 @@ returns-in-Block g c =
     let x = c.args.session.now in
     let t = c.args.moment in
     let id = c.args.id.now in
-    subst (λ (s : Said). IfOk c.ihave_block.result (λ step. said step ≡ s))
-    (transfer_step host S x t id c.in_ok-reading-in-Block.reading ∙ ap (step_of host S x t (awaits.IhaveBlock id)) c.in_ok-reading-in-Block.ensures)
+    subst (λ (s : Replied). IfOk c.ihave_block.result (λ step. said step ≡ s))
+    (transfer_step host S x t id c.in_ok-reading-in-Block.reading
+    ∙ ap (step_of host S x t (awaits.IhaveBlock id)) c.in_ok-reading-in-Block.ensures)
     c.ihave_block.ensures
 
 pub returns-in-TooLong : goal.returns-in-TooLong

@@ -4,7 +4,7 @@ use Rattle.model.specs.Answer.{served}
 use Rattle.model.specs.Reads.{served_reads}
 use Rattle.model.specs.declared.message.Message.{Message}
 use Rattle.model.specs.declared.session.Awaits.TheVariants as awaits
-use Rattle.posting_commands.specs.Outcomes.{Said, said}
+use Rattle.posting_commands.specs.Outcomes.{Replied, said}
 use Rattle.session.specs.Steps.{step_of}
 use Rattle.session.proofs.Stepping.{post_step}
 use Rattle.session.proofs.messages.at_post.Goals as goal
@@ -15,7 +15,7 @@ returns-in-Block g c =
     let S = g.L.LookUps.changes c.args.spool.now in
     let x = c.args.session.now in
     let t = c.args.moment in
-    subst (λ (s : Said). IfOk c.post_block.result (λ step. said step ≡ s))
+    subst (λ (s : Replied). IfOk c.post_block.result (λ step. said step ≡ s))
     (post_step host S x t c.in_ok-reading-in-Block.reading ∙ ap (step_of host S x t awaits.PostBlock) c.in_ok-reading-in-Block.ensures)
     c.post_block.ensures
 

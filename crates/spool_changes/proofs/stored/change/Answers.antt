@@ -2,7 +2,7 @@ use Rattle.std.proofs.Common.{refl, sym, ap, ◌∙◌, arith}
 use Rattle.std.proofs.lemmas.Result.{IfOk-weaker}
 use Rattle.std.specs.Prelude.{Some}
 use Rattle.model.specs.declared.change.Change.{Change}
-use Rattle.spool_reading.specs.Said.{change_of}
+use Rattle.spool_reading.specs.StoredChanges.{change_of}
 use Rattle.spool_changes.proofs.Standing.{below, few_serials, is_change, is_its_file, low, read_same, there_file}
 use Rattle.spool_changes.proofs.stored.change.Goals as goal
 

@@ -2,7 +2,7 @@ use Rattle.std.proofs.Common.{◌+◌, ℕ, ap, arith, get_or, length, sym, ◌�
 use Rattle.std.proofs.lemmas.List.{get_or_read}
 use Rattle.std.proofs.lemmas.Result.{IfErr-weaker}
 use Rattle.index_groups.proofs.Steps.{ok_map}
-use Rattle.spool_reading.specs.Said.{change_of}
+use Rattle.spool_reading.specs.StoredChanges.{change_of}
 use Rattle.spool_opening.proofs.Nexts.{next_file, one_replayed, said_next, same_file, slots_few, taken_below, taken_there}
 use Rattle.spool_opening.proofs.next.replay_next.Goals as goal
 

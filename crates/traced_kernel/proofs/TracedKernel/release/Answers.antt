@@ -1,5 +1,5 @@
 use Rattle.std.proofs.Common.{◌∙◌, sym, subst, List, length}
-use Rattle.outbox.specs.Queue.{Entry}
+use Rattle.outbox.specs.Queue.{ReadyEntry}
 use Rattle.traced_kernel.specs.Events.{releases, with_released}
 use Rattle.traced_kernel.specs.Fields.{AreKnown, HaveRoom, given_in, inputs, sents}
 use Rattle.traced_kernel.specs.Traced.{Sent, TracedView}
@@ -10,13 +10,13 @@ use Rattle.traced_kernel.proofs.TracedKernel.release.Goals as goal
 
 pub file-requires-clause-known : goal.file-requires-clause-known
 file-requires-clause-known c =
-    subst (λ (t : List Sent × List Entry). AreKnown t.0 t.1) (λ i. (sym c.make_room.ensures.sent i, sym c.take_ready.ensures.given i))
+    subst (λ (t : List Sent × List ReadyEntry). AreKnown t.0 t.1) (λ i. (sym c.make_room.ensures.sent i, sym c.take_ready.ensures.given i))
     (ready_known c.self.inside.kernel.host c.self.inside.kernel.spool c.self.inside.kernel.joined c.self.inside.kernel.durable 65536
     (sents c.self.inside.peers.items) c.self.inside.kernel.seats c.self.invariant.beside.numbers c.kept.ensures.seats)
 
 pub file-requires-clause-room : goal.file-requires-clause-room
 file-requires-clause-room c =
-    subst (λ (es : List Entry). HaveRoom c.make_room.new.peers.items (λ number. length (given_in number es)))
+    subst (λ (es : List ReadyEntry). HaveRoom c.make_room.new.peers.items (λ number. length (given_in number es)))
     (sym c.take_ready.ensures.given)
     (ready_room c.self.inside.kernel.seats c.self.inside.kernel.durable c.make_room.new.peers.items c.kept.ensures.rising
     c.in_ok-make_room.ensures.room)

@@ -1,5 +1,5 @@
 use Rattle.std.proofs.Common.{◌≡◌, ◌++◌, [], ap, ◌∙◌, sym, subst, List, length}
-use Rattle.outbox.specs.Queue.{Entry}
+use Rattle.outbox.specs.Queue.{ReadyEntry}
 use Rattle.kernel.specs.Kernel.{released_of}
 use Rattle.seats.specs.Seats.{ready_of}
 use Rattle.traced_kernel.specs.Events.{releases_of, with_released}
@@ -15,7 +15,7 @@ file-requires-clause-known c =
     let k = c.self.inside.kernel in
     let given : c.give_ready.new.into ≡ (ready_of k.durable [] c.args.number k.seats).entries = c.give_ready.ensures.given
     ∙ ap (λ es. es ++ (ready_of k.durable es c.args.number k.seats).entries) c.clear.ensures in
-    subst (λ (t : List Sent × List Entry). AreKnown t.0 t.1) (λ i. (sym c.make_room.ensures.sent i, sym given i))
+    subst (λ (t : List Sent × List ReadyEntry). AreKnown t.0 t.1) (λ i. (sym c.make_room.ensures.sent i, sym given i))
     (one_known k.host k.spool k.joined k.durable [] c.args.number (sents c.self.inside.peers.items) k.seats c.self.invariant.beside.numbers
     c.kept.ensures.seats)
 
@@ -24,7 +24,7 @@ file-requires-clause-room c =
     let k = c.self.inside.kernel in
     let given : c.give_ready.new.into ≡ (ready_of k.durable [] c.args.number k.seats).entries = c.give_ready.ensures.given
     ∙ ap (λ es. es ++ (ready_of k.durable es c.args.number k.seats).entries) c.clear.ensures in
-    subst (λ (es : List Entry). HaveRoom c.make_room.new.peers.items (λ number. length (given_in number es))) (sym given)
+    subst (λ (es : List ReadyEntry). HaveRoom c.make_room.new.peers.items (λ number. length (given_in number es))) (sym given)
     (one_room k.seats k.durable c.args.number c.make_room.new.peers.items c.in_ok-make_room.ensures.room)
 
 pub invariant_of-self-2 : goal.invariant_of-self-2

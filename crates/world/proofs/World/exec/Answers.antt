@@ -7,7 +7,7 @@ use Rattle.std.proofs.Common.{subst}
 use Rattle.std.specs.Prelude.{Result}
 use Rattle.world.specs.Events.{DidExec}
 use Rattle.world.specs.World.{with_served}
-use Rattle.world.specs.declared.events.Answer.{Answer}
+use Rattle.world.specs.declared.events.StepAnswer.{StepAnswer}
 use Rattle.world.specs.declared.events.StepError.{StepError}
 use Rattle.world.proofs.Sound.{did_exec, sound_exec}
 use Rattle.world.proofs.World.exec.Goals as goal
@@ -34,6 +34,6 @@ returns g c =
     } in
     let did = did_exec old c.exec.new.self c.args.number c.args.moment (mode_at (kernel_of old) c.args.number)
     (next_of old.served c.args.number) c.exec.result c.exec.ensures in
-    subst (λ (t : WorldView g.row.D.Denot × Result Answer StepError). DidExec t.0 c.args.number c.args.moment
+    subst (λ (t : WorldView g.row.D.Denot × Result StepAnswer StepError). DidExec t.0 c.args.number c.args.moment
     (mode_at (kernel_of t.0) c.args.number) (next_of t.0.served c.args.number) t.1 (with_served old c.exec.new.self))
     (λ i. (c.self.view_is i, sym c.exec_answer.ensures i)) did

@@ -8,7 +8,7 @@ use Rattle.traced_kernel.specs.Traced.{TracedView}
 use Rattle.world.specs.Events.{DidTake, begun}
 use Rattle.world.specs.Fields.{IsSound, news_in}
 use Rattle.world.specs.World.{WorldView, kernel_of}
-use Rattle.world.specs.declared.events.Answer.TheVariants as answer
+use Rattle.world.specs.declared.events.StepAnswer.TheVariants as answer
 use Rattle.world.proofs.Sound.{is_begun, lays_dirty, news_begin, none_flies, sound_same, sound_take}
 use Rattle.world.proofs.World.take.Goals as goal
 

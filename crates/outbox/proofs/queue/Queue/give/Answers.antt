@@ -1,6 +1,6 @@
 use Rattle.std.proofs.Common.{◌≡◌, List, ◌++◌, ◌-◌, ◌<◌, length, sym, ◌∙◌, ap, arith, length-append}
 use Rattle.std.proofs.lemmas.List.{length-map}
-use Rattle.outbox.specs.Queue.{QueueView, Entry, buffered, give, entry_of, octets_in}
+use Rattle.outbox.specs.Queue.{QueueView, ReadyEntry, buffered, give, entry_of, octets_in}
 use Rattle.outbox.specs.Slots.{entry_at, entries_in}
 use Rattle.outbox.proofs.GivingLaws.{give-buffered}
 use Rattle.outbox.proofs.BufferLaws.{given-entries, given-within, given-along, given-counted, given-few}
@@ -45,7 +45,7 @@ invariant_of-into c =
     omega (
       arith,
       c.requires,
-      ap (λ (entries : List Entry). length entries) c.into.view_is,
+      ap (λ (entries : List ReadyEntry). length entries) c.into.view_is,
       length-map b.slots.items (entry_at b.octets.items),
     ) in
     let now : c.end_entry.new.slots.len ≡ length c.end_entry.new.slots.items = c.end_entry.new.slots.ok.0 in

@@ -1,5 +1,5 @@
 use Rattle.std.proofs.Common.{rules, List, refl, ap, arith}
-use Rattle.outbox.specs.Queue.{Held}
+use Rattle.outbox.specs.Queue.{HeldOutput}
 use Rattle.outboxes.specs.Sessions.{holding, sent, with_output}
 use Rattle.outboxes.specs.Outbox.{Kept, sessions}
 use Rattle.outboxes.proofs.Rising.{sound_with}
@@ -7,7 +7,7 @@ use Rattle.outboxes.proofs.keeping.Outbox.push.Goals as goal
 
 pub invariant_of-self-2 : goal.invariant_of-self-2
 invariant_of-self-2 c =
-    let output : Held = record { octets = c.args.octets.items; dependency = c.args.dependency; ends = c.args.ends } in
+    let output : HeldOutput = record { octets = c.args.octets.items; dependency = c.args.dependency; ends = c.args.ends } in
     let now = c.in_ok-put.ensures.ok in
     let same = ap (λ (ks : List Kept). holding (sent c.args.sid output (sessions ks))) c.self.view_is in
     sound_with (with_output output) (λ s. refl) c.args.sid c.self.inside.seats.items c.put.new.seats.items now c.self.invariant

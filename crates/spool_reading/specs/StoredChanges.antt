@@ -6,11 +6,11 @@ use Rattle.model.specs.FileKinds.{HasRoomInFile}
 use Rattle.model.specs.SpoolFiles.{change_file}
 use Rattle.model.specs.declared.change.Change.{Change}
 use Rattle.model.specs.declared.change.Change.TheVariants as change
-use Rattle.spool_reading.specs.declared.reading.Said.{Said}
-use Rattle.spool_reading.specs.declared.reading.Said.TheVariants as said
+use Rattle.spool_reading.specs.declared.reading.StoredChange.{StoredChange}
+use Rattle.spool_reading.specs.declared.reading.StoredChange.TheVariants as said
 
 -- the change that the contents describe
-abbrev pub change_of : Said → Change
+abbrev pub change_of : StoredChange → Change
 change_of (said.Group name status description moment) =
     change.Group (record { name = name.now; status = status; description = description.now; moment = moment })
 change_of (said.Article text envelope) = change.Article (record { text = text.now; envelope = envelope })
