@@ -107,7 +107,7 @@ some_by (Some a) n is none = absurd (cc)
 pub filed_by_test : (host : Octets) (S : Spool) (f : Filing) (here : List Octets) (serial : ℕ) → cause Carried f.text ≡ None
     → here ≡ filter (is_here S) (groups_of f.text) → serial ≡ length S + 1
     → here ≡ f.envelope.groups → 0 < length f.envelope.groups → f.envelope.moment < moment_limit → MayHaveId host S serial (id f.text)
-        → MayFile host S f
+    → MayFile host S f
 filed_by_test host S f here serial carried here_are count same some early may = record {
   carried = carried;
   filed = sym same ∙ here_are;

@@ -255,7 +255,7 @@ module _ (S : Spool) (filing : Filing) (sizes : List ℕ) (distinct : are_distin
 
   filed_front : (k : ℕ) → k ≤ length filing.envelope.groups
       → filed_by (length S + 1) filing.envelope.groups sizes k (group_index S g)
-          ≡ cond (list_any (is_name g.name) (take k filing.envelope.groups))
+      ≡ cond (list_any (is_name g.name) (take k filing.envelope.groups))
       (with_article S filing.text (group_index S g)) (group_index S g)
   filed_front zero low = refl
   filed_front (suc k) low =
@@ -307,7 +307,7 @@ article_indexed host S x y filing key sizes note serial may is notes note_is siz
       ∙ ap (map (filed_by (length S + 1) filing.envelope.groups sizes (length filing.envelope.groups))) is.groups_are
       ∙ map_twice (filed_by (length S + 1) filing.envelope.groups sizes (length filing.envelope.groups)) (group_index S) (groups S)
       ∙ map_same (λ (g : NewsGroup). filed_by (length S + 1) filing.envelope.groups sizes (length filing.envelope.groups)
-          (group_index S g)) (group_index R)
+      (group_index S g)) (group_index R)
       (groups S) (λ g. filed_all S filing sizes (filed_distinct host S filing may) sized g)
       ∙ ap (map (group_index R)) (sym (groups_more S c ∙ append-nil (groups S)));
   ids_are = λ q.

@@ -134,7 +134,7 @@ count_among limit (n ∷ ns) distinct below =
     let rest = count_among limit ns (distinct_tail n ns distinct) (λ b has. below b (suc has.0, omega (arith, has.1), has.2)) in
     let both = count_either (λ b. eqb n b) (among ns)
     (λ b first second. distinct_head n ns distinct (subst (Contains ns) (sym (eqb-true n b first)) (from_among ns b second)))
-        (range_with_len 0 limit) in
+    (range_with_len 0 limit) in
     omega (arith, here, rest, both)
 
 -- ---- the blocks in use

@@ -130,7 +130,7 @@ numbers_push filed a =
 
 pub filed_article : (S : Spool) (g : Octets) (f : Filing)
     → filed_in (S ++ Article f ∷ []) g ≡ filed_in S g
-        ++ cond (list_any (is_name g) f.envelope.groups) (news_article (length S + 1) f ∷ []) []
+    ++ cond (list_any (is_name g) f.envelope.groups) (news_article (length S + 1) f ∷ []) []
 unfolding filed_in articles entries
 filed_article S g f =
     let e : SpoolEntry = record { serial = length S + 1; change = Article f } in
@@ -477,15 +477,15 @@ module _ (S : Spool) (filing : Filing) (distinct : are_distinct filing.envelope.
       ≡ entry_files longer (record { serial = n; change = c })
   entry_grows n (Article filing') =
       let first = passes S filing.text filing.envelope.groups (change_file (record { serial = n; change = Article filing' }))
-          (λ g. (refl, refl)) in
+      (λ g. (refl, refl)) in
       λ i. first i ∷ []
   entry_grows n (Expire expiry) =
       let first = passes S filing.text filing.envelope.groups (change_file (record { serial = n; change = Expire expiry }))
-          (λ g. (refl, refl)) in
+      (λ g. (refl, refl)) in
       λ i. first i ∷ []
   entry_grows n (Group created) =
       let first = passes S filing.text filing.envelope.groups (change_file (record { serial = n; change = Group created }))
-          (λ g. (refl, refl)) in
+      (λ g. (refl, refl)) in
       let second = numbers_gain S filing.text created.name (numbers_file S created.name) filing.envelope.groups distinct
       ∙ ap (λ os. record { name = numbers_name created.name; content = os }) (sym (numbers_more created.name)) in
       let third = overview_gains S filing.text created.name (overview_file S created.name) filing.envelope.groups distinct
@@ -502,7 +502,7 @@ module _ (S : Spool) (filing : Filing) (distinct : are_distinct filing.envelope.
       ap (map (through S filing.text filing.envelope.groups)) (files_by_change S)
       ∙ map_joined (through S filing.text filing.envelope.groups) (entry_files S) (entries S)
       ∙ entries_same (λ e. map (through S filing.text filing.envelope.groups) (entry_files S e)) (entry_files longer) entry_grows
-          (entries S) in
+      (entries S) in
       with_change S (Article filing)
       ∙ ap (λ fs. fs ++ its ∷ []) (sym old)
       ∙ ap (λ (f : File). map (through S filing.text filing.envelope.groups) (files_of S) ++ f ∷ []) (sym own)

@@ -192,7 +192,7 @@ size filed line = omega arith
 pub articles_grow : ArticlesGrow
 articles_grow S filing g =
     by_test (list_any (is_name g.name) filing.envelope.groups) (filed_article S g.name filing)
-        (last_push S (Article filing) (is_name g.name)) where
+    (last_push S (Article filing) (is_name g.name)) where
       R : Spool
       R = S ++ Article filing ∷ []
 

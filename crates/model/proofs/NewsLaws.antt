@@ -3,9 +3,7 @@
 
 -- it keeps what the theory asks of a service
 pub use Rattle.model.proofs.ServiceLaws.{news_lawful as lawful}
-
 -- only a block makes a change
 pub use Rattle.model.proofs.ServiceLaws.{news_blocks_change as only_blocks_change}
-
 -- a server that stopped says so, closes the session, and accepts nothing
 pub use Rattle.model.proofs.ServiceLaws.{news_stopped as stopped_answer}

@@ -90,7 +90,7 @@ module _ (host : Octets) (inodes : ℕ) (blocks : List Octets) (S : Spool) (f : 
       let pieces_are = sym (pieces_touch (table inodes blocks) S f.text f.envelope.groups pieces are) in
       subst (λ (n : ℕ). 2 + touched_by_growth 0 (length octets) + n ≤ 254) pieces_are
       (subst (λ (o : Octets). 2 + touched_by_growth 0 (length o) + sum_by (blocks_filed S f.text) f.envelope.groups ≤ 254)
-          (sym says) few_changed)
+      (sym says) few_changed)
 
   pub article_touches : (serial : ℕ) (octets : Octets) (pieces : List Piece) (seen new : List Octets)
       → seen ≡ blocks → serial ≡ length S + 1

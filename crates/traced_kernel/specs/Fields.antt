@@ -1,7 +1,7 @@
 -- What the fields of the code mean, and what they keep.
 use Rattle.std.specs.Option.{IsSome}
 use Rattle.std.specs.Prelude.{◌≡◌, ◌+◌, ◌≤◌, ◌++◌, ◌==◌, ℕ, List, [], ◌∷◌, if◌then◌else◌, length, map, Option, Some, vec_len, vec_capacity}
-use Rattle.kernel.specs.Kernel.{seat_of}
+use Rattle.kernel.specs.Kernel.{KernelView, seat_of}
 use Rattle.seats.specs.Seats.{Seat}
 use Rattle.model.specs.News.{mode_of}
 use Rattle.model.specs.declared.change.Change.{Change}
@@ -12,6 +12,7 @@ use Rattle.model.specs.declared.session.Session.{Session}
 use Rattle.synchrony.specs.Server.{Connection, Entry, Command as Commanded, Admin as Administered}
 use Rattle.traced_kernel.specs.Input.{Waits}
 use Rattle.traced_kernel.specs.Traced.{IsServed, Sent, TracedView, account, numbered, with_numbered}
+use Rattle.traced_kernel.specs.declared.TracedKernel.TheInside.{Inside}
 use Rattle.traced_kernel.specs.declared.entry.Happened.{Happened}
 use Rattle.traced_kernel.specs.declared.entry.Happened.TheVariants.{Command, Admin}
 use Rattle.traced_kernel.specs.declared.input.Input.{Input}
@@ -30,6 +31,13 @@ sents peers = map sent_of peers
 
 abbrev pub inputs : List Peer → List Input
 inputs peers = map (λ (peer : Peer). peer.input) peers
+
+-- what callers see of a kernel, the number of changes when it was opened, the sessions, the trace and the entries that are ready
+abbrev pub view_of : KernelView → ℕ → List Peer → List (Entry Change Mark) → List ReadyEntry → TracedView
+view_of kernel first peers trace ready = record { kernel = kernel; first = first; sessions = sents peers; trace = trace; ready = ready }
+
+abbrev pub seen : Inside → TracedView
+seen s = view_of s.kernel s.first s.peers.items s.trace.items s.ready
 
 -- the input of each session that exists stands for what waits at the plain server
 abbrev pub InputsStand : (ℕ → Connection Session) → (ℕ → Option Input) → (ℕ → Option Seat) → Type 0

@@ -64,23 +64,11 @@ impl Model for TracedKernel {
 
     ghost Value = { TracedView };
 
-    ghost use Rattle.traced_kernel.specs.Fields.{IsSound, inputs, sents};
+    ghost use Rattle.traced_kernel.specs.Fields.{IsSound, inputs, seen};
 
-    ghost view = { λ s. record {
-      kernel = s.kernel;
-      first = s.first;
-      sessions = sents s.peers.items;
-      trace = s.trace.items;
-      ready = s.ready;
-    } };
+    ghost view = { seen };
 
-    ghost invariant = { λ s. IsSound (record {
-      kernel = s.kernel;
-      first = s.first;
-      sessions = sents s.peers.items;
-      trace = s.trace.items;
-      ready = s.ready;
-    }) (inputs s.peers.items) };
+    ghost invariant = { λ s. IsSound (seen s) (inputs s.peers.items) };
 }
 
 impl TracedKernel {

@@ -66,7 +66,7 @@ returns-in-Err-Full-clause-ok c =
     lacks_room (is_full_for s (Article (filing_of text c.new.result c.args.moment))) c.in-Err-Full.field-0
     c.in-Err-Full.field-0-is c.in-Err-Full.ensures.0 in
     let filed = is_accepted s.changes text _ groups.items c.requires.carried
-        (own_id-is text c.requires.carried) c.requires.new are some in (
+    (own_id-is text c.requires.carried) c.requires.new are some in (
       c.requires.offered,
       (
         Article (filing_of text groups.items c.args.moment),

@@ -42,13 +42,13 @@ returns-clause-ok c = λ host S text may key size sized is.
     c.args.sizes.now
     (note.Article c.new-own_id.result c.args.size c.args.envelope.groups c.args.envelope.moment) (c.len.result + 1) may is
     (c.in-Ok.ensures.items ∙ ap (λ (ns : List Note). ns
-        ++ note.Article c.new-own_id.result c.args.size c.args.envelope.groups c.args.envelope.moment ∷ [])
+    ++ note.Article c.new-own_id.result c.args.size c.args.envelope.groups c.args.envelope.moment ∷ [])
     (c.in_ok-reserve.ensures.items ∙ ap (λ (x : IndexView). x.notes) c.self.view_is))
     (λ i. note.Article ((c.new-own_id.ensures ∙ c.in_ok-from_slice.ensures.items ∙ key) i)
-        (size i) c.args.envelope.groups c.args.envelope.moment)
+    (size i) c.args.envelope.groups c.args.envelope.moment)
     sized next
     (more ∙ ap (λ (x : IndexView). map (filed_by (c.len.result + 1) c.args.envelope.groups c.args.sizes.now
-        (length c.args.envelope.groups)) x.groups)
+    (length c.args.envelope.groups)) x.groups)
     c.self.view_is)
     key
     (λ q. c.in_ok-insert.ensures.ok q

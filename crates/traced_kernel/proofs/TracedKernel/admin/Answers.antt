@@ -1,18 +1,11 @@
 use Rattle.std.proofs.Common.{◌++◌, ◌∷◌, [], ◌∙◌, refl}
-use Rattle.traced_kernel.specs.Fields.{inputs, sents}
-use Rattle.traced_kernel.specs.Traced.{TracedView}
+use Rattle.traced_kernel.specs.Fields.{inputs, seen}
 use Rattle.traced_kernel.proofs.Sound.{sound_makes}
 use Rattle.traced_kernel.proofs.TracedKernel.admin.Goals as goal
 
 pub invariant_of-self-2 : goal.invariant_of-self-2
 invariant_of-self-2 c =
-    let old : TracedView = record {
-      kernel = c.self.inside.kernel;
-      first = c.self.inside.first;
-      sessions = sents c.self.inside.peers.items;
-      trace = c.self.inside.trace.items;
-      ready = c.self.inside.ready;
-    } in
+    let old = seen c.self.inside in
     let done = c.in_ok-serial.ensures.1 in
     sound_makes old _ (inputs c.self.inside.peers.items) _ c.in_ok-serial.serial
     (record {

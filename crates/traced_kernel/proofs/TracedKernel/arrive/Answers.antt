@@ -2,21 +2,14 @@ use Rattle.std.proofs.Common.{◌≡◌, ◌∙◌, sym, refl, Some, false, rule
 use Rattle.std.specs.Prelude.{is_err}
 use Rattle.kernel.specs.Kernel.{mode_at}
 use Rattle.traced_kernel.specs.Events.{arrives}
-use Rattle.traced_kernel.specs.Fields.{inputs, sents}
-use Rattle.traced_kernel.specs.Traced.{TracedView}
+use Rattle.traced_kernel.specs.Fields.{inputs, seen}
 use Rattle.traced_kernel.proofs.Inputs.{some_some}
 use Rattle.traced_kernel.proofs.Sound.{IsSound-along, sound_arrives, at_ok}
 use Rattle.traced_kernel.proofs.TracedKernel.arrive.Goals as goal
 
 pub invariant_of-self-2 : goal.invariant_of-self-2
 invariant_of-self-2 c =
-    let old : TracedView = record {
-      kernel = c.self.inside.kernel;
-      first = c.self.inside.first;
-      sessions = sents c.self.inside.peers.items;
-      trace = c.self.inside.trace.items;
-      ready = c.self.inside.ready;
-    } in
+    let old = seen c.self.inside in
     let mode = some_some c.mode.result (search rules) in
     let is : mode_at c.self.inside.kernel c.args.number ≡ Some mode.0 = sym c.mode.ensures ∙ mode.1 in
     let fine : is_err c.hear.result ≡ false = search rules in

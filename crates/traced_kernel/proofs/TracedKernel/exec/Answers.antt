@@ -8,7 +8,7 @@ use Rattle.kernel.specs.declared.errors.ExecError.{ExecError}
 use Rattle.kernel.specs.declared.errors.ExecError.TheVariants.{Memory}
 use Rattle.model.specs.declared.message.Mark.{Mark}
 use Rattle.model.specs.declared.message.Mode.{Mode}
-use Rattle.traced_kernel.specs.Fields.{inputs, sents}
+use Rattle.traced_kernel.specs.Fields.{inputs, seen, view_of}
 use Rattle.traced_kernel.specs.Input.{Found}
 use Rattle.traced_kernel.specs.Traced.{TracedView, account, next_of}
 use Rattle.traced_kernel.proofs.Peers.{same-length}
@@ -19,13 +19,7 @@ use Rattle.traced_kernel.proofs.TracedKernel.exec.Goals as goal
 
 pub invariant_of-self-then-not-is_found : goal.invariant_of-self-then-not-is_found
 invariant_of-self-then-not-is_found c =
-    let old : TracedView = record {
-      kernel = c.self.inside.kernel;
-      first = c.self.inside.first;
-      sessions = sents c.self.inside.peers.items;
-      trace = c.self.inside.trace.items;
-      ready = c.self.inside.ready;
-    } in
+    let old = seen c.self.inside in
     let mode : mode_at c.self.inside.kernel c.args.number ≡ Some c.in-Some.mode = sym c.mode.ensures ∙ c.in-Some.is in
     let f = sound_found old (inputs c.self.inside.peers.items) (inputs c.find.new.peers.items) c.args.number c.in-Some.mode c.in-Ok.is_found
     mode c.self.invariant c.in-Ok.ensures.input in
@@ -39,34 +33,16 @@ invariant_of-self-then-not-is_found c =
 
 pub returns-then-not-is_found : goal.returns-then-not-is_found
 returns-then-not-is_found c =
-    let old : TracedView = record {
-      kernel = c.self.inside.kernel;
-      first = c.self.inside.first;
-      sessions = sents c.self.inside.peers.items;
-      trace = c.self.inside.trace.items;
-      ready = c.self.inside.ready;
-    } in
+    let old = seen c.self.inside in
+    let after = view_of c.self.inside.kernel c.self.inside.first c.find.new.peers.items c.self.inside.trace.items c.self.inside.ready in
     let mode : mode_at c.self.inside.kernel c.args.number ≡ Some c.in-Some.mode = sym c.mode.ensures ∙ c.in-Some.is in
     let f = sound_found old (inputs c.self.inside.peers.items) (inputs c.find.new.peers.items) c.args.number c.in-Some.mode c.in-Ok.is_found
     mode c.self.invariant c.in-Ok.ensures.input in
     let found = subst (λ b. Found b f.1.0 c.in-Some.mode ((account old).server.connections c.args.number).pending) c.if-not-is_found.true
     f.1.2 in
     let none : next_of old c.args.number ≡ None = next_by_mode old c.args.number c.in-Some.mode mode c.self.invariant.beside ∙ found.0 in
-    subst (λ (s : TracedView). DidAt s c.args.number c.args.moment (Ok None)
-    (record {
-      kernel = c.self.inside.kernel;
-      first = c.self.inside.first;
-      sessions = sents c.find.new.peers.items;
-      trace = c.self.inside.trace.items;
-      ready = c.self.inside.ready;
-    })) c.self.view_is
-    (did_none old (record {
-      kernel = c.self.inside.kernel;
-      first = c.self.inside.first;
-      sessions = sents c.find.new.peers.items;
-      trace = c.self.inside.trace.items;
-      ready = c.self.inside.ready;
-    }) c.args.number c.args.moment c.in-Some.mode mode none
+    subst (λ (s : TracedView). DidAt s c.args.number c.args.moment (Ok None) after) c.self.view_is
+    (did_none old after c.args.number c.args.moment c.in-Some.mode mode none
     (λ i. record {
       kernel = c.self.inside.kernel;
       first = c.self.inside.first;
@@ -77,13 +53,7 @@ returns-then-not-is_found c =
 
 pub invariant_of-self-then-is_err : goal.invariant_of-self-then-is_err
 invariant_of-self-then-is_err c =
-    let old : TracedView = record {
-      kernel = c.self.inside.kernel;
-      first = c.self.inside.first;
-      sessions = sents c.self.inside.peers.items;
-      trace = c.self.inside.trace.items;
-      ready = c.self.inside.ready;
-    } in
+    let old = seen c.self.inside in
     let mode : mode_at c.self.inside.kernel c.args.number ≡ Some c.in-Some.mode = sym c.mode.ensures ∙ c.in-Some.is in
     let f = sound_found old (inputs c.self.inside.peers.items) (inputs c.find.new.peers.items) c.args.number c.in-Some.mode c.in-Ok.is_found
     mode c.self.invariant c.in-Ok.ensures.input in
@@ -97,13 +67,7 @@ invariant_of-self-then-is_err c =
 
 pub found-requires-clause-within : goal.found-requires-clause-within
 found-requires-clause-within c =
-    let old : TracedView = record {
-      kernel = c.self.inside.kernel;
-      first = c.self.inside.first;
-      sessions = sents c.self.inside.peers.items;
-      trace = c.self.inside.trace.items;
-      ready = c.self.inside.ready;
-    } in
+    let old = seen c.self.inside in
     let mode : mode_at c.self.inside.kernel c.args.number ≡ Some c.in-Some.mode = sym c.mode.ensures ∙ c.in-Some.is in
     let f = sound_found old (inputs c.self.inside.peers.items) (inputs c.find.new.peers.items) c.args.number c.in-Some.mode c.in-Ok.is_found
     mode c.self.invariant c.in-Ok.ensures.input in
@@ -113,13 +77,7 @@ found-requires-clause-within c =
 
 pub invariant_of-self-in_default-found : goal.invariant_of-self-in_default-found
 invariant_of-self-in_default-found c =
-    let old : TracedView = record {
-      kernel = c.self.inside.kernel;
-      first = c.self.inside.first;
-      sessions = sents c.self.inside.peers.items;
-      trace = c.self.inside.trace.items;
-      ready = c.self.inside.ready;
-    } in
+    let old = seen c.self.inside in
     let mode : mode_at c.self.inside.kernel c.args.number ≡ Some c.in-Some.mode = sym c.mode.ensures ∙ c.in-Some.is in
     let f = sound_found old (inputs c.self.inside.peers.items) (inputs c.find.new.peers.items) c.args.number c.in-Some.mode c.in-Ok.is_found
     mode c.self.invariant c.in-Ok.ensures.input in
@@ -133,13 +91,7 @@ invariant_of-self-in_default-found c =
 
 pub returns-in_default-found : goal.returns-in_default-found
 returns-in_default-found c =
-    let old : TracedView = record {
-      kernel = c.self.inside.kernel;
-      first = c.self.inside.first;
-      sessions = sents c.self.inside.peers.items;
-      trace = c.self.inside.trace.items;
-      ready = c.self.inside.ready;
-    } in
+    let old = seen c.self.inside in
     let mode : mode_at c.self.inside.kernel c.args.number ≡ Some c.in-Some.mode = sym c.mode.ensures ∙ c.in-Some.is in
     let f = sound_found old (inputs c.self.inside.peers.items) (inputs c.find.new.peers.items) c.args.number c.in-Some.mode c.in-Ok.is_found
     mode c.self.invariant c.in-Ok.ensures.input in
@@ -149,13 +101,7 @@ returns-in_default-found c =
 
 pub exec-requires : goal.exec-requires
 exec-requires c =
-    let old : TracedView = record {
-      kernel = c.self.inside.kernel;
-      first = c.self.inside.first;
-      sessions = sents c.self.inside.peers.items;
-      trace = c.self.inside.trace.items;
-      ready = c.self.inside.ready;
-    } in
+    let old = seen c.self.inside in
     let mode : mode_at c.self.inside.kernel c.args.number ≡ Some c.in-Some.mode = sym c.mode.ensures ∙ c.in-Some.is in
     let f = sound_found old (inputs c.self.inside.peers.items) (inputs c.find.new.peers.items) c.args.number c.in-Some.mode c.in-Ok.is_found
     mode c.self.invariant c.in-Ok.ensures.input in
@@ -167,13 +113,7 @@ exec-requires c =
 
 pub invariant_of-self-in_err-answered : goal.invariant_of-self-in_err-answered
 invariant_of-self-in_err-answered c =
-    let old : TracedView = record {
-      kernel = c.self.inside.kernel;
-      first = c.self.inside.first;
-      sessions = sents c.self.inside.peers.items;
-      trace = c.self.inside.trace.items;
-      ready = c.self.inside.ready;
-    } in
+    let old = seen c.self.inside in
     let mode : mode_at c.self.inside.kernel c.args.number ≡ Some c.in-Some.mode = sym c.mode.ensures ∙ c.in-Some.is in
     let f = sound_found old (inputs c.self.inside.peers.items) (inputs c.find.new.peers.items) c.args.number c.in-Some.mode c.in-Ok.is_found
     mode c.self.invariant c.in-Ok.ensures.input in
@@ -189,13 +129,8 @@ invariant_of-self-in_err-answered c =
 
 pub returns-in_err-answered : goal.returns-in_err-answered
 returns-in_err-answered c =
-    let old : TracedView = record {
-      kernel = c.self.inside.kernel;
-      first = c.self.inside.first;
-      sessions = sents c.self.inside.peers.items;
-      trace = c.self.inside.trace.items;
-      ready = c.self.inside.ready;
-    } in
+    let old = seen c.self.inside in
+    let after = view_of c.exec.new.self c.self.inside.first c.find.new.peers.items c.reserve.new.self.items c.self.inside.ready in
     let mode : mode_at c.self.inside.kernel c.args.number ≡ Some c.in-Some.mode = sym c.mode.ensures ∙ c.in-Some.is in
     let f = sound_found old (inputs c.self.inside.peers.items) (inputs c.find.new.peers.items) c.args.number c.in-Some.mode c.in-Ok.is_found
     mode c.self.invariant c.in-Ok.ensures.input in
@@ -205,13 +140,7 @@ returns-in_err-answered c =
     (c.found.ensures f.1.0 f.1.1)) in
     let refused = tested_err of_exec Memory (exec_refusal c.self.inside.kernel c.args.number c.in-Some-found.message.now)
     c.self.inside.kernel c.exec.new.self c.in_err-answered.field-0.0 _ c.in_err-answered.ensures in
-    let did = did_refused old (record {
-      kernel = c.exec.new.self;
-      first = c.self.inside.first;
-      sessions = sents c.find.new.peers.items;
-      trace = c.reserve.new.self.items;
-      ready = c.self.inside.ready;
-    }) c.args.number c.args.moment c.in-Some.mode
+    let did = did_refused old after c.args.number c.args.moment c.in-Some.mode
     (c.in-Some-found.message.now, there.rest) c.in_err-answered.field-0.0 mode there.next_is (
       refused.0,
       λ i. record {
@@ -223,24 +152,12 @@ returns-in_err-answered c =
       },
     ) in
     let p = err_from_is_err_and c.from_residual.result c.from_residual.ensures.1 in
-    subst (λ (t : TracedView × Result (Option (Option Mode × Mark)) ExecError). DidAt t.0 c.args.number c.args.moment t.1
-    (record {
-      kernel = c.exec.new.self;
-      first = c.self.inside.first;
-      sessions = sents c.find.new.peers.items;
-      trace = c.reserve.new.self.items;
-      ready = c.self.inside.ready;
-    })) (λ i. (c.self.view_is i, (ap Err (sym p.2) ∙ sym p.1) i)) did
+    subst (λ (t : TracedView × Result (Option (Option Mode × Mark)) ExecError). DidAt t.0 c.args.number c.args.moment t.1 after)
+    (λ i. (c.self.view_is i, (ap Err (sym p.2) ∙ sym p.1) i)) did
 
 pub forget-requires-clause-within : goal.forget-requires-clause-within
 forget-requires-clause-within c =
-    let old : TracedView = record {
-      kernel = c.self.inside.kernel;
-      first = c.self.inside.first;
-      sessions = sents c.self.inside.peers.items;
-      trace = c.self.inside.trace.items;
-      ready = c.self.inside.ready;
-    } in
+    let old = seen c.self.inside in
     let mode : mode_at c.self.inside.kernel c.args.number ≡ Some c.in-Some.mode = sym c.mode.ensures ∙ c.in-Some.is in
     let f = sound_found old (inputs c.self.inside.peers.items) (inputs c.find.new.peers.items) c.args.number c.in-Some.mode c.in-Ok.is_found
     mode c.self.invariant c.in-Ok.ensures.input in
@@ -250,13 +167,8 @@ forget-requires-clause-within c =
 
 pub invariant_of-self-2 : goal.invariant_of-self-2
 invariant_of-self-2 c =
-    let old : TracedView = record {
-      kernel = c.self.inside.kernel;
-      first = c.self.inside.first;
-      sessions = sents c.self.inside.peers.items;
-      trace = c.self.inside.trace.items;
-      ready = c.self.inside.ready;
-    } in
+    let old = seen c.self.inside in
+    let after = view_of c.exec.new.self c.self.inside.first c.forget.new.peers.items c.push_reserved.new.self.items c.self.inside.ready in
     let mode : mode_at c.self.inside.kernel c.args.number ≡ Some c.in-Some.mode = sym c.mode.ensures ∙ c.in-Some.is in
     let f = sound_found old (inputs c.self.inside.peers.items) (inputs c.find.new.peers.items) c.args.number c.in-Some.mode c.in-Ok.is_found
     mode c.self.invariant c.in-Ok.ensures.input in
@@ -266,13 +178,7 @@ invariant_of-self-2 c =
     (c.found.ensures f.1.0 f.1.1)) in
     let done = tested_ok of_exec Memory (exec_refusal c.self.inside.kernel c.args.number c.in-Some-found.message.now) c.self.inside.kernel
     c.exec.new.self c.in_ok-answered.answered _ c.in_ok-answered.ensures in
-    sound_serves old (record {
-      kernel = c.exec.new.self;
-      first = c.self.inside.first;
-      sessions = sents c.forget.new.peers.items;
-      trace = c.push_reserved.new.self.items;
-      ready = c.self.inside.ready;
-    }) (inputs c.find.new.peers.items)
+    sound_serves old after (inputs c.find.new.peers.items)
     (inputs c.forget.new.peers.items) c.args.number c.args.moment c.in-Some-found.message.now there.rest c.in_ok-answered.answered
     there.input there.next_is
     (record {
@@ -286,13 +192,8 @@ invariant_of-self-2 c =
 
 pub returns : goal.returns
 returns c =
-    let old : TracedView = record {
-      kernel = c.self.inside.kernel;
-      first = c.self.inside.first;
-      sessions = sents c.self.inside.peers.items;
-      trace = c.self.inside.trace.items;
-      ready = c.self.inside.ready;
-    } in
+    let old = seen c.self.inside in
+    let after = view_of c.exec.new.self c.self.inside.first c.forget.new.peers.items c.push_reserved.new.self.items c.self.inside.ready in
     let mode : mode_at c.self.inside.kernel c.args.number ≡ Some c.in-Some.mode = sym c.mode.ensures ∙ c.in-Some.is in
     let f = sound_found old (inputs c.self.inside.peers.items) (inputs c.find.new.peers.items) c.args.number c.in-Some.mode c.in-Ok.is_found
     mode c.self.invariant c.in-Ok.ensures.input in
@@ -303,20 +204,8 @@ returns c =
     let done = tested_ok of_exec Memory (exec_refusal c.self.inside.kernel c.args.number c.in-Some-found.message.now) c.self.inside.kernel
     c.exec.new.self c.in_ok-answered.answered _ c.in_ok-answered.ensures in
     subst (λ (s : TracedView). DidAt s c.args.number c.args.moment (Ok (Some c.in_ok-answered.answered))
-    (record {
-      kernel = c.exec.new.self;
-      first = c.self.inside.first;
-      sessions = sents c.forget.new.peers.items;
-      trace = c.push_reserved.new.self.items;
-      ready = c.self.inside.ready;
-    })) c.self.view_is
-    (did_serve old (record {
-      kernel = c.exec.new.self;
-      first = c.self.inside.first;
-      sessions = sents c.forget.new.peers.items;
-      trace = c.push_reserved.new.self.items;
-      ready = c.self.inside.ready;
-    }) c.args.number c.args.moment c.in-Some.mode
+    after) c.self.view_is
+    (did_serve old after c.args.number c.args.moment c.in-Some.mode
     (c.in-Some-found.message.now, there.rest) c.in_ok-answered.answered mode there.next_is done.0
     (record {
       kernel = done.1;

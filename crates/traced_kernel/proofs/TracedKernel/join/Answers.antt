@@ -4,21 +4,15 @@ use Rattle.kernel.specs.Errors.{of_join}
 use Rattle.kernel.specs.Kernel.{join_refusal, joined}
 use Rattle.kernel.specs.declared.errors.JoinError.TheVariants.{Memory}
 use Rattle.traced_kernel.specs.Events.{joins}
-use Rattle.traced_kernel.specs.Fields.{inputs, sent_of, sents}
-use Rattle.traced_kernel.specs.Traced.{Sent, TracedView, nobody}
+use Rattle.traced_kernel.specs.Fields.{inputs, seen, sent_of, sents}
+use Rattle.traced_kernel.specs.Traced.{Sent, nobody}
 use Rattle.traced_kernel.specs.declared.peer.Peer.{Peer}
 use Rattle.traced_kernel.proofs.Sound.{IsSound-along, sound_joins, tested_ok}
 use Rattle.traced_kernel.proofs.TracedKernel.join.Goals as goal
 
 pub invariant_of-self-2 : goal.invariant_of-self-2
 invariant_of-self-2 c =
-    let old : TracedView = record {
-      kernel = c.self.inside.kernel;
-      first = c.self.inside.first;
-      sessions = sents c.self.inside.peers.items;
-      trace = c.self.inside.trace.items;
-      ready = c.self.inside.ready;
-    } in
+    let old = seen c.self.inside in
     let done = tested_ok of_join Memory (join_refusal c.self.inside.kernel) c.self.inside.kernel c.join.new.self c.in_ok-number.number _
     c.in_ok-number.ensures in
     let kernel : c.join.new.self ≡ joined c.self.inside.kernel = done.1.1 in

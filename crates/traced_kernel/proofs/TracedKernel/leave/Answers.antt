@@ -2,7 +2,7 @@ use Rattle.std.proofs.Common.{◌≡◌, ◌∙◌, sym, subst, None, arith}
 use Rattle.kernel.specs.Kernel.{seat_of}
 use Rattle.model.proofs.LawfulLaws.{none_by_test}
 use Rattle.traced_kernel.specs.Events.{leaves}
-use Rattle.traced_kernel.specs.Fields.{inputs, sents}
+use Rattle.traced_kernel.specs.Fields.{inputs, seen}
 use Rattle.traced_kernel.specs.Traced.{TracedView}
 use Rattle.traced_kernel.proofs.Inputs.{some_some}
 use Rattle.traced_kernel.proofs.Peers.{same-length}
@@ -11,38 +11,20 @@ use Rattle.traced_kernel.proofs.TracedKernel.leave.Goals as goal
 
 pub returns-then-not-has : goal.returns-then-not-has
 returns-then-not-has c =
-    let old : TracedView = record {
-      kernel = c.self.inside.kernel;
-      first = c.self.inside.first;
-      sessions = sents c.self.inside.peers.items;
-      trace = c.self.inside.trace.items;
-      ready = c.self.inside.ready;
-    } in
+    let old = seen c.self.inside in
     let none : seat_of c.self.inside.kernel c.args.number ≡ None = none_by_test _ (sym c.has.ensures ∙ c.if-not-has.true) in
     subst (λ (s : TracedView). s ≡ leaves s c.args.number) c.self.view_is (sym (leaves_none old c.args.number none))
 
 pub leave-requires-clause-within : goal.leave-requires-clause-within
 leave-requires-clause-within c =
-    let old : TracedView = record {
-      kernel = c.self.inside.kernel;
-      first = c.self.inside.first;
-      sessions = sents c.self.inside.peers.items;
-      trace = c.self.inside.trace.items;
-      ready = c.self.inside.ready;
-    } in
+    let old = seen c.self.inside in
     let seat = some_some (seat_of c.self.inside.kernel c.args.number) (sym c.has.ensures ∙ c.if-not-has.false) in
     let place = there_numbered old (inputs c.self.inside.peers.items) c.args.number seat.0 seat.1 c.self.invariant in
     omega (arith, place.1, same-length c.self.inside.peers.items)
 
 pub invariant_of-self : goal.invariant_of-self
 invariant_of-self c =
-    let old : TracedView = record {
-      kernel = c.self.inside.kernel;
-      first = c.self.inside.first;
-      sessions = sents c.self.inside.peers.items;
-      trace = c.self.inside.trace.items;
-      ready = c.self.inside.ready;
-    } in
+    let old = seen c.self.inside in
     let seat = some_some (seat_of c.self.inside.kernel c.args.number) (sym c.has.ensures ∙ c.if-not-has.false) in
     IsSound-along {old = leaves old c.args.number}
     (λ i. record {

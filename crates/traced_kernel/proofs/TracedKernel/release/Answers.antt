@@ -1,8 +1,8 @@
 use Rattle.std.proofs.Common.{◌∙◌, sym, subst, List, length}
 use Rattle.outbox.specs.Queue.{ReadyEntry}
 use Rattle.traced_kernel.specs.Events.{releases, with_released}
-use Rattle.traced_kernel.specs.Fields.{AreKnown, HaveRoom, given_in, inputs, sents}
-use Rattle.traced_kernel.specs.Traced.{Sent, TracedView}
+use Rattle.traced_kernel.specs.Fields.{AreKnown, HaveRoom, given_in, inputs, seen, sents}
+use Rattle.traced_kernel.specs.Traced.{Sent}
 use Rattle.traced_kernel.proofs.Room.{ready_room}
 use Rattle.traced_kernel.proofs.Sessions.{ready_known}
 use Rattle.traced_kernel.proofs.Sound.{IsSound-along, sound_releases}
@@ -23,13 +23,7 @@ file-requires-clause-room c =
 
 pub invariant_of-self-2 : goal.invariant_of-self-2
 invariant_of-self-2 c =
-    let old : TracedView = record {
-      kernel = c.self.inside.kernel;
-      first = c.self.inside.first;
-      sessions = sents c.self.inside.peers.items;
-      trace = c.self.inside.trace.items;
-      ready = c.self.inside.ready;
-    } in
+    let old = seen c.self.inside in
     IsSound-along {old = releases old}
     (λ i. record {
       kernel = c.take_ready.ensures.kept i;

@@ -3,8 +3,8 @@ use Rattle.outbox.specs.Queue.{ReadyEntry}
 use Rattle.kernel.specs.Kernel.{released_of}
 use Rattle.seats.specs.Seats.{ready_of}
 use Rattle.traced_kernel.specs.Events.{releases_of, with_released}
-use Rattle.traced_kernel.specs.Fields.{AreKnown, HaveRoom, given_in, inputs, sents}
-use Rattle.traced_kernel.specs.Traced.{Sent, TracedView}
+use Rattle.traced_kernel.specs.Fields.{AreKnown, HaveRoom, given_in, inputs, sents, view_of}
+use Rattle.traced_kernel.specs.Traced.{Sent}
 use Rattle.traced_kernel.proofs.Room.{one_room}
 use Rattle.traced_kernel.proofs.Sessions.{one_known}
 use Rattle.traced_kernel.proofs.Sound.{IsSound-along, sound_releases_of}
@@ -34,13 +34,7 @@ invariant_of-self-2 c =
     ∙ ap (λ es. es ++ (ready_of k.durable es c.args.number k.seats).entries) c.clear.ensures in
     let kept : c.give_ready.new.self ≡ released_of k [] c.args.number = c.give_ready.ensures.kept
     ∙ ap (λ es. released_of k es c.args.number) c.clear.ensures in
-    let old : TracedView = record {
-      kernel = k;
-      first = c.self.inside.first;
-      sessions = sents c.self.inside.peers.items;
-      trace = c.self.inside.trace.items;
-      ready = c.self.inside.ready;
-    } in
+    let old = view_of k c.self.inside.first c.self.inside.peers.items c.self.inside.trace.items c.self.inside.ready in
     IsSound-along {old = releases_of old c.args.number}
     (λ i. record {
       kernel = kept i;
