@@ -1,6 +1,6 @@
 -- What `exec` does, from its parts.
 use Rattle.std.proofs.Common.{◌≡◌, ◌≢◌, ◌⊎◌, inl, inr, ℕ, zero, suc, ◌≤◌, Bool, true, false, List, [], ◌∷◌, length, refl, ap, sym, ◌∙◌}
-use Rattle.std.proofs.Common.{subst, arith, set}
+use Rattle.std.proofs.Common.{subst, arith, get_or, set}
 use Rattle.std.specs.Prelude.{Option, Some, None, Result, Ok, Err, MatchResult, IsSome, is_none, is_some, not, ◌||◌, ◌&&◌, bytes_eq, nat_le}
 use Rattle.std.specs.Prelude.{nat_lt, slice_get, slice_index_or, if◌then◌else◌}
 use Rattle.std.proofs.Math.Bool.{or-false, or-true}
@@ -25,7 +25,7 @@ use Rattle.model.specs.declared.message.Mark.{Mark}
 use Rattle.model.specs.declared.message.Mark.TheVariants as mark
 use Rattle.model.specs.declared.message.Mode.{Mode}
 use Rattle.session.specs.Served.{lacks_room_for}
-use Rattle.spool.specs.View.{SpoolView}
+use Rattle.spool.specs.View.{IsSpool, SpoolView}
 use Rattle.spool.specs.View as changed
 use Rattle.std.specs.Cmp.{both_ways}
 use Rattle.std.specs.List.{Contains}
@@ -36,7 +36,9 @@ use Rattle.seats.specs.Seats.{Seat, answered_by, with_seat}
 use Rattle.seats.specs.Kept.{RiseFrom}
 use Rattle.kernel.specs.Serving.{Grows, answer_in, mark_in}
 use Rattle.kernel.specs.Stored.{kernel_of}
-use Rattle.kernel.proofs.KernelLaws.{grown, mode_found, only_blocks_change}
+use Rattle.kernel.specs.Kept.{IsKept}
+use Rattle.kernel.specs.declared.Kernel.TheInside.{Inside}
+use Rattle.kernel.proofs.KernelLaws.{grown, kept_served, mode_found, only_blocks_change, same_place}
 use Rattle.seats.proofs.SeatsLaws.{RiseFrom-set, find_at, set_get, with_seat_set}
 use Rattle.kernel.proofs.TakingLaws.{among, contained}
 
@@ -170,104 +172,186 @@ set_same at [] seat new is same = absurd (cc is)
 set_same zero (first ∷ seats) seat new is same = let this : new ≡ first = cc (is, same) in ap (λ (x : Seat). x ∷ seats) this
 set_same (suc at) (first ∷ seats) seat new is same = ap (λ (xs : List Seat). first ∷ xs) (set_same at seats seat new is same)
 
+-- ---- what the code finds of an option
+
+some_of : {T : Type 0} (b : Bool) (o : Option T) → is_some o ≡ not b → b ≡ false → IsSome o
+some_of b o is off = is ∙ ap not off
+
+not_none : {T : Type 0} (o : Option T) → IsSome o → is_none o ≡ false
+not_none None is = absurd (cc is)
+not_none (Some x) is = refl
+
+none_of : {T : Type 0} (b : Bool) (o : Option T) → is_some o ≡ not b → b ≡ true → o ≡ None
+none_of b None is yes_it = refl
+none_of b (Some x) is yes_it = absurd (cc (is, ap not yes_it))
+
 -- ---- one session's message
 
-module _ (s : SpoolView) (d : ℕ) (f : Option ℕ) (h : Bool) (j : ℕ) (seats : List Seat) (at : ℕ) (seat : Seat) (sid : ℕ) (m : Message)
-    (t : ℕ) (rise : RiseFrom 0 seats) (place : slice_get seats at ≡ Some seat) (number : seat.number ≡ sid) where
-  abbrev was : KernelView
-  was = kernel_of s d f h j seats
+-- A message that comes to a session: the kernel's fields, the session's place and number, the message, the moment, and the
+-- session as the kernel keeps it and as the code reads it.
+pub record Case : Type 0 where
+  pub inside : Inside
+  pub at : ℕ
+  pub sid : ℕ
+  pub message : Message
+  pub moment : ℕ
+  pub seat : Seat
+  pub read : Seat
+  pub rise : RiseFrom 0 inside.seats.items
+  pub place : slice_get inside.seats.items at ≡ Some seat
+  pub number : seat.number ≡ sid
+  pub same : read ≡ seat
 
-  pub mode_is : mode_at was sid ≡ mode_of seat.session.awaits
-  mode_is = ap (mode_at was) (sym number) ∙ mode_found was at seat rise place
-
-  there : seat_of was sid ≡ Some seat
-  there = ap (seat_of was) (sym number) ∙ find_at 0 at seats seat rise place
-
-  pub buffered_is : buffered was sid ≡ octets_held seat.held
-  buffered_is = ap buffered_by there
-    where
-      buffered_by : Option Seat → ℕ
-      buffered_by None = 0
-      buffered_by (Some x) = octets_held x.held
-
-  -- a test fails
-  pub refused : (old : KernelView) (read : Seat) (r : Refusal) (e : ExecError) → was ≡ old → read ≡ seat → exec_refusal was sid m ≡ Some r
-      → e ≡ of_exec r
-      → Tested of_exec Memory (exec_refusal old sid m) old (kernel_of s d f h j (set seats at read)) (Err e)
-      (Execs old (kernel_of s d f h j (set seats at read)) sid m t)
-  refused old read r e v same fails error =
-      let new : KernelView = kernel_of s d f h j (set seats at read) in
-      subst (λ (o : KernelView). Tested of_exec Memory (exec_refusal o sid m) o new (Err e) (Execs o new sid m t)) v
-      (tested_refused of_exec Memory (exec_refusal was sid m) r was new (Err e) (Execs was new sid m t) fails
-      (ap (λ (x : ExecError). Err x) error) (ap (λ (xs : List Seat). kernel_of s d f h j xs) (set_same at seats seat read place same)))
-
-  -- memory is refused
-  pub out_of_memory : (old : KernelView) (s' : SpoolView) (read : Seat) → was ≡ old → read ≡ seat → s' ≡ s → exec_refusal was sid m ≡ None
-      → Tested of_exec Memory (exec_refusal old sid m) old (kernel_of s' d f h j (set seats at read)) (Err Memory)
-      (Execs old (kernel_of s' d f h j (set seats at read)) sid m t)
-  out_of_memory old s' read v same spool passes =
-      let new : KernelView = kernel_of s' d f h j (set seats at read) in
-      subst (λ (o : KernelView). Tested of_exec Memory (exec_refusal o sid m) o new (Err Memory) (Execs o new sid m t)) v
-      (tested_done of_exec Memory (exec_refusal was sid m) was new (Err Memory) (Execs was new sid m t) passes (
-        refl,
-        λ i. kernel_of (spool i) d f h j (set_same at seats seat read place same i),
-      ))
-
-  -- the message is served
-  pub done : (old : KernelView) (s' : SpoolView) (seat' : Seat) (answered : Option Mode × Mark) → was ≡ old → exec_refusal was sid m ≡ None
-      → answered.1 ≡ mark_for was seat.session m t
-      → Grows s s' (answer_in s seat.session m t answered.1).change → seat' ≡ answered_by s.host s.changes m t answered.1 seat
-      → answered.0 ≡ mode_of seat'.session.awaits
-      → Tested of_exec Memory (exec_refusal old sid m) old (kernel_of s' d f h j (set seats at seat')) (Ok answered)
-      (Execs old (kernel_of s' d f h j (set seats at seat')) sid m t)
-  done old s' seat' answered v passes marked grows is next =
-      let new : KernelView = kernel_of s' d f h j (set seats at seat') in
-      let same : seat'.number ≡ seat.number = ap (λ (x : Seat). x.number) is in
-      let read = mode_found new at seat' (RiseFrom-set 0 at seats seat seat' rise place same) (set_get at seats seat seat' place) in
-      subst (λ (o : KernelView). Tested of_exec Memory (exec_refusal o sid m) o new (Ok answered) (Execs o new sid m t)) v
-      (tested_done of_exec Memory (exec_refusal was sid m) was new (Ok answered) (Execs was new sid m t) passes
-      (record {
-        seat = seat;
-        is_there = there;
-        mark_is = marked;
-        executed = executes s s' d f h j seats at seat seat' m t answered.1 rise place grows is;
-        reads_next = next ∙ (sym read ∙ ap (mode_at new) (same ∙ number));
-      }))
-
--- the mark, where the kernel is halted and where it is not
-pub stopped_mark : (s : SpoolView) (d : ℕ) (f : Option ℕ) (h : Bool) (j : ℕ) (seats : List Seat) (x : Session) (m : Message) (t : ℕ)
-    → h ≡ true → mark.Stopped ≡ mark_for (kernel_of s d f h j seats) x m t
-stopped_mark s d f h j seats x m t is =
-    sym (ap (λ (b : Bool). if b then mark.Stopped else if is_long s.host s.changes x m then mark.Long else if is_full
-    (length s.blocks) s.inodes s.changes (answer_in s x m t mark.Served).change then mark.Full else mark.Served) is)
+abbrev pub case_of : (inside : Inside) (items : List Seat) (at sid : ℕ) (m : Message) (t : ℕ) (read : Seat)
+    → RiseFrom 0 inside.seats.items → items ≡ inside.seats.items
+    → (x : Seat) × (slice_get items at ≡ Some x) × (x.number ≡ sid) → read ≡ get_or inside.seats.items at read → Case
+case_of inside items at sid m t read rise here its from =
+    let place = subst (λ (xs : List Seat). slice_get xs at ≡ Some its.0) here its.1 in
+    record {
+      inside = inside;
+      at = at;
+      sid = sid;
+      message = m;
+      moment = t;
+      seat = its.0;
+      read = read;
+      rise = rise;
+      place = place;
+      number = its.2;
+      same = same_place at inside.seats.items read its.0 place from;
+    }
 
 room_is : (blocks inodes : ℕ) (S : Spool) (change : Option Change)
     → lacks_room_for (λ c. is_full blocks inodes S (Some c)) change ≡ is_full blocks inodes S change
 room_is blocks inodes S None = refl
 room_is blocks inodes S (Some c) = refl
 
-pub served_mark : (s : SpoolView) (d : ℕ) (f : Option ℕ) (h : Bool) (j : ℕ) (seats : List Seat) (x : Session) (m : Message) (t : ℕ)
-    → h ≡ false → mark_in s x m t ≡ mark_for (kernel_of s d f h j seats) x m t
-served_mark s d f h j seats x m t is =
-    ap (λ (b : Bool). if is_long s.host s.changes x m then mark.Long else if b then mark.Full else mark.Served)
-    (room_is (length s.blocks) s.inodes s.changes (answer_in s x m t mark.Served).change)
-    ∙ sym (ap (λ (b : Bool). if b then mark.Stopped else if is_long s.host s.changes x m then mark.Long else if is_full
-    (length s.blocks) s.inodes s.changes (answer_in s x m t mark.Served).change then mark.Full else mark.Served) is)
+module _ (k : Case) where
+  abbrev i : Inside
+  i = k.inside
+
+  abbrev pub was : KernelView
+  was = kernel_of i.spool i.durable i.in_flight i.halted i.joined i.seats.items
+
+  -- the kernel with another spool, and another session in this one's place
+  abbrev with_one : SpoolView → Seat → KernelView
+  with_one s seat = kernel_of s i.durable i.in_flight i.halted i.joined (set i.seats.items k.at seat)
+
+  mode_is : mode_at was k.sid ≡ mode_of k.seat.session.awaits
+  mode_is = ap (mode_at was) (sym k.number) ∙ mode_found was k.at k.seat k.rise k.place
+
+  is_there : seat_of was k.sid ≡ Some k.seat
+  is_there = ap (seat_of was) (sym k.number) ∙ find_at 0 k.at i.seats.items k.seat k.rise k.place
+
+  -- the tests, as the code makes them
+  pub closed : (none : Bool) (mode : Option Mode) → mode ≡ mode_of k.read.session.awaits → is_some mode ≡ not none → none ≡ true
+      → mode_at was k.sid ≡ None
+  closed none mode reads is on =
+      mode_is ∙ ap (λ (x : Seat). mode_of x.session.awaits) (sym k.same) ∙ sym reads ∙ none_of none mode is on
+
+  pub awaits : (none : Bool) (mode : Option Mode) → mode ≡ mode_of k.read.session.awaits → is_some mode ≡ not none → none ≡ false
+      → IsSome (mode_of k.seat.session.awaits)
+  awaits none mode reads is off =
+      subst (λ (x : Seat). IsSome (mode_of x.session.awaits)) k.same
+      (subst (λ (o : Option Mode). IsSome o) reads (some_of none mode is off))
+
+  pub there : IsSome (mode_of k.seat.session.awaits) → is_none (mode_at was k.sid) ≡ false
+  there awaited = not_none (mode_at was k.sid) (subst (λ (o : Option Mode). IsSome o) (sym mode_is) awaited)
+
+  pub size : (held : ℕ) → held ≡ octets_held k.read.held → buffered was k.sid ≡ held
+  size held is = ap buffered_by is_there ∙ (ap (λ (x : Seat). octets_held x.held) (sym k.same) ∙ sym is)
+    where
+      buffered_by : Option Seat → ℕ
+      buffered_by None = 0
+      buffered_by (Some x) = octets_held x.held
+
+  answered_seat : (seat : Seat) (mark : Mark) → seat ≡ answered_by i.spool.host i.spool.changes k.message k.moment mark k.read
+      → seat ≡ answered_by i.spool.host i.spool.changes k.message k.moment mark k.seat
+  answered_seat seat mark is = is ∙ ap (answered_by i.spool.host i.spool.changes k.message k.moment mark) k.same
+
+  -- what the kernel keeps, it still keeps after the answer
+  pub kept_answered : (s : SpoolView) (seat : Seat) (mark : Mark) → IsSome (mode_of k.seat.session.awaits)
+      → (IsSome (answer_in i.spool k.seat.session k.message k.moment mark).change → length i.spool.dirty ≤ 256)
+      → (IsSome (answer_in i.spool k.seat.session k.message k.moment mark).change → IsSpool s)
+      → Grows i.spool s (answer_in i.spool k.seat.session k.message k.moment mark).change
+      → seat ≡ answered_by i.spool.host i.spool.changes k.message k.moment mark k.read → IsKept was → IsKept (with_one s seat)
+  kept_answered s seat mark awaited room sound grows is =
+      kept_served i.spool s i.durable i.in_flight i.halted i.joined i.seats.items k.at k.seat seat k.message k.moment mark k.place awaited
+      room sound grows (answered_seat seat mark is)
+
+  -- a test fails
+  pub refused : (old : KernelView) (r : Refusal) (e : ExecError) → was ≡ old → exec_refusal was k.sid k.message ≡ Some r → e ≡ of_exec r
+      → Tested of_exec Memory (exec_refusal old k.sid k.message) old (with_one i.spool k.read) (Err e)
+      (Execs old (with_one i.spool k.read) k.sid k.message k.moment)
+  refused old r e v fails error =
+      let new : KernelView = with_one i.spool k.read in
+      subst (λ (o : KernelView). Tested of_exec Memory (exec_refusal o k.sid k.message) o new (Err e)
+      (Execs o new k.sid k.message k.moment)) v
+      (tested_refused of_exec Memory (exec_refusal was k.sid k.message) r was new (Err e) (Execs was new k.sid k.message k.moment) fails
+      (ap (λ (x : ExecError). Err x) error)
+      (ap (λ (xs : List Seat). kernel_of i.spool i.durable i.in_flight i.halted i.joined xs)
+      (set_same k.at i.seats.items k.seat k.read k.place k.same)))
+
+  -- memory is refused
+  pub out_of_memory : (old : KernelView) (s : SpoolView) (seat : Seat) → was ≡ old → seat ≡ k.read → s ≡ i.spool
+      → exec_refusal was k.sid k.message ≡ None
+      → Tested of_exec Memory (exec_refusal old k.sid k.message) old (with_one s seat) (Err Memory)
+      (Execs old (with_one s seat) k.sid k.message k.moment)
+  out_of_memory old s seat v same spool passes =
+      let new : KernelView = with_one s seat in
+      subst (λ (o : KernelView). Tested of_exec Memory (exec_refusal o k.sid k.message) o new (Err Memory)
+      (Execs o new k.sid k.message k.moment)) v
+      (tested_done of_exec Memory (exec_refusal was k.sid k.message) was new (Err Memory) (Execs was new k.sid k.message k.moment) passes (
+        refl,
+        λ j. kernel_of (spool j) i.durable i.in_flight i.halted i.joined
+            (set_same k.at i.seats.items k.seat seat k.place (same ∙ k.same) j),
+      ))
+
+  -- the message is served
+  pub done : (old : KernelView) (s : SpoolView) (seat : Seat) (answered : Option Mode × Mark) → was ≡ old
+      → exec_refusal was k.sid k.message ≡ None → answered.1 ≡ mark_for was k.seat.session k.message k.moment
+      → Grows i.spool s (answer_in i.spool k.seat.session k.message k.moment answered.1).change
+      → seat ≡ answered_by i.spool.host i.spool.changes k.message k.moment answered.1 k.read → answered.0 ≡ mode_of seat.session.awaits
+      → Tested of_exec Memory (exec_refusal old k.sid k.message) old (with_one s seat) (Ok answered)
+      (Execs old (with_one s seat) k.sid k.message k.moment)
+  done old s seat answered v passes marked grows told next =
+      let new : KernelView = with_one s seat in
+      let is = answered_seat seat answered.1 told in
+      let same : seat.number ≡ k.seat.number = ap (λ (x : Seat). x.number) is in
+      let read = mode_found new k.at seat (RiseFrom-set 0 k.at i.seats.items k.seat seat k.rise k.place same)
+      (set_get k.at i.seats.items k.seat seat k.place) in
+      subst (λ (o : KernelView). Tested of_exec Memory (exec_refusal o k.sid k.message) o new (Ok answered)
+      (Execs o new k.sid k.message k.moment)) v
+      (tested_done of_exec Memory (exec_refusal was k.sid k.message) was new (Ok answered) (Execs was new k.sid k.message k.moment) passes
+      (record {
+        seat = k.seat;
+        is_there = is_there;
+        mark_is = marked;
+        executed = executes i.spool s i.durable i.in_flight i.halted i.joined i.seats.items k.at k.seat seat k.message k.moment answered.1
+            k.rise k.place grows is;
+        reads_next = next ∙ (sym read ∙ ap (mode_at new) (same ∙ k.number));
+      }))
+
+  -- the mark, where the kernel is halted and where it is not
+  abbrev mark_by : Bool → Mark
+  mark_by halted =
+      if halted then mark.Stopped else if is_long i.spool.host i.spool.changes k.seat.session k.message then mark.Long else if is_full
+      (length i.spool.blocks) i.spool.inodes i.spool.changes
+      (answer_in i.spool k.seat.session k.message k.moment mark.Served).change then mark.Full else mark.Served
+
+  pub stopped_mark : i.halted ≡ true → mark.Stopped ≡ mark_for was k.seat.session k.message k.moment
+  stopped_mark is = sym (ap mark_by is)
+
+  pub served_mark : i.halted ≡ false → mark_in i.spool k.seat.session k.message k.moment ≡ mark_for was k.seat.session k.message k.moment
+  served_mark is =
+      ap (λ (b : Bool). if is_long i.spool.host i.spool.changes k.seat.session k.message then mark.Long else if b then mark.Full
+      else mark.Served)
+      (room_is (length i.spool.blocks) i.spool.inodes i.spool.changes
+      (answer_in i.spool k.seat.session k.message k.moment mark.Served).change) ∙ sym (ap mark_by is)
 
 -- a session that is told that the service ends changes nothing
 pub stopped_stays : (s : SpoolView) (x : Session) (m : Message) (t : ℕ) → Grows s s (answer_in s x m t mark.Stopped).change
 stopped_stays s x m t = subst (λ (a : Answer). Grows s s a.change) (sym (stopped_answer s.host s.changes x m t)) refl
-
-pub some_of : {T : Type 0} (b : Bool) (o : Option T) → is_some o ≡ not b → b ≡ false → IsSome o
-some_of b o is off = is ∙ ap not off
-
-pub not_none : {T : Type 0} (o : Option T) → IsSome o → is_none o ≡ false
-not_none None is = absurd (cc is)
-not_none (Some x) is = refl
-
-pub none_of : {T : Type 0} (b : Bool) (o : Option T) → is_some o ≡ not b → b ≡ true → o ≡ None
-none_of b None is yes_it = refl
-none_of b (Some x) is yes_it = absurd (cc (is, ap not yes_it))
 
 pub stopped_changes_nothing : (s : SpoolView) (x : Session) (m : Message) (t : ℕ) → IsSome (answer_in s x m t mark.Stopped).change → ⊥
 stopped_changes_nothing s x m t some = let none = ap (λ (a : Answer). is_some a.change) (stopped_answer s.host s.changes x m t) in
