@@ -6,7 +6,7 @@ use Rattle.std.specs.List.{Contains, list_any}
 use Rattle.std.specs.Option.{option_and_then}
 use Rattle.std.proofs.lemmas.Bool.{and_parts, not-true, or_parts, true≢false}
 use Rattle.std.proofs.lemmas.List.{length-map}
-use Rattle.std.proofs.lemmas.Option.{same_Some, slice_get-get_or, slice_get_cases, slice_get_within}
+use Rattle.std.proofs.lemmas.Option.{same_Some, slice_get-get_or, slice_get_cases, slice_get_read, slice_get_within}
 use Rattle.model.specs.Stream.{Octets}
 use Rattle.model.specs.Article.{are_distinct, groups_of, overview_line}
 use Rattle.model.specs.Files.{File, table}
@@ -34,7 +34,7 @@ use Rattle.index.proofs.Callers.{overview_small}
 use Rattle.index.proofs.Growing.{filed_distinct, overview_size}
 use Rattle.index.proofs.Known.{count_is}
 use Rattle.spool_opening.proofs.Going.{high_is}
-use Rattle.spool_growing.specs.Articles.{ArePieces, ArePiecesOf, CanFile}
+use Rattle.spool_growing.specs.Articles.{ArePieces, ArePiecesOf, CanFile, CanFileIn}
 use Rattle.spool_growing.specs.Kept.{IsHeld}
 use Rattle.spool_growing.proofs.Absent.{LacksNames, group_files_lack, not_first}
 use Rattle.spool_growing.proofs.Held.{changes_are_few}
@@ -88,6 +88,27 @@ same_count S R x is also = sym (count_is S x is) ∙ count_is R x also
 pub kept_at : {X : Type 0} (sh : X → GroupIndex) (gs : List X) (S : Spool) (name : Octets) (k : ℕ) (x : X) (its : IsAt S name k)
     → map sh gs ≡ map (group_index S) (groups S) → slice_get gs k ≡ Some x → sh x ≡ group_index S its.group
 kept_at sh gs S name k x its same at = both_at sh (group_index S) gs (groups S) k x its.group same at its.at
+
+pub indexed_at : {X : Type 0} (sh : X → GroupIndex) (gs : List X) (S : Spool) (name : Octets) (k : ℕ) (x : X) (its : IsAt S name k)
+    → map sh gs ≡ map (group_index S) (groups S) → k < length (groups S) → x ≡ get_or gs k x → sh x ≡ group_index S its.group
+indexed_at sh gs S name k x its same low is =
+    let size : length gs ≡ length (groups S) = sym (length-map gs sh) ∙ ap (λ (l : List GroupIndex). length l) same
+    ∙ length-map (groups S) (group_index S) in
+    kept_at sh gs S name k x its same (slice_get_read gs (length (groups S)) k x (sym size) low is)
+
+-- the place that the index finds for a group of the article
+module _ (x : IndexView) (p : FilePlaces) (text g : Octets) (r : CanFileIn x p text g) (k : ℕ)
+    (found : slice_get (groups r.can.changes) k ≡ group_named r.can.changes g) where
+  pub place_below : k < length (groups r.can.changes)
+  place_below = at_place r.can.changes g k found (filed_here r.can.host r.can.changes _ g r.can.may r.has)
+
+  pub its_place : IsAt r.can.changes g k
+  its_place = is_at r.can.changes g k place_below found
+
+  pub read_place : {X : Type 0} (sh : X → GroupIndex) (gs : List X) (y : X)
+      → map sh gs ≡ map (group_index r.can.changes) (groups r.can.changes) → y ≡ get_or gs k y
+      → sh y ≡ group_index r.can.changes its_place.group
+  read_place sh gs y same is = indexed_at sh gs r.can.changes g k y its_place same place_below is
 
 -- where its files stand
 placed_at : (inodes : List (Option File)) (f : NewsGroup → File) (gs : List NewsGroup) (places : List ℕ) (k : ℕ) (g : NewsGroup)
