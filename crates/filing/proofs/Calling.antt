@@ -6,7 +6,7 @@ use Rattle.std.proofs.lemmas.List.{get_or-set_same, get_or-set_other}
 use Rattle.std.proofs.lemmas.List.Sums.{sum_by-append}
 use Rattle.std.proofs.lemmas.Bool.{cases_eq}
 use Rattle.model.specs.Stream.{Octets}
-use Rattle.model.specs.Files.{File, HasRoom, IsFile, IsFileSystem, entry, files_in, free_blocks, size, table}
+use Rattle.model.specs.Files.{File, HasRoom, IsFile, IsFileSystem, entry, files_in, free_blocks, size, table, largest_file}
 use Rattle.model.specs.Asked.{blocks_taken}
 use Rattle.model.specs.FileCalls.{FileCall, Create, Append, after_call, after_calls}
 use Rattle.model.proofs.Asking.{files_grow_by_blocks}
@@ -146,7 +146,7 @@ module _ (inodes at : ℕ) (blocks : List Octets) (room : HasRoom inodes blocks)
       sym (content_size blocks (entry inodes blocks at) room.blocks_whole (λ b owns. (rule.within at b its.below owns).1))
       ∙ ap (λ (o : Octets). length o) (sym its.content_is)
 
-  pub has_room : (more : ℕ) → length content + more ≤ 268435456 → blocks_for_more more ≤ free_blocks blocks
+  pub has_room : (more : ℕ) → length content + more ≤ largest_file → blocks_for_more more ≤ free_blocks blocks
       → HasRoomFor blocks (size (entry inodes blocks at)) (size (entry inodes blocks at) + more)
   has_room more small free =
       subst (λ (n : ℕ). HasRoomFor blocks n (n + more)) (sym its_size) (

@@ -3,7 +3,7 @@ use Rattle.std.specs.Prelude.{◌≡◌, ◌≢◌, ℕ, ◌+◌, ◌<◌, ◌�
 use Rattle.std.specs.Prelude.{Option, Some, None, option_map, IsPermutation}
 use Rattle.std.specs.List.{sum_by}
 use Rattle.model.specs.Stream.{Octets}
-use Rattle.model.specs.Files.{File, HasRoom, IsFileSystem, files_in, free_blocks, table}
+use Rattle.model.specs.Files.{File, HasRoom, IsFileSystem, files_in, free_blocks, table, largest_file}
 use Rattle.model.specs.Asked.{blocks_taken}
 pub use Rattle.model.specs.Asked.{blocks_for_more}
 use Rattle.model.specs.FileCalls.{FileCall, Create, Append, after_calls, making_calls}
@@ -36,7 +36,7 @@ pub record MayGrow (inodes at more : ℕ) (blocks : List Octets) : Type 0 where
   pub name : Octets
   pub content : Octets
   pub there : IsFileAt (table inodes blocks) at name content
-  pub small : length content + more ≤ 268435456
+  pub small : length content + more ≤ largest_file
 
 -- none of the first n inodes is free
 abbrev pub AreUsed : ℕ → List (Option File) → Type 0
@@ -74,13 +74,13 @@ pub record MakesAt (inodes at : ℕ) (name octets : Octets) (old new : List Octe
 -- ---- pieces
 
 -- the most octets that a piece may have
-abbrev pub most_octets : ℕ
-most_octets = 8_191
+abbrev pub largest_piece : ℕ
+largest_piece = 8_191
 
 -- each of the pieces has room in the file of its inode, and no two go to one file
 pub record MayAllGrow (inodes : ℕ) (pieces : List Piece) (blocks : List Octets) : Type 0 where
   pub each : (k : ℕ) (p : Piece) → slice_get pieces k ≡ Some p → MayGrow inodes p.at (length p.octets.items) blocks
-  pub small : (k : ℕ) (p : Piece) → slice_get pieces k ≡ Some p → length p.octets.items ≤ most_octets
+  pub small : (k : ℕ) (p : Piece) → slice_get pieces k ≡ Some p → length p.octets.items ≤ largest_piece
   pub apart : (j k : ℕ) (p q : Piece) → j < k → slice_get pieces j ≡ Some p → slice_get pieces k ≡ Some q → p.at ≢ q.at
 
 -- the call that appends a piece to its file

@@ -3,7 +3,7 @@
 #![tactic(auto)]
 
 ghost use Rattle.std.specs.Prelude.{◌≡◌, ◌+◌, ◌*◌, ◌/◌, ◌<◌, ◌≤◌, ℕ, List, length, IfOk, OnOk};
-ghost use Rattle.model.specs.Files.{HasRoom, IsFileSystem, files_in, free_blocks, table};
+ghost use Rattle.model.specs.Files.{HasRoom, IsFileSystem, files_in, free_blocks, table, largest_file};
 ghost use Rattle.fs.specs.Calls.{IsFileAt, IsName, IsThere};
 ghost use Rattle.fs.specs.Touches.{Touches, touched_by_growth};
 ghost use Rattle.filing.specs.Calls.{AppendsAt, AppendsFirst, CreatesAt, IsKnown, MakesAt, MayAllGrow, MayGrow, blocks_for_more};
@@ -94,7 +94,7 @@ pub fn make_file<B: Blocks>(
     requires name { IsName name.now }
     requires new { ¬ (IsThere (table inodes (B.blocks blocks.old)) name.now) }
     requires few { length (files_in (table inodes (B.blocks blocks.old))) < inodes }
-    requires small { length octets.now ≤ 268435456 }
+    requires small { length octets.now ≤ largest_file }
     requires free { blocks_for_more (length octets.now) ≤ free_blocks (B.blocks blocks.old) }
     requires known { IsKnown inodes free.old (B.blocks blocks.old) }
     ensures made { IfOk result (λ at. MakesAt inodes at name.now octets.now (B.blocks blocks.old) (B.blocks blocks.new)) }

@@ -2,11 +2,11 @@
 
 ghost use Rattle.std.specs.Prelude.{◌≡◌, ◌≢◌, ℕ, ◌+◌, ◌-◌, ◌++◌, ◌≤◌, List, length, take, drop, replicate, IfErr, IfOk, OnOk};
 ghost use Rattle.disk.specs.Image.{overwritten};
-ghost use Rattle.model.specs.Files.{AreWithin, HasRoom, IsFileSystem, table};
+ghost use Rattle.model.specs.Files.{AreWithin, HasRoom, IsFileSystem, table, most_octets};
 ghost use Rattle.fs.specs.Calls.{IsName, IsThere, IsFileAt, HasNoRoomFor};
 ghost use Rattle.fs.specs.Changes.{Rewrites};
 ghost use Rattle.fs.specs.Touches.{Touches, touched_by_growth, touched_by_truncation, touched_by_write};
-ghost use Rattle.fs.specs.Growing.{Appends, CannotGrow, most_octets};
+ghost use Rattle.fs.specs.Growing.{Appends, CannotGrow};
 
 use fs_inodes::{extend, extend_zeros, has_room_for, overwrite, read_entry, shrink_to};
 use fs_layout::FsError;

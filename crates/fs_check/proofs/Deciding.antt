@@ -1,13 +1,14 @@
 -- Entries by their kind.
-use Rattle.std.proofs.Common.{◌≡◌, ◌≢◌, ◌⊎◌, ◌↔◌, inl, inr, ◌<◌, ◌≤◌, ℕ, ◌+◌, ◌-◌, ◌*◌, ◌/◌, cond, eqb, Bool, true, false, List, [], length}
-use Rattle.std.proofs.Common.{sym, ◌∙◌, ap, arith}
-use Rattle.std.proofs.lemmas.Bool.{cases_eq, cases_lt, eq-eqb, ne_eqb}
+use Rattle.model.specs.Files.{largest_file, largest_file_one, most_octets}
+use Rattle.std.proofs.Common.{◌≡◌, ◌≢◌, ◌↔◌, inl, inr, ◌<◌, ◌≤◌, ℕ, cond, eqb, Bool, true, false}
+use Rattle.std.proofs.Common.{arith}
+use Rattle.std.proofs.lemmas.Bool.{cases_eq, cases_lt}
 use Rattle.model.specs.Files.{FileEntry, IsFile, IsFree, double_pointer, indirect_count, indirect_pointer, kind, size}
 use Rattle.model.proofs.Owning.{zero_number, free_kind}
-use Rattle.fs_check.specs.Checking.{CanRead, HasNumber, IsSlot, HasPointers, IsEntry, most_octets}
+use Rattle.fs_check.specs.Checking.{CanRead, HasNumber, IsSlot, HasPointers, IsEntry}
 
 module _ (first count : ℕ) (e : FileEntry) where
-  pub entry_from_file : (most : ℕ) → most ≤ 268435456 → first ≢ 0 → kind e ≡ 1 → IsSlot e.slot → HasPointers most first count e
+  pub entry_from_file : (most : ℕ) → most ≤ largest_file → first ≢ 0 → kind e ≡ 1 → IsSlot e.slot → HasPointers most first count e
       → IsEntry first count e × (size e ≤ most)
   entry_from_file most few some is slot pointers = (
     inr (
@@ -80,9 +81,9 @@ can_read first count e file double table = record {
   ];
 }
 
-pub most_few : (format : ℕ) → most_octets format ≤ 268435456
+pub most_few : (format : ℕ) → most_octets format ≤ largest_file
 most_few format = by_test (eqb format 1) where
-  by_test : (b : Bool) → cond b 4235264 268435456 ≤ 268435456
+  by_test : (b : Bool) → cond b largest_file_one largest_file ≤ largest_file
   by_test true = omega arith
   by_test false = omega arith
 

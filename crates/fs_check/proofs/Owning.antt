@@ -1,16 +1,16 @@
 -- What entries own, marked one entry after the other.
-use Rattle.std.proofs.Common.{◌≡◌, ◌≢◌, ◌⊎◌, inl, inr, ◌<◌, ◌≤◌, ℕ, zero, suc, ◌+◌, ◌*◌, ◌/◌, cond, Bool, true, false, List, [], ◌∷◌, ◌++◌}
-use Rattle.std.proofs.Common.{length, map, refl, sym, ◌∙◌, ap, subst, arith}
-use Rattle.std.specs.List.{Contains, range_with_len}
-use Rattle.std.proofs.lemmas.Bool.{cases_lt, false≢true, false_from_ne_true, ne_eqb, eq-eqb}
+use Rattle.std.proofs.Common.{◌≡◌, ◌≢◌, inl, inr, ◌<◌, ◌≤◌, ℕ, ◌+◌, List}
+use Rattle.std.proofs.Common.{length, sym, ◌∙◌, subst, arith}
+use Rattle.std.specs.List.{Contains}
+use Rattle.std.proofs.lemmas.Bool.{cases_lt, false≢true, false_from_ne_true}
 use Rattle.model.specs.Stream.{Octets}
-use Rattle.model.specs.Volume.{number_at, AreDistinct}
-use Rattle.model.specs.Files.{FileEntry, size, double_pointer, indirect_count, indirect_pointer, owned, entry, first_data}
+use Rattle.model.specs.Volume.{AreDistinct}
+use Rattle.model.specs.Files.{FileEntry, size, double_pointer, indirect_count, indirect_pointer, owned, entry, first_data, largest_file}
 use Rattle.model.proofs.Owning.{zero_number}
-use Rattle.fs_layout.specs.Bits.{bit_of, SetsBit}
+use Rattle.fs_layout.specs.Bits.{bit_of}
 use Rattle.fs_check.specs.Checking.{IsEntry, CanMark, HasNumber, Marks, HasOwners, IsUsedBelow, MarksUsed}
 
-pub entry_small : (first count : ℕ) (e : FileEntry) → IsEntry first count e → size e ≤ 268435456
+pub entry_small : (first count : ℕ) (e : FileEntry) → IsEntry first count e → size e ≤ largest_file
 entry_small first count e (inl free) = omega (arith, zero_number 4 8 e.inode free.inode_zeros)
 entry_small first count e (inr file) = omega (arith, file.0.small)
 

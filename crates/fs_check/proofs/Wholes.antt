@@ -3,7 +3,7 @@ use Rattle.std.proofs.Common.{◌≡◌, ◌≢◌, ◌<◌, ◌≤◌, ℕ, ◌
 use Rattle.std.specs.List.{range_with_len}
 use Rattle.model.specs.Stream.{Octets}
 use Rattle.model.specs.Volume.{number_at}
-use Rattle.model.specs.Files.{FileEntry, block_count, double_blocks, double_pointer, entry, entry_of, first_data, indirect_count}
+use Rattle.model.specs.Files.{FileEntry, block_count, double_blocks, entry, entry_of, first_data, indirect_count}
 use Rattle.model.specs.Files.{indirect_for}
 use Rattle.model.specs.Files.{indirect_pointer, inode_of, owned, pointer}
 use Rattle.fs_check.specs.Checking.{CanMark, IsEntry, Marks}

@@ -1,5 +1,5 @@
 -- What the passes of the check decide.
-use Rattle.std.specs.Prelude.{◌≡◌, ◌≢◌, ◌⊎◌, ◌<◌, ◌≤◌, ◌↔◌, ℕ, ◌==◌, if◌then◌else◌, false, List, length, Contains, IsTrue}
+use Rattle.std.specs.Prelude.{◌≡◌, ◌⊎◌, ◌<◌, ◌≤◌, ◌↔◌, ℕ, false, List, length, Contains, IsTrue}
 use Rattle.model.specs.Stream.{Octets}
 use Rattle.model.specs.Volume.{number_at, AreDistinct}
 use Rattle.model.specs.Files.{FileEntry, IsFile, IsFree, size, block_count, double_pointer, indirect_count, indirect_pointer, pointer}
@@ -12,10 +12,6 @@ pub record IsSlot (slot : Octets) : Type 0 where
   pub name_some : 1 ≤ length (name_in slot)
   pub name_few : length (name_in slot) ≤ 63
   pub slot_is : slot ≡ slot_octets (name_in slot)
-
--- the octets of the largest file in a volume of this format
-abbrev pub most_octets : ℕ → ℕ
-most_octets format = if format == 1 then 4235264 else 268435456
 
 -- the number at a place: that of a block within the data if the place is one of the first `many`, or else 0
 abbrev pub HasNumber : ℕ → ℕ → ℕ → ℕ → ℕ → Type 0

@@ -3,9 +3,9 @@
 ghost use Rattle.std.specs.Prelude.{◌≡◌, ◌⊎◌, ℕ, ◌-◌, ◌/◌, ◌<◌, ◌≤◌, ◌↔◌, [], length, IsTrue};
 ghost use Rattle.std.specs.List.{All};
 ghost use Rattle.model.specs.Volume.{number_at};
-ghost use Rattle.model.specs.Files.{HasRoom, entry_of, indirect_for, indirect_pointer, pointer, first_data};
+ghost use Rattle.model.specs.Files.{HasRoom, entry_of, indirect_for, indirect_pointer, pointer, first_data, most_octets};
 ghost use Rattle.fs_layout.specs.Blocks.{IsThere};
-ghost use Rattle.fs_check.specs.Checking.{IsSlot, HasNumber, HasTables, HasPointers, HasSmallEntry, most_octets};
+ghost use Rattle.fs_check.specs.Checking.{IsSlot, HasNumber, HasTables, HasPointers, HasSmallEntry};
 
 use fs_layout::inodes::{
     BLOCK_POINTERS, DIRECT_POINTERS, DOUBLE_AT, INODES_AT, SIZE_AT, SPARE_AT, content_blocks,

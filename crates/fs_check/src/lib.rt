@@ -2,8 +2,8 @@
 #![tactic(auto)]
 
 ghost use Rattle.std.specs.Prelude.{◌≡◌, ◌⊎◌, ℕ, ◌<◌, ◌↔◌, IfErr, IfOk, IsTrue};
-ghost use Rattle.model.specs.Files.{AreWithin, HasRoom, IsFileSystem};
-ghost use Rattle.fs_check.specs.Checking.{HasEntry, HasSmallEntry, HasDistinctNames, most_octets};
+ghost use Rattle.model.specs.Files.{AreWithin, HasRoom, IsFileSystem, most_octets};
+ghost use Rattle.fs_check.specs.Checking.{HasEntry, HasSmallEntry, HasDistinctNames};
 
 use crate::entry::{data_start, is_entry};
 use crate::marks::{is_bitmap, mark_owners};

@@ -1,10 +1,9 @@
 -- One block more.
-use Rattle.std.proofs.Common.{◌≡◌, ◌≢◌, inl, inr, ◌<◌, ◌≤◌, ℕ, ◌+◌, ◌-◌, ◌/◌, cond, eqb, ltb, true, Bool, List, [], ◌∷◌, ◌++◌, length}
+use Rattle.std.proofs.Common.{◌≡◌, inl, inr, ◌<◌, ◌≤◌, ℕ, ◌+◌, ◌-◌, ◌/◌, cond, eqb, List, [], ◌∷◌, ◌++◌, length}
 use Rattle.std.proofs.Common.{get_or, sym, ◌∙◌, ap, subst, arith, append_assoc}
-use Rattle.std.proofs.lemmas.Bool.{cases_lt}
 use Rattle.model.specs.Stream.{Octets}
 use Rattle.model.specs.Volume.{number_at}
-use Rattle.model.specs.Files.{FileEntry, double_blocks, double_pointer, indirect_for, indirect_pointer, pointer, is_marked_used}
+use Rattle.model.specs.Files.{FileEntry, double_blocks, indirect_for, indirect_pointer, pointer, is_marked_used}
 use Rattle.model.specs.Files.{free_blocks}
 use Rattle.fs_inodes.specs.Growing.{AddsBlock, AddsTable, IsApart, IsTaken, NamesBlocks, PutsPointer, TakesBlocks, inode_entry, tables_to}
 use Rattle.fs_inodes.specs.Growing.{with_double, with_indirect}

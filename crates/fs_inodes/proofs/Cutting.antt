@@ -12,7 +12,7 @@ use Rattle.model.specs.Files.{indirect_for, indirect_pointer, content_of, entry,
 use Rattle.model.proofs.Owning.{owns_pointer}
 use Rattle.fs_layout.specs.Blocks.{PutsRecord}
 use Rattle.fs_inodes.specs.Changes.{ReplacesContent, SameMarks}
-use Rattle.fs_layout.specs.Touches.{TouchesInode, double_of, table_of}
+use Rattle.fs_layout.specs.Touches.{TouchesInode}
 use Rattle.fs_layout.proofs.Entries.{owns_double, owns_indirect}
 use Rattle.fs_inodes.specs.Growing.{tables_to}
 use Rattle.fs_inodes.proofs.Owned.{owned_to}

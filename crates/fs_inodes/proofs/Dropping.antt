@@ -1,5 +1,5 @@
 -- A file that loses its last block.
-use Rattle.std.proofs.Common.{◌≡◌, ◌≢◌, ◌⊎◌, inl, inr, ◌<◌, ◌≤◌, ℕ, ◌+◌, ◌-◌, ◌*◌, ◌/◌, ◌%◌, cond, eqb, ltb, false, true, List}
+use Rattle.std.proofs.Common.{◌≡◌, ◌≢◌, ◌⊎◌, inl, inr, ◌<◌, ◌≤◌, ℕ, ◌+◌, ◌-◌, ◌*◌, ◌/◌, ◌%◌, cond, eqb, ltb, false, List}
 use Rattle.std.proofs.Common.{[], ◌∷◌, ◌++◌, length, get_or, map, take, refl, sym, ◌∙◌, ap, subst, arith}
 use Rattle.std.specs.List.{All, Contains, range_with_len}
 use Rattle.std.proofs.lemmas.List.Elements.{Contains-append_cases, Contains-append_left, Contains-append_right}
@@ -21,7 +21,7 @@ use Rattle.fs_layout.proofs.Entries.{owns_double, owns_indirect}
 use Rattle.fs_layout.proofs.Keeps.{PutsEntry, indirect_same, marks_same, same_entry}
 use Rattle.fs_inodes.specs.Changes.{ReplacesContent, TakesNone}
 use Rattle.fs_inodes.specs.Growing.{NamesBlocks, inode_entry, tables_to}
-use Rattle.fs_inodes.specs.Shrinking.{DropsPointer, GivesUp}
+use Rattle.fs_inodes.specs.Shrinking.{DropsPointer}
 use Rattle.fs_layout.proofs.Distinct.{three_cases, three_new, three_split, three_were}
 use Rattle.fs_layout.proofs.Touching.{one_number}
 use Rattle.fs_inodes.proofs.Fields.{content_front, length-inode}

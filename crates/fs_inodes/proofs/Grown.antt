@@ -1,8 +1,8 @@
 -- Growth after growth.
-use Rattle.std.proofs.Common.{◌≡◌, inl, inr, ◌<◌, ◌≤◌, ℕ, ◌+◌, cond, ltb, false, Bool, Option, Some, None, List, [], ◌∷◌, ◌++◌, length}
+use Rattle.std.proofs.Common.{◌≡◌, inl, inr, ◌<◌, ◌≤◌, ℕ, ◌+◌, false, Option, Some, None, List, [], ◌∷◌, ◌++◌, length}
 use Rattle.std.proofs.Common.{get_or, set, refl, sym, ◌∙◌, ap, arith, append_assoc, length-append, subst}
 use Rattle.std.proofs.lemmas.List.{append-nil, get_or_past, get_or-set_same, set-set, set-get_or}
-use Rattle.std.proofs.lemmas.Bool.{cases_lt, cases_Bool, lt-ltb, le-ltb, false≢true}
+use Rattle.std.proofs.lemmas.Bool.{cases_lt, cases_Bool, false≢true}
 use Rattle.model.specs.Stream.{Octets}
 use Rattle.model.specs.Files.{File, HasRoom, IsFile, IsFileSystem, size, entry, content_of, name_in, slot_of, table, is_marked_used}
 use Rattle.model.specs.Files.{free_blocks}

@@ -1,12 +1,11 @@
 -- A file that grows within a block.
-use Rattle.std.proofs.Common.{◌≡◌, ◌≢◌, ◌⊎◌, ◌↔◌, inl, inr, ◌<◌, ◌≤◌, ℕ, ◌+◌, ◌-◌, ◌*◌, ◌/◌, ◌%◌, cond, eqb, ltb, true, false, Bool, Some}
-use Rattle.std.proofs.Common.{List, [], ◌∷◌, ◌++◌, length, get_or, map, take, set, refl, sym, ◌∙◌, ap, subst, arith, append_assoc}
-use Rattle.std.proofs.Common.{length-append, length-set}
+use Rattle.std.proofs.Common.{◌≡◌, ◌≢◌, ◌⊎◌, inl, inr, ◌<◌, ◌≤◌, ℕ, ◌+◌, ◌-◌, ◌*◌, ◌/◌, ◌%◌, cond, eqb, ltb, true, false, Some}
+use Rattle.std.proofs.Common.{List, [], ◌∷◌, ◌++◌, length, get_or, map, take, set, sym, ◌∙◌, ap, subst, arith, append_assoc}
+use Rattle.std.proofs.Common.{length-set}
 use Rattle.std.specs.List.{All, Contains, range_with_len}
-use Rattle.std.proofs.lemmas.List.{get_or-append-add, get_or-set_same, get_or-set_other}
-use Rattle.std.proofs.lemmas.List.Elements.{Contains-append_left, Contains-append_right, Contains-get_or, All-set}
-use Rattle.std.proofs.lemmas.List.FromFn.{length-map-range_with_len, get_or-map-range_with_len}
-use Rattle.std.proofs.lemmas.Bool.{cases_eq, cases_lt, ne_eqb, eq-eqb, false≢true, lt-ltb, le-ltb}
+use Rattle.std.proofs.lemmas.List.{get_or-set_same, get_or-set_other}
+use Rattle.std.proofs.lemmas.List.Elements.{All-set}
+use Rattle.std.proofs.lemmas.Bool.{cases_eq, cases_lt, false≢true}
 use Rattle.byteorder.specs.Endian.{little_bytes}
 use Rattle.disk.specs.Image.{part, overwritten}
 use Rattle.disk.proofs.Images.{length-overwritten}
@@ -15,7 +14,7 @@ use Rattle.model.specs.Stream.{Octets}
 use Rattle.model.specs.Volume.{number_at, AreDistinct}
 use Rattle.model.specs.Files.{FileEntry, HasRoom, IsFile, kind, size, block_count, double_blocks, double_pointer, entry_of, indirect_count}
 use Rattle.model.specs.Files.{indirect_for, indirect_pointer, pointer, owned, name_in, content_of, entry, inode_of, slot_of, indirect_of}
-use Rattle.model.specs.Files.{first_data, is_marked_used, free_blocks, IsFileSystem, file_at}
+use Rattle.model.specs.Files.{first_data, is_marked_used, free_blocks, IsFileSystem, file_at, largest_file}
 use Rattle.model.specs.Room.{content_blocks}
 use Rattle.model.proofs.Owning.{content_size, owns_pointer}
 use Rattle.model.proofs.Formats.{flat_map_same}
@@ -60,7 +59,7 @@ pub record Extends (first n number : ℕ) (e f : FileEntry) (old mid : List Octe
 module _ (inodes k n r number : ℕ) (piece block inode : Octets) (old mid new : List Octets) (room : HasRoom inodes old)
     (fs : IsFileSystem inodes old) (low : k < inodes) (file : IsFile (entry inodes old k))
     (sized : size (entry inodes old k) ≡ 4096 * n + r) (inside : r + length piece ≤ 4096) (some : 0 < length piece)
-    (small : size (entry inodes old k) + length piece ≤ 268435456)
+    (small : size (entry inodes old k) + length piece ≤ largest_file)
     (ext : Extends (first_data inodes) n number (entry inodes old k) (inode_entry mid inode) old mid) (block_size : length block ≡ 4096)
     (front : take r block ≡ take r (get_or old (pointer (entry inodes old k) n) []))
     (put : PutsRecord 2 k (overwritten 4 (little_bytes 8 (size (entry inodes old k) + length piece)) inode)

@@ -1,9 +1,9 @@
 -- The blocks that name the blocks of a file in a file system.
-use Rattle.std.proofs.Common.{◌≡◌, ◌≢◌, inl, inr, ◌<◌, ◌≤◌, ℕ, ◌+◌, ◌-◌, ◌/◌, true, List, [], length, sym, arith}
+use Rattle.std.proofs.Common.{◌≡◌, ◌≢◌, inl, inr, ◌<◌, ◌≤◌, ℕ, ◌-◌, ◌/◌, true, List, sym, arith}
 use Rattle.std.specs.List.{Contains}
-use Rattle.std.proofs.lemmas.Bool.{cases_eq, cases_lt, cases_order}
+use Rattle.std.proofs.lemmas.Bool.{cases_eq, cases_order}
 use Rattle.model.specs.Stream.{Octets}
-use Rattle.model.specs.Files.{FileEntry, HasRoom, IsFile, IsFileSystem, block_count, double_pointer, entry, first_data, indirect_count}
+use Rattle.model.specs.Files.{FileEntry, HasRoom, IsFile, IsFileSystem, block_count, double_pointer, entry, indirect_count}
 use Rattle.model.specs.Files.{indirect_for, indirect_pointer, inode_of, is_marked_used, owned}
 use Rattle.fs_layout.specs.Blocks.{IsThere}
 use Rattle.fs_inodes.specs.Growing.{IsTaken, NamesBlocks, inode_entry}

@@ -1,14 +1,13 @@
 -- Octets in one block of a file, over those that stood there.
-use Rattle.std.proofs.Common.{◌≡◌, ◌≢◌, inl, inr, ◌<◌, ◌≤◌, ℕ, ◌+◌, ◌-◌, ◌*◌, ◌/◌, ◌%◌, cond, eqb, Bool, List, [], length, get_or, set, sym}
+use Rattle.std.proofs.Common.{◌≡◌, ◌≢◌, inl, inr, ◌<◌, ◌≤◌, ℕ, ◌+◌, ◌-◌, ◌*◌, ◌/◌, ◌%◌, List, [], length, get_or, set, sym}
 use Rattle.std.proofs.Common.{◌∙◌, ap, subst, arith, length-set}
 use Rattle.std.specs.List.{All, Contains}
 use Rattle.std.proofs.lemmas.List.{ext_get_or, get_or-set_same, get_or-set_other}
 use Rattle.std.proofs.lemmas.List.Elements.{All-set}
-use Rattle.std.proofs.lemmas.Bool.{cases_eq, cases_lt, eq-eqb, cases_order}
+use Rattle.std.proofs.lemmas.Bool.{cases_eq, cases_lt, cases_order}
 use Rattle.disk.specs.Image.{part, overwritten}
 use Rattle.disk.proofs.Images.{length-overwritten, overwritten_below, overwritten_inside, overwritten_above}
 use Rattle.model.specs.Stream.{Octets}
-use Rattle.model.specs.Volume.{number_at}
 use Rattle.model.specs.Files.{FileEntry, HasRoom, IsFile, size, block_count, double_pointer, indirect_count, indirect_pointer, pointer}
 use Rattle.model.specs.Files.{owned}
 use Rattle.model.specs.Files.{content_of, entry, inode_of, slot_of, indirect_of, first_data, IsFileSystem}

@@ -1,12 +1,12 @@
 -- The blocks that an entry owns, one by one.
-use Rattle.std.proofs.Common.{◌≡◌, ◌≢◌, ◌⊎◌, inl, inr, ◌<◌, ◌≤◌, ℕ, zero, suc, ◌+◌, ◌-◌, ◌*◌, ◌/◌, ◌%◌, cond, Bool, List, [], ◌∷◌, ◌++◌}
-use Rattle.std.proofs.Common.{length, get_or, map, refl, sym, ◌∙◌, ap, subst, arith}
+use Rattle.std.proofs.Common.{◌≡◌, ◌≢◌, ◌⊎◌, inl, inr, ◌<◌, ℕ, zero, suc, cond, Bool, List, [], ◌∷◌, ◌++◌}
+use Rattle.std.proofs.Common.{get_or, map, refl, sym, ◌∙◌, ap, subst, arith}
 use Rattle.std.specs.List.{Contains, range_with_len}
 use Rattle.std.proofs.lemmas.List.Elements.{Contains-append_cases, Contains-append_left, Contains-append_right}
 use Rattle.std.proofs.lemmas.List.FromFn.{length-map-range_with_len, get_or-map-range_with_len}
-use Rattle.std.proofs.lemmas.Bool.{cases_eq, eq-eqb, ne_eqb, lt-ltb, le-ltb}
-use Rattle.model.specs.Volume.{number_at, AreDistinct}
-use Rattle.model.specs.Files.{FileEntry, block_count, double_blocks, double_pointer, indirect_for, indirect_pointer, pointer, owned}
+use Rattle.std.proofs.lemmas.Bool.{cases_eq, eq-eqb, ne_eqb}
+use Rattle.model.specs.Volume.{AreDistinct}
+use Rattle.model.specs.Files.{FileEntry, double_blocks, double_pointer, indirect_for, indirect_pointer, pointer}
 use Rattle.fs_inodes.specs.Growing.{tables_to}
 use Rattle.model.proofs.Distinct.{distinct_append, distinct_apart, distinct_left, distinct_none, distinct_one, distinct_right}
 use Rattle.fs_layout.proofs.Entries.{in_range}

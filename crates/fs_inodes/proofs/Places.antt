@@ -1,14 +1,10 @@
 -- Each octet of a file's content, and the blocks where they stand.
-use Rattle.std.proofs.Common.{◌≡◌, ◌≢◌, ◌<◌, ℕ, ◌+◌, ◌/◌, ◌%◌, cond, Bool, List, [], ◌∷◌, ◌++◌, length, get_or, map, sym, ◌∙◌, ap, arith}
-use Rattle.std.proofs.Common.{length-append}
-use Rattle.std.specs.List.{All, Contains, range_with_len}
-use Rattle.std.proofs.lemmas.List.{get_or-append-add}
-use Rattle.std.proofs.lemmas.List.FromFn.{length-map-range_with_len, get_or-map-range_with_len}
-use Rattle.std.proofs.lemmas.Bool.{ne_eqb}
+use Rattle.std.proofs.Common.{◌≡◌, ◌<◌, ℕ, ◌+◌, ◌/◌, ◌%◌, List, [], length, get_or, sym, ◌∙◌, ap, arith}
+use Rattle.std.specs.List.{All, Contains}
 use Rattle.disk.specs.Image.{part}
 use Rattle.disk.proofs.Images.{get_or-part}
 use Rattle.model.specs.Stream.{Octets}
-use Rattle.model.specs.Files.{FileEntry, size, block_count, pointer, owned, indirect_pointer, indirect_blocks, content_of}
+use Rattle.model.specs.Files.{FileEntry, size, pointer, owned, content_of}
 use Rattle.fs_inodes.proofs.Contents.{content_part}
 
 -- the first octet of a part

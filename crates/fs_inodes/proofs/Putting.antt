@@ -1,7 +1,6 @@
 -- A pointer of an inode is put.
-use Rattle.std.proofs.Common.{◌≡◌, ◌≢◌, ◌⊎◌, inl, inr, ◌<◌, ◌≤◌, ℕ, ◌+◌, ◌-◌, ◌*◌, ◌/◌, ◌%◌, ◌^◌, cond, eqb, ltb, true, false, Bool, List}
-use Rattle.std.proofs.Common.{[], ◌∷◌, length, get_or, set, refl, sym, ◌∙◌, ap, arith, length-set}
-use Rattle.std.specs.List.{All}
+use Rattle.std.proofs.Common.{◌≡◌, ◌≢◌, ◌⊎◌, inl, inr, ◌<◌, ◌≤◌, ℕ, ◌+◌, ◌-◌, ◌*◌, ◌/◌, ◌%◌, ◌^◌, cond, eqb, Bool, List}
+use Rattle.std.proofs.Common.{[], length, get_or, set, refl, sym, ◌∙◌, ap, arith, length-set}
 use Rattle.std.proofs.lemmas.List.{get_or-set_same, get_or-set_other}
 use Rattle.std.proofs.lemmas.List.Elements.{All-set}
 use Rattle.std.proofs.lemmas.Bool.{cases_eq, cases_lt, cases_order, eq-eqb, ne_eqb, lt-ltb, le-ltb}
@@ -11,7 +10,7 @@ use Rattle.disk.proofs.Images.{length-overwritten}
 use Rattle.volume_format.proofs.Numbers.{number_at_apart, number_at_written}
 use Rattle.model.specs.Stream.{Octets}
 use Rattle.model.specs.Volume.{number_at}
-use Rattle.model.specs.Files.{FileEntry, double_pointer, indirect_of, indirect_pointer, pointer}
+use Rattle.model.specs.Files.{indirect_of, indirect_pointer, pointer}
 use Rattle.fs_inodes.specs.Growing.{IsApart, PutsIndirect, PutsPointer, inode_entry}
 use Rattle.fs_layout.proofs.Keeps.{indirect_same}
 

@@ -1,11 +1,11 @@
 -- A file without octets goes.
-use Rattle.std.proofs.Common.{◌≡◌, inl, inr, ◌<◌, ℕ, ◌+◌, ◌/◌, cond, eqb, None, List, [], ◌∷◌, ◌++◌, length, map, set, replicate, refl, sym}
+use Rattle.std.proofs.Common.{◌≡◌, inl, inr, ◌<◌, ℕ, ◌+◌, ◌/◌, cond, eqb, None, List, [], ◌∷◌, ◌++◌, length, set, replicate, refl, sym}
 use Rattle.std.proofs.Common.{◌∙◌, ap, subst, arith}
-use Rattle.std.specs.List.{All, Contains, range_with_len}
+use Rattle.std.specs.List.{All, Contains}
 use Rattle.std.proofs.lemmas.List.Elements.{All-replicate}
 use Rattle.std.proofs.lemmas.Bool.{cases_eq}
 use Rattle.model.specs.Stream.{Octets}
-use Rattle.model.specs.Files.{FileEntry, HasRoom, IsFile, IsFree, size, block_count, owned, double_pointer, entry, IsFileSystem, table}
+use Rattle.model.specs.Files.{FileEntry, HasRoom, IsFile, IsFree, size, owned, double_pointer, entry, IsFileSystem, table}
 use Rattle.model.proofs.Owning.{free_owns}
 use Rattle.fs_layout.specs.Blocks.{PutsRecord}
 use Rattle.fs_layout.specs.Table.{Makes}

@@ -1,12 +1,12 @@
 -- Blocks that are taken, one after the other.
-use Rattle.std.proofs.Common.{◌≡◌, ◌≢◌, ◌⊎◌, inl, inr, ◌<◌, ◌≤◌, ℕ, ◌+◌, Bool, true, false, List, [], ◌∷◌, ◌++◌, length, get_or}
+use Rattle.std.proofs.Common.{◌≡◌, ◌≢◌, inl, inr, ◌<◌, ◌≤◌, ℕ, ◌+◌, true, false, List, [], ◌∷◌, ◌++◌, length, get_or}
 use Rattle.std.proofs.Common.{set, replicate, refl, sym, ◌∙◌, ap, arith, length-append, length-set}
-use Rattle.std.specs.List.{All, Contains}
+use Rattle.std.specs.List.{Contains}
 use Rattle.std.proofs.lemmas.List.{length-replicate, get_or-set_same, get_or-set_other}
 use Rattle.std.proofs.lemmas.List.Elements.{Contains-append_left, Contains-append_right, Contains-append_cases, All-set}
 use Rattle.std.proofs.lemmas.Bool.{cases_Bool, cases_eq, cases_lt, false≢true}
 use Rattle.model.specs.Stream.{Octets}
-use Rattle.model.specs.Files.{is_marked_used, free_blocks}
+use Rattle.model.specs.Files.{is_marked_used}
 use Rattle.fs_inodes.specs.Growing.{IsTaken, TakesBlocks, TakesZeros}
 use Rattle.fs_layout.specs.Marks.{NoneFreeBelow, TakesBlock}
 use Rattle.fs_layout.proofs.Keeps.{marks_same}

@@ -1,9 +1,8 @@
 -- An inode loses its last pointer, and the blocks of pointers that only that pointer needed.
-use Rattle.std.proofs.Common.{◌≡◌, ◌≢◌, ◌⊎◌, inl, inr, ◌<◌, ◌≤◌, ℕ, ◌+◌, ◌-◌, ◌*◌, ◌/◌, ◌%◌, cond, eqb, Bool, false, List, []}
-use Rattle.std.proofs.Common.{◌∷◌, ◌++◌, length, map, refl, sym, ◌∙◌, ap, subst, arith}
-use Rattle.std.specs.List.{range_with_len}
+use Rattle.std.proofs.Common.{◌≡◌, ◌≢◌, inl, inr, ◌<◌, ◌≤◌, ℕ, ◌+◌, ◌-◌, ◌*◌, ◌/◌, ◌%◌, cond, eqb, Bool, false, List, []}
+use Rattle.std.proofs.Common.{◌∷◌, ◌++◌, length, refl, sym, ◌∙◌, ap, subst, arith}
 use Rattle.std.proofs.lemmas.List.{append-nil}
-use Rattle.std.proofs.lemmas.List.Elements.{Contains-append_cases, Contains-append_left, Contains-append_right}
+use Rattle.std.proofs.lemmas.List.Elements.{Contains-append_cases}
 use Rattle.std.proofs.lemmas.List.FromFn.{map-range_with_len_more}
 use Rattle.std.proofs.lemmas.Bool.{cases_eq, cases_lt, eq-eqb, ne_eqb}
 use Rattle.byteorder.specs.Endian.{little_bytes}
@@ -15,8 +14,7 @@ use Rattle.model.specs.Volume.{number_at}
 use Rattle.model.specs.Files.{FileEntry, double_blocks, indirect_for, indirect_of, indirect_pointer, pointer, is_marked_used}
 use Rattle.model.proofs.Formats.{none_number, no_block}
 use Rattle.fs_inodes.specs.Growing.{IsTaken, NamesBlocks, PutsIndirect, PutsPointer, inode_entry, tables_to}
-use Rattle.fs_inodes.specs.Shrinking.{DropsPointer, DropsTable, GivesUp}
-use Rattle.fs_layout.specs.Blocks.{IsThere}
+use Rattle.fs_inodes.specs.Shrinking.{DropsPointer, DropsTable}
 use Rattle.fs_layout.specs.Marks.{SetsMark}
 use Rattle.fs_layout.proofs.Keeps.{indirect_same, marks_same}
 use Rattle.fs_layout.proofs.Touching.{one_number}

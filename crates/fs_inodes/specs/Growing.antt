@@ -1,20 +1,16 @@
 -- Files that grow.
-use Rattle.std.specs.Prelude.{◌≡◌, ◌≢◌, ◌⊎◌, ◌<◌, ◌≤◌, ℕ, ◌+◌, ◌-◌, ◌/◌, ◌==◌, true, false, nat_lt, if◌then◌else◌, Some, List, [], ◌∷◌}
+use Rattle.std.specs.Prelude.{◌≡◌, ◌≢◌, ◌⊎◌, ◌<◌, ◌≤◌, ℕ, ◌+◌, ◌-◌, ◌/◌, true, false, nat_lt, if◌then◌else◌, Some, List, [], ◌∷◌}
 use Rattle.std.specs.Prelude.{◌++◌, map, replicate, length, take, slice_index_or, slice_set}
 use Rattle.std.specs.List.{All, Contains, range_with_len}
 use Rattle.disk.specs.Image.{overwritten}
 use Rattle.model.specs.Stream.{Octets}
 use Rattle.model.specs.Volume.{number_at, AreDistinct}
 use Rattle.model.specs.Files.{FileEntry, double_blocks, double_pointer, entry_of, indirect_for, indirect_pointer, pointer, table}
-use Rattle.model.specs.Files.{is_marked_used, free_blocks}
+use Rattle.model.specs.Files.{is_marked_used, free_blocks, largest_file, most_octets}
 pub use Rattle.model.specs.Room.{blocks_for}
 use Rattle.fs_layout.specs.Table.{IsFileAt, Makes}
 
 -- ---- room
-
--- the octets of the largest file in a volume of this format
-abbrev pub most_octets : ℕ → ℕ
-most_octets format = if format == 1 then 4235264 else 268435456
 
 -- a file that grows from the first size to the second would be too large for the format, or need more blocks than are
 -- free
@@ -23,7 +19,7 @@ HasNoRoomFor format blocks was size = (most_octets format < size) ⊎ (free_bloc
 
 -- a file of the first size can have the second
 abbrev pub HasRoomFor : List Octets → ℕ → ℕ → Type 0
-HasRoomFor blocks was size = (size ≤ 268435456) × (blocks_for size ≤ free_blocks blocks + blocks_for was)
+HasRoomFor blocks was size = (size ≤ largest_file) × (blocks_for size ≤ free_blocks blocks + blocks_for was)
 
 -- ---- one more block
 

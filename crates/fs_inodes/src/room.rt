@@ -2,8 +2,8 @@
 
 ghost use Rattle.std.specs.Prelude.{◌≡◌, ◌+◌, ◌≤◌};
 ghost use Rattle.std.specs.Bool.{OnTrue, OnFalse};
-ghost use Rattle.model.specs.Files.{HasRoom, indirect_for};
-ghost use Rattle.fs_inodes.specs.Growing.{blocks_for, most_octets, HasNoRoomFor};
+ghost use Rattle.model.specs.Files.{HasRoom, indirect_for, largest_file, most_octets};
+ghost use Rattle.fs_inodes.specs.Growing.{blocks_for, HasNoRoomFor};
 ghost use Rattle.fs_inodes.specs.Growing.{HasRoomFor};
 
 use fs_layout::inodes::{BLOCK_POINTERS, DIRECT_POINTERS, content_blocks, most_octets};
@@ -12,7 +12,7 @@ use volume::Blocks;
 
 // The number of blocks that a file of this many octets owns, including those that name its blocks.
 fn owned_blocks(size: u64) -> u64
-    requires { size ≤ 268435456 }
+    requires { size ≤ largest_file }
     ensures { result ≡ blocks_for size }
 {
     let count = content_blocks(size);
@@ -32,7 +32,7 @@ fn indirect_blocks(count: u32) -> u32
 // The number of additional blocks that a file owns when it grows from `was` to `size` octets.
 pub(crate) fn blocks_more(was: u64, size: u64) -> u32
     requires order { was ≤ size }
-    requires small { size ≤ 268435456 }
+    requires small { size ≤ largest_file }
     ensures { blocks_for was + result ≡ blocks_for size }
 {
     (owned_blocks(size) - owned_blocks(was)) as u32
@@ -42,7 +42,7 @@ pub(crate) fn blocks_more(was: u64, size: u64) -> u32
 /// needed.
 pub fn has_room_for<B: Blocks>(blocks: &B, inodes: u32, format: u32, was: u64, size: u64) -> bool
     requires room { HasRoom inodes (B.blocks blocks.now) }
-    requires small { was ≤ 268435456 }
+    requires small { was ≤ largest_file }
     ensures room { OnTrue result (HasRoomFor (B.blocks blocks.now) was size) }
     ensures within { OnTrue result (size ≤ most_octets format) }
     ensures full { OnFalse result (HasNoRoomFor format (B.blocks blocks.now) was size) }

@@ -7,7 +7,7 @@ use Rattle.std.proofs.lemmas.List.Elements.{All-nil}
 use Rattle.disk.specs.Image.{part}
 use Rattle.model.specs.Stream.{Octets}
 use Rattle.model.specs.Volume.{number_at, AreDistinct}
-use Rattle.model.specs.Files.{FileEntry, HasRoom, IsFile, IsFree, kind, size, block_count, double_pointer, entry_of, indirect_count}
+use Rattle.model.specs.Files.{FileEntry, HasRoom, IsFile, IsFree, kind, size, block_count, double_pointer, entry_of}
 use Rattle.model.specs.Files.{indirect_number, indirect_pointer, pointer, owned, name_in, content_of, entry, inode_of, slot_of, indirect_of}
 use Rattle.model.specs.Files.{first_data, is_marked_used, IsUsed, IsFileSystem, file_at}
 use Rattle.model.proofs.Owning.{zero_number, owns_pointer}

@@ -1,6 +1,7 @@
 -- Changes one after the other, and the blocks that they reach.
-use Rattle.std.proofs.Common.{◌≡◌, ◌≢◌, ◌⊎◌, inl, inr, ◌<◌, ◌≤◌, ℕ, ◌+◌, ◌-◌, ◌*◌, ◌/◌, ◌%◌, cond, eqb, ltb, Bool, List, [], ◌∷◌, ◌++◌}
-use Rattle.std.proofs.Common.{length, get_or, map, set, refl, sym, ◌∙◌, ap, subst, arith, length-append}
+use Rattle.model.specs.Files.{largest_file_one}
+use Rattle.std.proofs.Common.{◌≡◌, ◌≢◌, ◌⊎◌, inl, inr, ◌<◌, ◌≤◌, ℕ, ◌+◌, ◌-◌, ◌*◌, ◌/◌, ◌%◌, cond, ltb, Bool, List, [], ◌∷◌, ◌++◌}
+use Rattle.std.proofs.Common.{length, map, set, refl, sym, ◌∙◌, ap, subst, arith, length-append}
 use Rattle.std.specs.List.{Contains, range_with_len}
 use Rattle.std.proofs.lemmas.Bool.{cases_lt, le-ltb, lt-ltb, ne_eqb}
 use Rattle.std.proofs.lemmas.List.{get_or-set_other}
@@ -134,24 +135,25 @@ module _ (d : ℕ) (t : ℕ → ℕ) (from to end : ℕ) (counted : to ≡ (end 
         get_or-map-range_with_len t first many ((i - 10) / 1024 - first) ((i - 10) / 1024) (t ((i - 10) / 1024)) place at,
       )
 
-  value : from < to → pointers_put (to - from) end ≡ cond (ltb 4235264 end) (2 + (to - from + 1022) / 1024) (cond (ltb 40960 end) 1 0)
+  value : from < to → pointers_put (to - from) end
+      ≡ cond (ltb largest_file_one end) (2 + (to - from + 1022) / 1024) (cond (ltb 40960 end) 1 0)
   value some =
-      ap (λ (b : Bool). cond {A = ℕ} b 0 (cond (ltb 4235264 end) (2 + (to - from + 1022) / 1024) (cond (ltb 40960 end) 1 0)))
+      ap (λ (b : Bool). cond {A = ℕ} b 0 (cond (ltb largest_file_one end) (2 + (to - from + 1022) / 1024) (cond (ltb 40960 end) 1 0)))
       (ne_eqb (to - from) 0 (λ none. absurd (omega (arith, some, none))))
 
   -- in a file of at most 1,034 blocks they are in one block of pointers
-  value_middle : 40960 < end → end ≤ 4235264 → from < to → pointers_put (to - from) end ≡ 1
+  value_middle : 40960 < end → end ≤ largest_file_one → from < to → pointers_put (to - from) end ≡ 1
   value_middle large middle some =
       value some
-      ∙ ap (λ (b : Bool). cond {A = ℕ} b (2 + (to - from + 1022) / 1024) (cond (ltb 40960 end) 1 0)) (le-ltb 4235264 end middle)
+      ∙ ap (λ (b : Bool). cond {A = ℕ} b (2 + (to - from + 1022) / 1024) (cond (ltb 40960 end) 1 0)) (le-ltb largest_file_one end middle)
       ∙ ap (λ (b : Bool). cond {A = ℕ} b 1 0) (lt-ltb 40960 end large)
 
-  few_middle : end ≤ 4235264 → from < to → length their ≤ 1
+  few_middle : end ≤ largest_file_one → from < to → length their ≤ 1
   few_middle middle some = omega (arith, length-map-range_with_len t first many, some, counted, middle)
 
-  value_huge : 4235264 < end → from < to → pointers_put (to - from) end ≡ 2 + (to - from + 1022) / 1024
+  value_huge : largest_file_one < end → from < to → pointers_put (to - from) end ≡ 2 + (to - from + 1022) / 1024
   value_huge huge some = value some
-      ∙ ap (λ (b : Bool). cond {A = ℕ} b (2 + (to - from + 1022) / 1024) (cond (ltb 40960 end) 1 0)) (lt-ltb 4235264 end huge)
+      ∙ ap (λ (b : Bool). cond {A = ℕ} b (2 + (to - from + 1022) / 1024) (cond (ltb 40960 end) 1 0)) (lt-ltb largest_file_one end huge)
 
   few_huge : from < to → length their ≤ 1 + (to - from + 1022) / 1024
   few_huge some = omega (arith, length-map-range_with_len t first many, some)
@@ -170,7 +172,7 @@ module _ (d : ℕ) (t : ℕ → ℕ) (from to end : ℕ) (counted : to ≡ (end 
                   omega (arith, some, is, none, same))),
             );
       }
-      | inl large ↦ elim (cases_lt 4235264 end) [
+      | inl large ↦ elim (cases_lt largest_file_one end) [
         | inr middle ↦ record {
           blocks = their;
           few = omega (arith, value_middle large middle some_i, few_middle middle some_i);

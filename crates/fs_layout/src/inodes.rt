@@ -5,7 +5,7 @@ ghost use Rattle.std.specs.List.{range_with_len};
 ghost use Rattle.model.specs.Volume.{number_at};
 ghost use Rattle.fs_layout.specs.Blocks.{IsThere};
 ghost use Rattle.model.specs.Files as files;
-ghost use Rattle.model.specs.Files.{HasRoom, entry, entry_of, free_inodes, indirect_pointer, pointer};
+ghost use Rattle.model.specs.Files.{HasRoom, entry, entry_of, free_inodes, indirect_pointer, pointer, largest_file, most_octets};
 
 use crate::numbers::{number32, number64};
 use crate::records::{RECORD_SIZE, get_record};
@@ -97,7 +97,7 @@ pub fn indirect_at<B: Blocks>(blocks: &B, inode: &[u8], p: u32) -> u32
 
 /// The number of octets in the largest file of a volume of this format.
 pub fn most_octets(format: u32) -> u64
-    ensures { result ≡ (if format == 1 then 4235264 else 268435456) }
+    ensures { result ≡ most_octets format }
 {
     if format == 1 {
         MOST_OCTETS_1
@@ -108,7 +108,7 @@ pub fn most_octets(format: u32) -> u64
 
 /// The number of blocks that content of this many octets takes.
 pub fn content_blocks(octets: u64) -> u32
-    requires { octets ≤ 268435456 }
+    requires { octets ≤ largest_file }
     ensures { result ≡ (octets + 4095) / 4096 }
 {
     ((octets + BLOCK_SIZE as u64 - 1) / BLOCK_SIZE as u64) as u32

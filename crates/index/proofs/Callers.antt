@@ -11,7 +11,7 @@ use Rattle.std.proofs.lemmas.List.Sorted.{Contains-permutation, IsPermutation-sy
 use Rattle.std.proofs.lemmas.Option.{same_Some}
 use Rattle.model.specs.Stream.{Octets}
 use Rattle.model.specs.Article.{Carried, are_distinct, groups_of}
-use Rattle.model.specs.Files.{File, HoldsFiles, content_of, entry, file_at, files_in, kind, size, table}
+use Rattle.model.specs.Files.{File, HoldsFiles, content_of, entry, file_at, files_in, kind, size, table, largest_file}
 use Rattle.model.specs.Indexed.{GroupIndex, group_index}
 use Rattle.model.specs.Layout.{Holds}
 use Rattle.model.specs.Lawful.{MayFile}
@@ -109,7 +109,7 @@ held_at inodes blocks f among =
     }
 
 small_file : (inodes : ℕ) (blocks : List Octets) (files : List File) (f : File) → HoldsFiles inodes blocks files → IsHeld inodes blocks f
-    → length f.content ≤ 268_435_456
+    → length f.content ≤ largest_file
 small_file inodes blocks files f holds held = elim (holds.rule.each held.at held.low) [
   | inl free ↦ absurd (none_there (kind (entry inodes blocks held.at)) (free_kind (entry inodes blocks held.at) free) held.its)
   | inr file ↦ (let fits = file.small in let few = its_size (eqb (kind (entry inodes blocks held.at)) 0) held.its in
@@ -150,7 +150,7 @@ small_file inodes blocks files f holds held = elim (holds.rule.each held.at held
         )
 
 pub overview_small : (host : Octets) (inodes : ℕ) (blocks : List Octets) (S : Spool) (g : NewsGroup) → Holds host inodes blocks S
-    → Contains (groups S) g → length (overview_file S g.name) ≤ 268_435_456
+    → Contains (groups S) g → length (overview_file S g.name) ≤ largest_file
 overview_small host inodes blocks S g holds among =
     let f : File = record { name = overview_name g.name; content = overview_file S g.name } in
     let there : Contains holds.files f =

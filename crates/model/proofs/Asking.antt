@@ -18,13 +18,13 @@ use Rattle.model.specs.SpoolFiles.{numbers_name, overview_name, number_record, n
 use Rattle.model.specs.FileCalls.{next_line, next_record, FileCall, Create, Append, filing_calls}
 use Rattle.model.specs.SpoolFiles.{overview_lines, change_file, files_of}
 use Rattle.model.specs.FileCalls.{making_calls}
-use Rattle.model.specs.Files.{indirect_for}
+use Rattle.model.specs.Files.{indirect_for, largest_file, largest_file_one}
 use Rattle.model.specs.Asked.{blocks_appended, blocks_changed, blocks_filed, blocks_for_more, blocks_fresh}
 use Rattle.model.specs.Room.{blocks_asked, blocks_for}
 use Rattle.model.specs.Asked.{blocks_taken}
 use Rattle.model.specs.Room.{content_blocks, extends_large, files_made, free_blocks_beside, free_inodes_beside}
 use Rattle.model.specs.Asked.{pointers_put}
-use Rattle.model.specs.Room.{has_all_groups, is_full_for, is_large, largest_file, octets_asked}
+use Rattle.model.specs.Room.{has_all_groups, is_full_for, is_large, octets_asked}
 use Rattle.model.specs.Lawful.{MayFile, IsLawfulAfter, IsLawful}
 use Rattle.model.specs.Laws.Room.{ChangesAskFew, FilesGrowByBlocks, NotFullHasRoom}
 use Rattle.model.specs.declared.change.Change.TheVariants.{Group, Article, Expire}
@@ -47,7 +47,7 @@ double_none : (n : ℕ) → n ≤ 1 → ◌≡◌ {A = ℕ} (cond (nat_lt 1 n) 1
 double_none n few = ap (λ (b : Bool). cond b 1 0) (le-ltb 1 n few)
 
 -- a file of at most 1,034 blocks
-middle_blocks : (size : ℕ) → size ≤ 4235264 → blocks_for size ≤ content_blocks size + 1
+middle_blocks : (size : ℕ) → size ≤ largest_file_one → blocks_for size ≤ content_blocks size + 1
 middle_blocks size small = omega (arith, small, double_none (indirect_for (content_blocks size)) (omega (arith, small)))
 
 small_blocks : (size : ℕ) → size ≤ 40960 → blocks_for size ≡ content_blocks size
@@ -194,7 +194,7 @@ numbers_whole filed = omega (arith, records_size 0 (zip filed (overview_lines fi
 -- ---- blocks of pointers that are written
 
 put_most : (fresh end : ℕ) → pointers_put fresh end ≤ 2 + (fresh + 1022) / 1024
-put_most fresh end = by_tests (eqb fresh 0) (nat_lt 4235264 end) (nat_lt 40960 end) where
+put_most fresh end = by_tests (eqb fresh 0) (nat_lt largest_file_one end) (nat_lt 40960 end) where
   by_tests : (none huge large : Bool) → cond none 0 (cond huge (2 + (fresh + 1022) / 1024) (cond large 1 0)) ≤ 2 + (fresh + 1022) / 1024
   by_tests true huge large = omega arith
   by_tests false true large = omega arith

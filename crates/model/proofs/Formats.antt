@@ -9,7 +9,7 @@ use Rattle.byteorder.specs.Endian.{little_from}
 use Rattle.model.specs.Stream.{Octets}
 use Rattle.model.specs.Volume.{number_at}
 use Rattle.model.specs.Files.{FileEntry, IsFile, block_count, content_of, double_pointer, entry_of, indirect_count, indirect_of}
-use Rattle.model.specs.Files.{indirect_pointer, owned, pointer, size}
+use Rattle.model.specs.Files.{indirect_pointer, owned, pointer, size, largest_file_one}
 use Rattle.model.specs.Laws.Formats.{EntryOne, FilesOfFormatOne, IsFileOne, ReadAsFormatOne, content_one, count_one, entry_one}
 use Rattle.model.specs.Laws.Formats.{indirect_one, owned_one, pointer_one}
 use Rattle.model.proofs.Owning.{zero_number}
@@ -108,13 +108,13 @@ module _ (blocks : List Octets) (inode slot : Octets) where
   first_is = refl
 
   -- from both formats to format 1
-  small_double : IsFile e → size e ≤ 4235264 → number_at 56 4 inode ≡ 0
+  small_double : IsFile e → size e ≤ largest_file_one → number_at 56 4 inode ≡ 0
   small_double file small = elim (cases_eq (double_pointer e) 0) [
     | inl none ↦ none
     | inr some ↦ absurd (let many = file.double_where.1 some in omega (arith, many, small))
   ]
 
-  to_one : IsFile e → size e ≤ 4235264 → IsFileOne o
+  to_one : IsFile e → size e ≤ largest_file_one → IsFileOne o
   to_one file small =
       let no_double = small_double file small in
       record {

@@ -3,7 +3,7 @@ use Rattle.std.proofs.Common.{◌≡◌, ◌⊎◌, inl, inr, ◌≤◌, ◌-◌
 use Rattle.std.proofs.Common.{◌∙◌, subst, arith}
 use Rattle.std.proofs.lemmas.List.Elements.{All-nil}
 use Rattle.model.specs.Stream.{Octets}
-use Rattle.model.specs.Files.{File}
+use Rattle.model.specs.Files.{File, largest_file_one}
 use Rattle.model.specs.Layout.{AreOfFormat, IsLabel, Holds}
 use Rattle.model.specs.Spool.{entries}
 use Rattle.model.specs.SpoolFiles.{files_of}
@@ -37,7 +37,7 @@ version_one host image S a = a.volume.has_superblock.version_is
 
 none_of_format : AreOfFormat 1 (files_of [])
 unfolding files_of entries
-none_of_format first = All-nil (λ (file : File). length file.content ≤ 4235264)
+none_of_format first = All-nil (λ (file : File). length file.content ≤ largest_file_one)
 
 pub empty_stands : EmptyVolumesStand
 empty_stands host image label inodes blocks volume labelled rule empty = record {

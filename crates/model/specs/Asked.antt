@@ -1,4 +1,5 @@
 -- The most blocks that a change asks for, and the most that it alters. All of it is this project's own layout (docs/FORMATS.md).
+use Rattle.model.specs.Files.{largest_file_one}
 use Rattle.std.specs.Prelude.{ℕ, ◌+◌, ◌-◌, ◌/◌, ◌%◌, ◌==◌, nat_lt, if◌then◌else◌, length}
 use Rattle.std.specs.List.{sum_by}
 use Rattle.model.specs.Stream.{Octets}
@@ -36,7 +37,7 @@ blocks_fresh size more = content_blocks (size + more) - content_blocks size
 abbrev pub pointers_put : ℕ → ℕ → ℕ
 pointers_put fresh end =
     if fresh == 0 then 0
-    else (if nat_lt 4235264 end then 2 + (fresh + 1022) / 1024 else (if nat_lt 40960 end then 1 else 0))
+    else (if nat_lt largest_file_one end then 2 + (fresh + 1022) / 1024 else (if nat_lt 40960 end then 1 else 0))
 
 -- octets appended to a file change its inode, the blocks that get them, and those that name the fresh ones
 abbrev pub blocks_appended : ℕ → ℕ → ℕ

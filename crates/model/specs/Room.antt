@@ -4,15 +4,11 @@ use Rattle.std.specs.Prelude.{ℕ, ◌+◌, ◌-◌, ◌/◌, Bool, false, ◌||
 use Rattle.std.specs.Prelude.{None}
 use Rattle.std.specs.List.{list_any, sum_by}
 use Rattle.model.specs.Stream.{Octets}
-use Rattle.model.specs.Files.{File, first_data, indirect_for}
+use Rattle.model.specs.Files.{File, first_data, indirect_for, largest_file}
 use Rattle.model.specs.Spool.{Spool, groups}
 use Rattle.model.specs.SpoolFiles.{files_of, numbers_file, overview_file}
 use Rattle.model.specs.declared.change.Change.{Change}
 use Rattle.model.specs.declared.change.Change.TheVariants.{Group, Article, Expire}
-
--- the octets of the largest file of format 2: those of 65,536 blocks
-abbrev pub largest_file : ℕ
-largest_file = 268_435_456
 
 -- ---- free blocks and inodes
 

@@ -39,23 +39,23 @@ pub record Sized (blocks inodes : ℕ) : Type 0 where
   pub some : 64 ≤ inodes
   pub few : inodes ≤ 32768
   pub whole : inodes % 64 ≡ 0
-  pub room : 2 + 2 * inodes / 64 + 256 ≤ blocks
+  pub room : first_data inodes + 256 ≤ blocks
 
 pub sized : (blocks inodes : ℕ) → IsTrue (are_sizes blocks inodes) → Sized blocks inodes
 sized blocks inodes are =
     let parts = and_parts (leb 1024 blocks && leb blocks 65536)
-    ((leb 64 inodes && leb inodes 32768) && (eqb (inodes % 64) 0 && leb (2 + 2 * inodes / 64 + 256) blocks)) are in
+    ((leb 64 inodes && leb inodes 32768) && (eqb (inodes % 64) 0 && leb (first_data inodes + 256) blocks)) are in
     let bounds = and_parts (leb 1024 blocks) (leb blocks 65536) parts.0 in
-    let rest = and_parts (leb 64 inodes && leb inodes 32768) (eqb (inodes % 64) 0 && leb (2 + 2 * inodes / 64 + 256) blocks) parts.1 in
+    let rest = and_parts (leb 64 inodes && leb inodes 32768) (eqb (inodes % 64) 0 && leb (first_data inodes + 256) blocks) parts.1 in
     let counts = and_parts (leb 64 inodes) (leb inodes 32768) rest.0 in
-    let ends = and_parts (eqb (inodes % 64) 0) (leb (2 + 2 * inodes / 64 + 256) blocks) rest.1 in
+    let ends = and_parts (eqb (inodes % 64) 0) (leb (first_data inodes + 256) blocks) rest.1 in
     record {
       low = leb-true 1024 blocks bounds.0;
       high = leb-true blocks 65536 bounds.1;
       some = leb-true 64 inodes counts.0;
       few = leb-true inodes 32768 counts.1;
       whole = eqb-true (inodes % 64) 0 ends.0;
-      room = leb-true (2 + 2 * inodes / 64 + 256) blocks ends.1;
+      room = leb-true (first_data inodes + 256) blocks ends.1;
     }
 
 -- ---- the first block is the bitmap of the empty file system

@@ -46,7 +46,7 @@ pub fn are_sizes(blocks: u64, inodes: u64) -> bool
     if blocks < 1024 || blocks > 65_536 || inodes < 64 || inodes > 32_768 {
         return false;
     }
-    inodes % 64 == 0 && 2 + 2 * inodes / 64 + 256 <= blocks
+    inodes % 64 == 0 && 2 + 2 * (inodes / 64) + 256 <= blocks
 }
 
 /// The number of octets of the device for a volume with this many blocks.

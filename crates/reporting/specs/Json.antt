@@ -1,7 +1,8 @@
 -- The state of a volume as JSON data. The members of an object are in the order of their keys.
+use Rattle.model.specs.Files.{largest_file}
 use Rattle.std.specs.Prelude.{ℕ, ◌-◌, List, [], ◌∷◌, codes, map}
 use Rattle.std.specs.Str.Lossy.{utf8_lossy}
-use Rattle.model.specs.Room.{largest_file, octets_asked}
+use Rattle.model.specs.Room.{octets_asked}
 use Rattle.model.specs.Spool.{status_octet}
 use Rattle.model.specs.Stream.{Octets}
 use Rattle.serde_json.specs.Data.{Data, array, member, no_members, number, object, string, unsigned}

@@ -1,7 +1,8 @@
 -- The state of a volume for a person (this project's own form, docs/FORMATS.md).
+use Rattle.model.specs.Files.{largest_file}
 use Rattle.std.specs.Prelude.{ℕ, ◌-◌, ◌*◌, ◌/◌, ◌==◌, if◌then◌else◌, max, List, [], ◌∷◌, ◌++◌, codes, decimal, fold, length, map, replicate}
 use Rattle.std.specs.List.{flat_map}
-use Rattle.model.specs.Room.{largest_file, octets_asked}
+use Rattle.model.specs.Room.{octets_asked}
 use Rattle.model.specs.Spool.{status_octet}
 use Rattle.model.specs.Stream.{Octets}
 use Rattle.reporting.specs.declared.state.GroupStatus.{GroupStatus}

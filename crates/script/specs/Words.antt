@@ -10,6 +10,7 @@ use Rattle.model.specs.Stream.{Octets}
 use Rattle.model.specs.Names as article
 use Rattle.model.specs.Names.{is_run_of}
 use Rattle.model.specs.Calendar.{moment_limit}
+use Rattle.model.specs.Spool.{status_octet}
 use Rattle.model.specs.declared.values.Status.{Status}
 use Rattle.model.specs.declared.values.Status.TheVariants.{Open, Closed}
 
@@ -32,7 +33,8 @@ moment_of word = option_and_then (λ n. if nat_lt n moment_limit then Some n els
 -- the status that `y` or `n` writes
 unfoldable pub status_of : Octets → Option Status
 status_of [] = None
-status_of (octet ∷ []) = if octet == 121 then Some Open else (if octet == 110 then Some Closed else None)
+status_of (octet ∷ []) =
+    if octet == status_octet Open then Some Open else (if octet == status_octet Closed then Some Closed else None)
 status_of (octet ∷ other ∷ more) = None
 
 -- the number up to which an expiry removes articles, by 1 to 16 digits; it is 0 for 0 and for a number of 2^32 or more,

@@ -9,7 +9,7 @@ use Rattle.std.proofs.lemmas.List.{length-map}
 use Rattle.std.proofs.lemmas.Option.{same_Some, slice_get-get_or, slice_get_cases, slice_get_read, slice_get_within}
 use Rattle.model.specs.Stream.{Octets}
 use Rattle.model.specs.Article.{are_distinct, groups_of, overview_line}
-use Rattle.model.specs.Files.{File, table}
+use Rattle.model.specs.Files.{File, table, largest_file}
 use Rattle.model.specs.Indexed.{ArePlaces, FilePlaces, GroupIndex, group_index}
 use Rattle.model.specs.Lawful.{MayFile}
 use Rattle.model.specs.Room.{is_full}
@@ -151,7 +151,7 @@ few_filed S name k its i is few =
     omega (arith, ap (λ (j : GroupIndex). length j.filed) is, high_is S its.group, high_few S its.group.name, few)
 
 pub short_end : (x : IndexView) (p : FilePlaces) (text : Octets) (filed : List Octets) (can : CanFile x p text filed) (name : Octets)
-    (k : ℕ) (its : IsAt can.changes name k) (i : GroupIndex) → i ≡ group_index can.changes its.group → end_of i ≤ 268435456
+    (k : ℕ) (its : IsAt can.changes name k) (i : GroupIndex) → i ≡ group_index can.changes its.group → end_of i ≤ largest_file
 short_end x p text filed can name k its i is =
     let low = slice_get_within (groups can.changes) k its.group its.at in
     let among : Contains (groups can.changes) its.group = (

@@ -4,7 +4,7 @@ use Rattle.std.specs.Prelude.{Option, nat_lt, option_map, unwrap_or}
 use Rattle.std.specs.List.{sum_by}
 use Rattle.std.proofs.lemmas.List.Sums.{sum_by-cons}
 use Rattle.model.specs.Stream.{Octets}
-use Rattle.model.specs.Files.{File, table}
+use Rattle.model.specs.Files.{File, table, largest_file_one}
 use Rattle.model.specs.Lawful.{MayFile}
 use Rattle.model.specs.Records.{article_record, largest_record}
 use Rattle.model.specs.Asked.{blocks_changed, blocks_filed, blocks_fresh, pointers_put}
@@ -27,7 +27,7 @@ use Rattle.spool_growing.proofs.Held.{changes_are_few}
 -- ---- its file
 
 few_put : (fresh end : ℕ) → fresh ≤ 65 → pointers_put fresh end ≤ 3
-few_put fresh end few = by_tests (eqb fresh 0) (nat_lt 4235264 end) (nat_lt 40960 end) where
+few_put fresh end few = by_tests (eqb fresh 0) (nat_lt largest_file_one end) (nat_lt 40960 end) where
   by_tests : (none huge large : Bool) → cond none 0 (cond huge (2 + (fresh + 1022) / 1024) (cond large 1 0)) ≤ 3
   by_tests true huge large = omega arith
   by_tests false true large = omega (arith, few)

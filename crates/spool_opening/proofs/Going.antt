@@ -7,7 +7,7 @@ use Rattle.std.proofs.lemmas.List.{get_or_past, length-take, length-drop, length
 use Rattle.std.proofs.lemmas.Slice.Eq.{bytes_eq-Decides}
 use Rattle.model.specs.Stream.{Octets}
 use Rattle.model.specs.Article.{overview_line}
-use Rattle.model.specs.Files.{File, HasRoom, IsFileSystem, table}
+use Rattle.model.specs.Files.{File, HasRoom, IsFileSystem, table, largest_file}
 use Rattle.model.specs.Indexed.{group_index, value_of}
 use Rattle.model.specs.Spool.{Spool, NewsArticle, NewsGroup, filed_in, high}
 use Rattle.model.specs.FileCalls.{next_line, next_record}
@@ -48,7 +48,7 @@ no_piece inodes slots named name piece after sorted other none has =
     absurd (let found = sorted.to name has.content has.place low has.there (other has.content) in cc)
 
 pub piece_fits : (inodes : ℕ) (blocks : List Octets) (name piece : Octets) (after : ℕ) → HasRoom inodes blocks → IsFileSystem inodes blocks
-    → HasPiece (table inodes blocks) name after piece → length piece ≤ 268435456
+    → HasPiece (table inodes blocks) name after piece → length piece ≤ largest_file
 piece_fits inodes blocks name piece after room rule has =
     let fits = content_fits inodes blocks has.place (record { name = name; content = has.content }) room rule has.there in
     omega (

@@ -3,7 +3,7 @@
 ghost use Rattle.std.specs.Prelude.{◌≡◌, ◌+◌, ◌*◌, ◌^◌, ◌<◌, ◌≤◌, ◌↔◌, ℕ, List, IsTrue, false, length, IfOk, IfSome, MatchOption};
 ghost use Rattle.std.specs.List.{All};
 ghost use Rattle.model.specs.Article.{overview_line};
-ghost use Rattle.model.specs.Files.{HasRoom, IsFileSystem, table};
+ghost use Rattle.model.specs.Files.{HasRoom, IsFileSystem, table, largest_file};
 ghost use Rattle.model.specs.FileKinds.{is_of_change};
 ghost use Rattle.model.specs.Spool.{Spool};
 ghost use Rattle.index_groups.specs.Filing.{AreLineSizes, end_of};
@@ -44,7 +44,7 @@ fn stands<B: Blocks>(
         files.now.slots.items files.now.named }
     requires index { (content : List ℕ) → is_of_change (record { name = name.now; content = content }) ≡ false }
     ensures stands { IfOk result (λ stands. IsTrue stands ↔ HasPiece (table inodes (B.blocks blocks.now)) name.now after piece.now) }
-    ensures short { IfOk result (λ stands. IsTrue stands → length piece.now ≤ 268435456) }
+    ensures short { IfOk result (λ stands. IsTrue stands → length piece.now ≤ largest_file) }
 {
     let Some(at) = files.named.get(name) else {
         return Ok(false);

@@ -1,7 +1,7 @@
 -- The files of inodes, as they are read.
 use Rattle.std.proofs.Common.{◌≡◌, inl, inr, ◌<◌, ◌≤◌, ℕ, Some, None, List, get_or, length, sym, ◌∙◌, ap, arith}
 use Rattle.model.specs.Stream.{Octets}
-use Rattle.model.specs.Files.{File, HasRoom, IsFileSystem, content_of, entry, name_in, slot_of, table}
+use Rattle.model.specs.Files.{File, HasRoom, IsFileSystem, content_of, entry, name_in, slot_of, table, largest_file}
 use Rattle.model.proofs.Owning.{content_size, zero_at}
 use Rattle.fs_layout.proofs.Tables.{IsNamed, file_at_file, file_at_free, get_or-table, named_from_there}
 
@@ -26,7 +26,7 @@ pub named_file : (inodes : ℕ) (blocks : List Octets) (k : ℕ) (f : File) → 
 named_file inodes blocks k f fs there = named_from_there inodes blocks fs k f.name f.content there
 
 pub content_fits : (inodes : ℕ) (blocks : List Octets) (k : ℕ) (f : File) → HasRoom inodes blocks → IsFileSystem inodes blocks
-    → get_or (table inodes blocks) k None ≡ Some f → length f.content ≤ 268435456
+    → get_or (table inodes blocks) k None ≡ Some f → length f.content ≤ largest_file
 content_fits inodes blocks k f room fs there =
     let named = named_file inodes blocks k f fs there in
     let long = content_size blocks (entry inodes blocks k) room.blocks_whole (λ b owns. (fs.within k b named.below owns).1) in

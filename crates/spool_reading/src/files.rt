@@ -1,7 +1,7 @@
 //! The files in inodes.
 
 ghost use Rattle.std.specs.Prelude.{◌≡◌, ◌<◌, ◌≤◌, Option, Some, None, drop, length, option_map, slice_index_or, take, IfOk};
-ghost use Rattle.model.specs.Files.{File, HasRoom, IsFileSystem, table};
+ghost use Rattle.model.specs.Files.{File, HasRoom, IsFileSystem, table, largest_file};
 
 use fs_inodes::read_entry;
 use fs_layout::inodes::{INODES_AT, MOST_OCTETS, size_of};
@@ -45,7 +45,7 @@ pub fn read_file<B: Blocks>(
     requires rule { IsFileSystem inodes (B.blocks blocks.now) }
     requires there { (f : File) × (slice_index_or (table inodes (B.blocks blocks.now)) at None ≡ Some f) }
     ensures { IfOk result (λ octets. (f : File) → slice_index_or (table inodes (B.blocks blocks.now)) at None ≡ Some f
-        → (octets.items ≡ take count (drop place f.content)) × (length f.content ≤ 268435456)) }
+        → (octets.items ≡ take count (drop place f.content)) × (length f.content ≤ largest_file)) }
 {
     let octets = read_entry(alloc, blocks, inodes, at, place, count)?;
     Ok(octets)
@@ -71,7 +71,7 @@ pub fn file_at<B: Blocks>(
     requires there { (f : File) × (slice_index_or (table inodes (B.blocks blocks.now)) at None ≡ Some f) }
     ensures is { IfOk result (λ f. slice_index_or (table inodes (B.blocks blocks.now)) at None
         ≡ Some (record { name = f.name.items; content = f.content.items })) }
-    ensures short { IfOk result (λ f. length f.content.items ≤ 268435456) }
+    ensures short { IfOk result (λ f. length f.content.items ≤ largest_file) }
 {
     let Some(name) = file_name_at(alloc, blocks, inodes, at)? else {
         unreachable!()

@@ -46,7 +46,7 @@ pub fn read_label(octets: &[u8], blocks: u64) -> Option<Label<'_>>
 fn has_room(inodes: u64, blocks: u64) -> bool
     ensures { IsTrue result ↔ HasRoom inodes blocks }
 {
-    64 <= inodes && inodes <= 32768 && inodes % 64 == 0 && 2 + 2 * inodes / 64 + 256 <= blocks
+    64 <= inodes && inodes <= 32768 && inodes % 64 == 0 && 2 + 2 * (inodes / 64) + 256 <= blocks
 }
 
 fn are_zeros(octets: &[u8]) -> bool

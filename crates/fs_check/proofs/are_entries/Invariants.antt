@@ -1,5 +1,6 @@
+use Rattle.model.specs.Files.{most_octets}
 use Rattle.std.proofs.Common.{ℕ, ◌<◌}
-use Rattle.fs_check.specs.Checking.{HasSmallEntry, most_octets}
+use Rattle.fs_check.specs.Checking.{HasSmallEntry}
 use Rattle.fs_check.proofs.are_entries.Given as goal
 
 abbrev pub invariant-loop-at : goal.invariant-loop-at

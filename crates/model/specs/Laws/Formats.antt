@@ -5,7 +5,7 @@ use Rattle.std.specs.List.{All, range_with_len}
 use Rattle.model.specs.Stream.{Octets}
 use Rattle.model.specs.Volume.{number_at}
 use Rattle.model.specs.Files.{AreWithin, File, HasRoom, HoldsFiles, IsFile, content_of, entry_of, indirect_of, name_in, owned, size}
-use Rattle.model.specs.Files.{slot_octets}
+use Rattle.model.specs.Files.{slot_octets, largest_file_one}
 
 -- an inode, its slot, and its indirect block
 pub record EntryOne : Type 0 where
@@ -34,7 +34,7 @@ content_one blocks e = take (size_one e) (flat_map (λ i. slice_index_or blocks 
 -- a file of format 1: the spare octets are zero
 pub record IsFileOne (e : EntryOne) : Type 0 where
   pub kind_is : number_at 0 4 e.inode ≡ 1
-  pub small : size_one e ≤ 4235264
+  pub small : size_one e ≤ largest_file_one
   pub spare : number_at 56 8 e.inode ≡ 0
   pub indirect_where : (10 < count_one e) ↔ (indirect_one e ≢ 0)
   pub no_other_pointer : (i : ℕ) → count_one e ≤ i → i < 1034 → pointer_one e i ≡ 0
@@ -48,7 +48,7 @@ entry_one blocks inode slot = record { inode = inode; slot = slot; indirect = in
 -- the same inodes are files
 abbrev pub FilesOfFormatOne : Type 0
 FilesOfFormatOne = (blocks : List Octets) (inode slot : Octets) →
-    (IsFile (entry_of blocks inode slot) × (size (entry_of blocks inode slot) ≤ 4235264)) ↔ IsFileOne (entry_one blocks inode slot)
+    (IsFile (entry_of blocks inode slot) × (size (entry_of blocks inode slot) ≤ largest_file_one)) ↔ IsFileOne (entry_one blocks inode slot)
 
 -- the files own the same blocks and have the same content
 abbrev pub ReadAsFormatOne : Type 0

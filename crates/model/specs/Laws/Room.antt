@@ -2,13 +2,13 @@
 use Rattle.std.specs.Prelude.{◌≡◌, ℕ, ◌+◌, ◌≤◌, false, List, Some, length}
 use Rattle.std.specs.List.{Contains, sum_by}
 use Rattle.model.specs.Stream.{Octets}
-use Rattle.model.specs.Files.{File, HasRoom, HoldsFiles, free_blocks, free_inodes}
+use Rattle.model.specs.Files.{File, HasRoom, HoldsFiles, free_blocks, free_inodes, largest_file}
 use Rattle.model.specs.Lawful.{IsLawful, MayFollow}
 use Rattle.model.specs.Records.{largest_record}
 use Rattle.model.specs.Asked.{blocks_changed, blocks_for_more, blocks_taken}
 use Rattle.model.specs.Room.{blocks_for, files_made, free_blocks_beside}
 use Rattle.model.specs.Asked.{most_changed}
-use Rattle.model.specs.Room.{free_inodes_beside, is_full, largest_file}
+use Rattle.model.specs.Room.{free_inodes_beside, is_full}
 use Rattle.model.specs.Spool.{Spool}
 use Rattle.model.specs.FileCalls.{change_calls, next_line, next_record}
 use Rattle.model.specs.SpoolFiles.{change_file, files_of, numbers_file, overview_file}

@@ -1,7 +1,7 @@
 use Rattle.std.proofs.Common.{◌≡◌, ℕ, ◌+◌, ◌++◌, length, refl, sym, ◌∙◌, subst, List, ap, arith, length-append}
-use Rattle.model.specs.Files.{entry, content_of}
+use Rattle.model.specs.Files.{entry, content_of, most_octets}
 use Rattle.model.proofs.Owning.{content_size}
-use Rattle.fs_inodes.specs.Growing.{HasNoRoomFor, most_octets}
+use Rattle.fs_inodes.specs.Growing.{HasNoRoomFor}
 use Rattle.fs_inodes.proofs.Grown.{was_size}
 use Rattle.fs.proofs.Within.{within_kept}
 use Rattle.std.proofs.lemmas.Bool.{OnFalse_at, OnTrue_at}

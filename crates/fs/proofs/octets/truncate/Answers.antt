@@ -2,9 +2,9 @@ use Rattle.std.proofs.Common.{◌≡◌, ◌<◌, ◌≤◌, ℕ, ◌-◌, ◌++
 use Rattle.std.proofs.Common.{Bool, cond}
 use Rattle.std.proofs.lemmas.List.{append-nil, length-replicate, length-take, take_all}
 use Rattle.std.proofs.lemmas.Bool.{OnFalse_at, OnTrue_at, lt-ltb, le-ltb}
-use Rattle.model.specs.Files.{HasRoom, IsFileSystem, entry, size, content_of, table}
+use Rattle.model.specs.Files.{HasRoom, IsFileSystem, entry, size, content_of, table, most_octets}
 use Rattle.fs_layout.specs.Table.{IsFileAt}
-use Rattle.fs_inodes.specs.Growing.{HasNoRoomFor, most_octets}
+use Rattle.fs_inodes.specs.Growing.{HasNoRoomFor}
 use Rattle.fs_inodes.proofs.Grown.{was_size}
 use Rattle.fs_inodes.proofs.Named.{file_names}
 use Rattle.fs.proofs.Within.{within_kept}

@@ -2,13 +2,13 @@ use Rattle.std.proofs.Common.{◌≡◌, ◌<◌, ◌≤◌, ℕ, ◌+◌, ◌-�
 use Rattle.std.proofs.Common.{length-drop}
 use Rattle.std.proofs.lemmas.List.{length-take-le}
 use Rattle.std.proofs.lemmas.Bool.{OnFalse_at, OnTrue_at}
-use Rattle.model.specs.Files.{HasRoom, IsFileSystem, entry, size, content_of, table}
+use Rattle.model.specs.Files.{HasRoom, IsFileSystem, entry, size, content_of, table, most_octets}
 use Rattle.disk.specs.Image.{overwritten}
 use Rattle.disk.proofs.Images.{length-overwritten}
 use Rattle.fs_layout.specs.Table.{IsFileAt}
 use Rattle.fs_inodes.specs.Changes.{ReplacesContent}
 use Rattle.fs_inodes.proofs.Replacing.{size_now}
-use Rattle.fs_inodes.specs.Growing.{HasNoRoomFor, most_octets}
+use Rattle.fs_inodes.specs.Growing.{HasNoRoomFor}
 use Rattle.fs_inodes.proofs.Grown.{was_size}
 use Rattle.fs.proofs.Within.{within_kept}
 use Rattle.model.specs.Asked.{pointers_put}

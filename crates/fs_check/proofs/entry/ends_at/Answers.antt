@@ -1,7 +1,7 @@
-use Rattle.std.proofs.Common.{◌≡◌, ◌≢◌, inl, inr, ℕ, ◌<◌, ◌≤◌, ◌+◌, ◌-◌, ◌/◌, [], length, refl, sym, ◌∙◌, ap, arith}
-use Rattle.std.proofs.lemmas.Bool.{cases_eq, cases_lt, false≢true}
+use Rattle.std.proofs.Common.{inl, inr, ◌-◌, ◌/◌, [], length, refl, arith}
+use Rattle.std.proofs.lemmas.Bool.{cases_lt}
 use Rattle.model.specs.Volume.{number_at}
-use Rattle.model.specs.Files.{entry_of, first_data, indirect_for, indirect_pointer, pointer}
+use Rattle.model.specs.Files.{entry_of, first_data, indirect_for, indirect_pointer}
 use Rattle.fs_check.proofs.Owning.{number_there}
 use Rattle.fs_check.proofs.Pointers.{no_pointer_past}
 use Rattle.fs_check.proofs.entry.ends_at.Goals as goal

@@ -1,7 +1,6 @@
-use Rattle.std.proofs.Common.{◌≡◌, ◌≢◌, inl, inr, ℕ, ◌<◌, ◌≤◌, [], length, below_more, refl, sym, ◌∙◌, arith}
-use Rattle.std.proofs.lemmas.Bool.{cases_lt, false≢true}
+use Rattle.std.proofs.Common.{inl, inr, below_more, refl, arith}
+use Rattle.std.proofs.lemmas.Bool.{cases_lt}
 use Rattle.model.specs.Files.{first_data}
-use Rattle.fs_check.proofs.Owning.{number_there}
 use Rattle.fs_check.proofs.Pointers.{no_table_past}
 use Rattle.fs_check.proofs.entry.has_tables.Goals as goal
 

@@ -1,9 +1,9 @@
-use Rattle.std.proofs.Common.{◌≡◌, ◌≢◌, ◌≤◌, inl, inr, ℕ, List, [], length, sym, ◌∙◌, ap, subst, arith}
+use Rattle.std.proofs.Common.{◌≡◌, ◌≢◌, inl, ℕ, List, [], length, sym, ◌∙◌, ap, subst, arith}
 use Rattle.std.specs.List.{All}
 use Rattle.std.proofs.lemmas.Bool.{false≢true}
 use Rattle.model.specs.Volume.{number_at}
-use Rattle.model.specs.Files.{FileEntry, IsFree, entry, entry_of, inode_of, kind, first_data}
-use Rattle.fs_check.specs.Checking.{IsSlot, HasPointers, most_octets}
+use Rattle.model.specs.Files.{FileEntry, IsFree, entry, entry_of, inode_of, kind, first_data, most_octets}
+use Rattle.fs_check.specs.Checking.{IsSlot, HasPointers}
 use Rattle.fs_check.proofs.Deciding.{entry_from_file, free_from_entry, free_small, most_few, slot_from_entry, pointers_from_entry, no_entry}
 use Rattle.fs_check.proofs.entry.is_entry.Goals as goal
 

@@ -1,4 +1,4 @@
-use Rattle.std.proofs.Common.{◌≡◌, ℕ, Bool, cond, List, [], ◌∷◌, sym, ap, subst}
+use Rattle.std.proofs.Common.{ℕ, Bool, cond, List, [], ◌∷◌, sym, ap, subst}
 use Rattle.std.proofs.lemmas.Bool.{OnFalse_at, OnFalse_from, ne_eqb}
 use Rattle.std.specs.Bool.{OnFalse}
 use Rattle.fs_check.specs.Checking.{CanMark}

@@ -1,8 +1,7 @@
-use Rattle.std.proofs.Common.{◌≡◌, ◌≤◌, ◌<◌, ℕ, ◌+◌, ◌/◌, cond, eqb, List, [], ◌∷◌, length, map, refl, sym, ◌∙◌, ap, subst, arith}
-use Rattle.std.specs.List.{range_with_len}
+use Rattle.std.proofs.Common.{◌≡◌, ℕ, ◌+◌, ◌/◌, cond, eqb, List, [], ◌∷◌, length, refl, ◌∙◌, ap, subst, arith}
 use Rattle.std.proofs.lemmas.Bool.{OnFalse_at, OnFalse_from, OnTrue_at, OnTrue_from}
 use Rattle.model.specs.Volume.{number_at}
-use Rattle.model.specs.Files.{entry, entry_of, first_data, indirect_for, indirect_pointer, owned, pointer}
+use Rattle.model.specs.Files.{entry, first_data, indirect_for, owned}
 use Rattle.fs_check.specs.Checking.{CanMark, Marks}
 use Rattle.fs_check.proofs.Owning.{entry_small}
 use Rattle.fs_check.proofs.Wholes.{cannot_double, cannot_pointers, cannot_tables, count_few, double_there, marks_whole, table_there}

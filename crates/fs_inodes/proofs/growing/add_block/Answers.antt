@@ -1,4 +1,4 @@
-use Rattle.std.proofs.Common.{◌≡◌, ℕ, ◌+◌, List, [], ◌∷◌, sym, ◌∙◌, ap, subst, arith}
+use Rattle.std.proofs.Common.{[], ◌∷◌, arith}
 use Rattle.fs_inodes.proofs.Attaching.{adds_block, double_there, free_mid, names_mid, table_apart, table_there}
 use Rattle.fs_inodes.proofs.Taking.{none_still, takes_keep, takes_one}
 use Rattle.fs_inodes.proofs.growing.add_block.Goals as goal

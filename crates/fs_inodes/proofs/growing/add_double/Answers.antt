@@ -1,6 +1,4 @@
-use Rattle.std.proofs.Common.{◌≡◌, ℕ, ◌+◌, List, sym, ◌∙◌, ap, subst, arith}
-use Rattle.byteorder.specs.Endian.{little_bytes}
-use Rattle.disk.specs.Image.{overwritten}
+use Rattle.std.proofs.Common.{ℕ, List, sym, subst}
 use Rattle.fs_inodes.specs.Growing.{AddsDouble, NamesBlocks, inode_entry}
 use Rattle.fs_inodes.proofs.Tables.{adds_no_double, adds_double}
 use Rattle.fs_inodes.proofs.growing.add_double.Goals as goal

@@ -1,7 +1,7 @@
-use Rattle.std.proofs.Common.{◌≡◌, ℕ, ◌+◌, ◌*◌, ◌/◌, List, sym, ◌∙◌, ap, subst, arith}
+use Rattle.std.proofs.Common.{◌≡◌, ℕ, ◌+◌, ◌*◌, ◌/◌, subst, arith}
 use Rattle.std.proofs.lemmas.Result.{on_ok_weaker}
 use Rattle.model.specs.Files.{indirect_for}
-use Rattle.fs_inodes.specs.Growing.{AddsDouble, AddsTable, NamesBlocks, PutsIndirect, inode_entry}
+use Rattle.fs_inodes.specs.Growing.{NamesBlocks, inode_entry}
 use Rattle.fs_inodes.proofs.Tables.{adds_no_table, adds_table, double_there, double_apart, zeros_names}
 use Rattle.fs_inodes.proofs.growing.add_table.Goals as goal
 

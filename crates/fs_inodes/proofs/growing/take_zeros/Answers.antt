@@ -1,4 +1,4 @@
-use Rattle.std.proofs.Common.{◌≡◌, ℕ, List, replicate, set, sym, subst, arith}
+use Rattle.std.proofs.Common.{ℕ, List, sym, subst}
 use Rattle.fs_inodes.specs.Growing.{TakesZeros}
 use Rattle.fs_inodes.proofs.Taking.{takes_zeros}
 use Rattle.fs_inodes.proofs.growing.take_zeros.Goals as goal

@@ -1,9 +1,7 @@
-use Rattle.std.proofs.Common.{◌≡◌, ◌≢◌, ◌<◌, ℕ, ◌+◌, ◌*◌, ◌/◌, List, length, sym, ◌∙◌, ap, subst, arith}
+use Rattle.std.proofs.Common.{◌≡◌, ◌+◌, ◌*◌, ◌/◌, arith}
 use Rattle.std.proofs.lemmas.Result.{on_ok_weaker}
-use Rattle.model.specs.Files.{indirect_for}
-use Rattle.fs_inodes.specs.Growing.{NamesBlocks, PutsPointer, inode_entry}
+use Rattle.fs_inodes.specs.Growing.{PutsPointer}
 use Rattle.fs_inodes.specs.Shrinking.{DropsPointer, DropsTable}
-use Rattle.fs_inodes.proofs.Tables.{is_apart}
 use Rattle.fs_inodes.proofs.Untabling.{drops_first, drops_within}
 use Rattle.fs_inodes.proofs.shrinking.drop_pointer.Goals as goal
 

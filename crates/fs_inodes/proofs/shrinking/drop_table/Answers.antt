@@ -1,12 +1,11 @@
-use Rattle.std.proofs.Common.{◌≡◌, ◌≢◌, ◌<◌, ℕ, ◌+◌, false, List, length, sym, ◌∙◌, ap, subst, arith}
+use Rattle.std.proofs.Common.{ℕ, false, List, sym, subst, arith}
 use Rattle.std.proofs.lemmas.Result.{on_ok_weaker}
 use Rattle.model.specs.Volume.{number_at}
 use Rattle.model.specs.Files.{indirect_pointer}
-use Rattle.fs_layout.specs.Blocks.{IsThere}
 use Rattle.fs_layout.specs.Marks.{SetsMark}
 use Rattle.fs_inodes.specs.Growing.{PutsIndirect, inode_entry}
 use Rattle.fs_inodes.specs.Shrinking.{DropsTable}
-use Rattle.fs_inodes.proofs.Untabling.{double_apart, double_there, drops_double, drops_table}
+use Rattle.fs_inodes.proofs.Untabling.{drops_double, drops_table}
 use Rattle.fs_inodes.proofs.shrinking.drop_table.Goals as goal
 
 pub indirect_at-table-requires-clause-double : goal.indirect_at-table-requires-clause-double
