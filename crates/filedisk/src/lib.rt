@@ -42,10 +42,7 @@ impl FileDisk {
         ensures calls { IfOk result (λ f. ((file_device f).reads ≡ 0) × ((file_device f).writes ≡ 0) × ((file_device f).syncs ≡ 0)) }
         ensures failures { IfOk result (λ f. (file_device f).failures ≡ 0) }
     {
-        match make_file(rt, path, len) {
-            Ok(file) => Ok(FileDisk::over(file, len)),
-            Err(error) => Err(error),
-        }
+        Ok(FileDisk::over(make_file(rt, path, len)?, len))
     }
 
     /// Opens the existing file at `path` as a device of the file's own length. The file is locked until the device is
@@ -56,10 +53,8 @@ impl FileDisk {
         ensures calls { IfOk result (λ f. ((file_device f).reads ≡ 0) × ((file_device f).writes ≡ 0) × ((file_device f).syncs ≡ 0)) }
         ensures failures { IfOk result (λ f. (file_device f).failures ≡ 0) }
     {
-        match find_file(rt, path) {
-            Ok((file, len)) => Ok(FileDisk::over(file, len)),
-            Err(error) => Err(error),
-        }
+        let (file, len) = find_file(rt, path)?;
+        Ok(FileDisk::over(file, len))
     }
 
     // A device of `len` octets over an open file, with no call asked yet.
