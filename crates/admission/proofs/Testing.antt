@@ -12,7 +12,7 @@ use Rattle.model.specs.Article.{Carried, cause, groups_of, id, made_id}
 use Rattle.model.specs.Calendar.{moment_limit}
 use Rattle.model.specs.Indexed.{GroupIndex, group_index}
 use Rattle.model.specs.Lawful.{MayExpire, MayFile, MayMake, is_description_octet}
-use Rattle.model.specs.Spool.{Spool, NewsArticle, NewsGroup, filed_in, group_named, high, is_here, low}
+use Rattle.model.specs.Spool.{IsEnvelope, Spool, NewsArticle, NewsGroup, filed_in, group_named, high, is_here, low}
 use Rattle.model.specs.declared.change.Expiry.{Expiry}
 use Rattle.model.specs.declared.change.Filing.{Filing}
 use Rattle.model.specs.declared.change.NewGroup.{NewGroup}
@@ -106,7 +106,7 @@ some_by (Some a) n is none = absurd (cc)
 
 pub filed_by_test : (host : Octets) (S : Spool) (f : Filing) (here : List Octets) (serial : ℕ) → cause Carried f.text ≡ None
     → here ≡ filter (is_here S) (groups_of f.text) → serial ≡ length S + 1
-    → here ≡ f.envelope.groups → 0 < length f.envelope.groups → f.envelope.moment < moment_limit → MayHaveId host S serial (id f.text)
+    → here ≡ f.envelope.groups → 0 < length f.envelope.groups → IsEnvelope f.envelope → MayHaveId host S serial (id f.text)
     → MayFile host S f
 filed_by_test host S f here serial carried here_are count same some early may = record {
   carried = carried;
@@ -114,7 +114,7 @@ filed_by_test host S f here serial carried here_are count same some early may = 
   somewhere = some;
   new = may.new;
   own = λ own. may.own own ∙ ap (made_id host) count;
-  in_time = early;
+  fits = early;
 }
 
 pub id_of_filed : (host : Octets) (S : Spool) (f : Filing) (serial : ℕ) → serial ≡ length S + 1 → MayFile host S f

@@ -4,7 +4,7 @@ use crate::owners::{NOBODY, Names};
 use disk::Disk;
 use model::{MOMENT_LIMIT, Status};
 use names::{DESCRIPTION_LIMIT, is_group_name};
-use records::{FileKind, kind_of, serial_of};
+use records::{ARTICLE_COUNT_AT, ARTICLE_HEAD, ARTICLE_TEXT_AT, FileKind, kind_of, serial_of};
 use std::alloc::Global;
 use volume_format::layout::{number32, number64};
 use volume_reading::{DirectoryEntry, Grouped, ReadStop, ReadVolume, wrong, wrong_unless};
@@ -12,10 +12,8 @@ use volume_reading::{DirectoryEntry, Grouped, ReadStop, ReadVolume, wrong, wrong
 /// The octets of an article in the numbers of a group.
 const NUMBER_SIZE: u64 = 16;
 
-/// The octets before a group's description, before an article's first group, and before the name of an expiry's group.
+/// The octets before a group's description, and before the name of an expiry's group.
 const GROUP_HEADER: usize = 17;
-
-const ARTICLE_HEADER: usize = 21;
 
 const EXPIRY_HEADER: usize = 13;
 
@@ -24,12 +22,7 @@ const MOMENT_AT: usize = 8;
 
 const STATUS_AT: usize = 16;
 
-/// The offsets of the size of an article's text and of the count of its groups, and that of the size of the name in an
-/// expiry.
-const TEXT_SIZE_AT: usize = 16;
-
-const GROUP_COUNT_AT: usize = 20;
-
+/// The offset of the size of the name in an expiry.
 const NAME_SIZE_AT: usize = 12;
 
 /// Checks the rule of files, in a volume that follows the rule of blocks.
@@ -113,7 +106,7 @@ fn look_at_numbered<D: Disk>(
     let alloc = volume.alloc;
     let is_article = kind == FileKind::Article;
     let header = if is_article {
-        ARTICLE_HEADER
+        ARTICLE_HEAD
     } else {
         EXPIRY_HEADER
     };
@@ -229,18 +222,18 @@ fn look_at_size(
 
 /// The size of an article's file by its header; `None` if the header doesn't end in these octets.
 fn article_size(octets: &[u8]) -> Option<u64> {
-    if octets.len() < ARTICLE_HEADER {
+    if octets.len() < ARTICLE_HEAD {
         return None;
     }
-    let mut end = ARTICLE_HEADER;
-    for _ in 0..octets[GROUP_COUNT_AT] {
+    let mut end = ARTICLE_HEAD;
+    for _ in 0..octets[ARTICLE_COUNT_AT] {
         let name = *octets.get(end)?;
         end = end.saturating_add(1 + name as usize);
     }
     if octets.len() < end {
         return None;
     }
-    let text = u64::from(number32(octets, TEXT_SIZE_AT));
+    let text = u64::from(number32(octets, ARTICLE_TEXT_AT));
     Some((end as u64).saturating_add(text))
 }
 

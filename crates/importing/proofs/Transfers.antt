@@ -108,7 +108,7 @@ may_file host S text own groups moment carried is foreign new are some early =
       somewhere = some;
       new = subst (λ (i : Octets). by_id S i ≡ None) (sym same) new;
       own = λ its. absurd (true≢false (sym its ∙ ap (is_of_host host) same ∙ foreign));
-      in_time = early;
+      fits = early;
     }
 
 -- ---- whether there is room

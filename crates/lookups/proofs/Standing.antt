@@ -3,7 +3,7 @@ use Rattle.std.proofs.Common.{◌≡◌, ℕ, zero, suc, ◌+◌, ◌-◌, List,
 use Rattle.std.specs.Prelude.{filter, filter_map, find, slice_get, Option, Some, None, option_map, option_and_then, unwrap_or}
 use Rattle.model.specs.Stream.{Octets}
 use Rattle.model.specs.Spool.{Spool, NewsArticle, article_filed, articles, by_id, by_number, entries, entries_from, filed_in, gone_at}
-use Rattle.model.specs.Spool.{filing_of, is_gone, news_article, numbered, unless_gone}
+use Rattle.model.specs.Spool.{empty_filing, is_gone, news_article, numbered, unless_gone}
 use Rattle.model.specs.declared.change.Change.TheVariants.{Group, Article, Expire}
 use Rattle.model.specs.Reads.{id_reads}
 use Rattle.model.proofs.Found.{has_number}
@@ -80,7 +80,7 @@ pub record IsFound (S : Spool) (o : Option NewsArticle) (serial : ℕ) : Type 0 
 same_article : (S : Spool) (a : NewsArticle) → article_with S a.serial ≡ Some a → a ≡ article_of S a.serial
 same_article S a is =
     let text : text_of S a.serial ≡ a.text = ap (λ o. unwrap_or (option_map (λ (b : NewsArticle). b.text) o) []) is in
-    let other = news_article a.serial (filing_of [] [] 0) in
+    let other = news_article a.serial empty_filing in
     let same : unwrap_or (article_with S a.serial) other ≡ a = ap (λ o. unwrap_or o other) is in
     λ i. record (sym same i) { serial = a.serial; text = sym text i }
 

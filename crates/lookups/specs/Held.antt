@@ -5,7 +5,7 @@ use Rattle.std.specs.List.{enumerate_from}
 use Rattle.model.specs.Stream.{Octets, line, stuffed}
 use Rattle.model.specs.Article.{header, body, overview_line}
 use Rattle.model.specs.Spool.{Spool, NewsGroup, NewsArticle, Listed, article_filed, as_it_is, entries, filed_in, gone_at, groups, high}
-use Rattle.model.specs.Spool.{filing_of, is_gone, last_naming, low, news_article}
+use Rattle.model.specs.Spool.{empty_filing, is_gone, last_naming, low, news_article}
 use Rattle.model.specs.declared.command.Part.{Part}
 use Rattle.model.specs.declared.command.Part.TheVariants as part
 use Rattle.lookups.specs.declared.GroupView.{GroupView}
@@ -71,7 +71,7 @@ overviews_between S g from to = flat_map (λ p. line (overview_line p.0 p.1.text
 
 -- an article by its serial, if there is one; else one that says nothing
 abbrev pub article_of : Spool → ℕ → NewsArticle
-article_of S n = record (unwrap_or (article_with S n) (news_article n (filing_of [] [] 0))) { serial = n; text = text_of S n }
+article_of S n = record (unwrap_or (article_with S n) (news_article n empty_filing)) { serial = n; text = text_of S n }
 
 -- these are the numbers of the group, and the last serial that names it
 pub record IsCounts (S : Spool) (g : Octets) (counts : Counts) : Type 0 where

@@ -69,7 +69,7 @@ fits_one : (host : Octets) (before : Spool) (n : ℕ) (c : Change) → MayFollow
     → HasRoomInFile n c
 fits_one host before n (Group created) may small few = (small, omega (arith, may.in_time))
 fits_one host before n (Article filing) may small few =
-    (small, omega (arith, may.in_time), omega (arith, carried_size filing.text may.carried))
+    (small, may.fits, omega (arith, carried_size filing.text may.carried))
 fits_one host before n (Expire expiry) may small few = (small, omega (arith, may.to_high, high_few before expiry.group))
 
 pub no_change : Change
@@ -129,7 +129,8 @@ same_change n m (Article filing) (Article filing') fits fits' is =
     (little_bytes 8 filing'.envelope.moment ++ (little_bytes 4 (length filing'.text) ++ (length filing'.envelope.groups ∷ listed'))) =
     simp append_assoc at contents in
     let serials = little_split 8 n m _ _ fits.0 fits'.0 grouped in
-    let moments = little_split 8 filing.envelope.moment filing'.envelope.moment _ _ fits.1 fits'.1 serials.1 in
+    let moments = little_split 8 filing.envelope.moment filing'.envelope.moment _ _ (omega (arith, fits.1)) (omega (arith, fits'.1))
+    serials.1 in
     let lengths = little_split 4 (length filing.text) (length filing'.text) _ _ fits.2 fits'.2 moments.1 in
     let counts : length filing.envelope.groups ≡ length filing'.envelope.groups = let same = lengths.1 in cc in
     let lists : listed ≡ listed' = let same = lengths.1 in cc in

@@ -2,7 +2,7 @@
 use Rattle.std.specs.Prelude.{ℕ, ◌^◌, ◌<◌, Bool, ◌==◌, ◌||◌, slice_index, List, [], ◌∷◌, ◌++◌, map, flat_map, length}
 use Rattle.model.specs.Files.{File}
 use Rattle.model.specs.Records.{group_record, article_record, expiry_record}
-use Rattle.model.specs.Spool.{Spool, NewsGroup, NewsArticle, NewsExpiry, groups, articles, expiries}
+use Rattle.model.specs.Spool.{IsEnvelope, Spool, NewsGroup, NewsArticle, NewsExpiry, groups, articles, expiries}
 use Rattle.model.specs.SpoolFiles.{group_name, numbers_name, overview_name, article_name, expiry_name, numbers_file, overview_file}
 use Rattle.model.specs.declared.change.Change.{Change}
 use Rattle.model.specs.declared.change.Change.TheVariants.{Group, Article, Expire}
@@ -31,5 +31,5 @@ is_of_change file = slice_index file.name 0 == 103 || (slice_index file.name 0 =
 -- the serial and the numbers of a change fit into its file
 abbrev pub HasRoomInFile : ℕ → Change → Type 0
 HasRoomInFile n (Group g) = (n < 256 ^ 8) × (g.moment < 256 ^ 8)
-HasRoomInFile n (Article f) = (n < 256 ^ 8) × (f.envelope.moment < 256 ^ 8) × (length f.text < 256 ^ 4)
+HasRoomInFile n (Article f) = (n < 256 ^ 8) × IsEnvelope f.envelope × (length f.text < 256 ^ 4)
 HasRoomInFile n (Expire e) = (n < 256 ^ 8) × (e.number < 256 ^ 4)

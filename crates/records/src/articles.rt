@@ -3,9 +3,8 @@
 ghost use Rattle.std.specs.Prelude.{◌≡◌, ◌+◌, ◌^◌, ◌<◌, ◌∷◌, ◌++◌, ℕ, List, flat_map, length, IfOk, MatchOption, OnOk};
 ghost use Rattle.std.specs.List.{All};
 ghost use Rattle.byteorder.specs.Endian.{little_bytes};
-ghost use Rattle.model.specs.Calendar.{moment_limit};
 ghost use Rattle.model.specs.Records as model_records;
-ghost use Rattle.model.specs.Spool.{news_article};
+ghost use Rattle.model.specs.Spool.{IsEnvelope, news_article};
 ghost use Rattle.model.specs.declared.change.Filing.{Filing};
 
 use crate::cutting::{NAME_SIZE, cut_name, cut8, cut32, cut64};
@@ -13,7 +12,13 @@ use model::{Envelope, Moment, Names, Text};
 use std::alloc::{AllocError, Global};
 
 /// The octets of an article's record before its groups.
-const ARTICLE_HEAD: usize = 21;
+pub const ARTICLE_HEAD: usize = 21;
+
+/// The offset in the record of the number of its groups, one octet.
+pub const ARTICLE_COUNT_AT: usize = ARTICLE_HEAD - 1;
+
+/// The offset in the record of the number of octets of its text, four octets.
+pub const ARTICLE_TEXT_AT: usize = ARTICLE_COUNT_AT - 4;
 
 /// The contents of an article's file.
 #[derive(Drop)]
@@ -65,9 +70,9 @@ fn push_names(octets: &mut Vec<u8>, names: &[Text]) -> Result<(), AllocError>
 /// octets and whose moment is before the year 10000. Refused only for want of memory.
 pub fn read_article(alloc: Global, octets: &[u8]) -> Result<Option<ArticleRecord<'_>>, AllocError>
     ensures { IfOk result (λ answer. MatchOption answer
-        ((n : ℕ) (f : Filing) → f.envelope.moment < moment_limit → length f.text < 256 ^ 4
+        ((n : ℕ) (f : Filing) → IsEnvelope f.envelope → length f.text < 256 ^ 4
         → octets.now ≡ model_records.article_record (news_article n f) → ⊥)
-        (λ r. (r.envelope.moment < moment_limit)
+        (λ r. IsEnvelope r.envelope
         × (octets.now ≡ model_records.article_record (news_article r.serial (record { text = r.text.now; envelope = r.envelope }))))) }
 {
     let Some((head, rest)) = article_head(octets) else {

@@ -9,7 +9,9 @@ mod groups;
 mod names;
 mod numbers;
 
-pub use articles::{ArticleRecord, article_record, read_article};
+pub use articles::{
+    ARTICLE_COUNT_AT, ARTICLE_HEAD, ARTICLE_TEXT_AT, ArticleRecord, article_record, read_article,
+};
 pub use expiries::{ExpiryRecord, expiry_record, read_expiry};
 pub use groups::{GroupRecord, group_record, read_group};
 pub use names::{FileKind, SERIAL_DIGITS, file_name, kind_of, serial_digits, serial_of};

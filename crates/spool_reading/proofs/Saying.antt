@@ -9,7 +9,7 @@ use Rattle.model.specs.Stream.{Octets}
 use Rattle.model.specs.Records.{last_digits, group_record, article_record, expiry_record}
 use Rattle.model.specs.Calendar.{moment_limit}
 use Rattle.model.specs.Lawful.{IsLawfulAfter, MayFollow}
-use Rattle.model.specs.Spool.{Spool, NewsExpiry, NewsGroup, news_article, news_expiry, news_group, status_octet}
+use Rattle.model.specs.Spool.{IsEnvelope, Spool, NewsExpiry, NewsGroup, news_article, news_expiry, news_group, status_octet}
 use Rattle.model.specs.Files.{File}
 use Rattle.model.specs.FileKinds.{HasRoomInFile}
 use Rattle.model.specs.SpoolFiles.{change_file, group_name}
@@ -32,7 +32,7 @@ use Rattle.spool_reading.proofs.Slots.{one_serial, serial_first}
 -- a change that may follow is in time
 pub may_in_time : (host : Octets) (S : Spool) (c : Change) → MayFollow host S c → IsInTime c
 may_in_time host S (Group created) may = may.in_time
-may_in_time host S (Article filing) may = may.in_time
+may_in_time host S (Article filing) may = may.fits
 may_in_time host S (Expire expiry) may = tt
 
 -- so each change of a lawful spool is
@@ -144,7 +144,7 @@ group_is n m moment seconds octet status name description content small fits sam
 
 -- ---- articles
 
-pub no_article : (digits content : Octets) → ((n : ℕ) (f : Filing) → f.envelope.moment < moment_limit → length f.text < 256 ^ 4
+pub no_article : (digits content : Octets) → ((n : ℕ) (f : Filing) → IsEnvelope f.envelope → length f.text < 256 ^ 4
     → content ≡ article_record (news_article n f) → ⊥)
     → (n : ℕ) (c : Change) → IsFileOf n c (codes "a." ++ digits) content → ⊥
 no_article digits content none n (Article filing) is =
@@ -167,10 +167,10 @@ article_serial n m f name content c small is its =
     serial_said n m c name content small (ap (take 8) is ∙ serial_first m (Article f)) its
 
 pub article_is : (n m : ℕ) (f : Filing) (digits content : Octets) → n < 256 ^ 8 → length content < 2 ^ 32
-    → digits ≡ last_digits 10 n → m ≡ n → f.envelope.moment < moment_limit → content ≡ article_record (news_article m f)
+    → digits ≡ last_digits 10 n → m ≡ n → IsEnvelope f.envelope → content ≡ article_record (news_article m f)
     → IsFileOf n (Article f) (codes "a." ++ digits) content
 article_is n m f digits content small short digits_are same early is = record {
-  room = (small, omega (arith, early), omega (arith, text_fits (news_article m f), ap (λ (o : Octets). length o) is));
+  room = (small, early, omega (arith, text_fits (news_article m f), ap (λ (o : Octets). length o) is));
   in_time = early;
   file =
       let whole = is ∙ ap (λ (k : ℕ). article_record (news_article k f)) same in

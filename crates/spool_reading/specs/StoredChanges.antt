@@ -3,6 +3,7 @@ use Rattle.std.specs.Prelude.{◌≡◌, ◌<◌, ℕ}
 use Rattle.model.specs.Stream.{Octets}
 use Rattle.model.specs.Calendar.{moment_limit}
 use Rattle.model.specs.FileKinds.{HasRoomInFile}
+use Rattle.model.specs.Spool.{IsEnvelope}
 use Rattle.model.specs.SpoolFiles.{change_file}
 use Rattle.model.specs.declared.change.Change.{Change}
 use Rattle.model.specs.declared.change.Change.TheVariants as change
@@ -19,7 +20,7 @@ change_of (said.Expiry group number) = change.Expire (record { group = group.now
 -- the moment of the change, if it has one, is before the year 10000
 abbrev pub IsInTime : Change → Type 0
 IsInTime (change.Group g) = g.moment < moment_limit
-IsInTime (change.Article f) = f.envelope.moment < moment_limit
+IsInTime (change.Article f) = IsEnvelope f.envelope
 IsInTime (change.Expire e) = Unit {0}
 
 -- the file with this name and content is that of this change with this serial, and the change is in time
