@@ -14,7 +14,8 @@ use std::collections::BTreeMap;
 use std::env;
 use std::io::Print;
 use std::time::{Clock, Instant};
-use volume::{BLOCK_SIZE, Volume};
+use blocks::BLOCK_SIZE;
+use volume::Volume;
 
 /// Blocks of the volume.
 const BLOCKS: u32 = 2048;

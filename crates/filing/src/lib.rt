@@ -9,10 +9,10 @@ ghost use Rattle.fs.specs.Touches.{Touches, touched_by_growth};
 ghost use Rattle.filing.specs.Calls.{AppendsAt, AppendsFirst, CreatesAt, IsKnown, MakesAt, MayAllGrow, MayGrow, blocks_for_more};
 ghost use Rattle.filing.specs.Calls.{touched_by_pieces};
 
+use blocks::Blocks;
 use fs::by_inode::extend;
 use fs::{FsError, create_absent};
 use std::alloc::AllocError;
-use volume::Blocks;
 
 /// What is known of the free blocks and inodes.
 #[derive(Clone, Copy)]

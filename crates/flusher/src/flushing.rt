@@ -17,7 +17,8 @@ use std::sync::Wait;
 use std::thread;
 use thiserror::Error;
 use usage::{BitmapMarks, Tally};
-use volume::{BATCH_BLOCKS, BLOCK_SIZE, BatchBuf};
+use blocks::BLOCK_SIZE;
+use volume::{BATCH_BLOCKS, BatchBuf};
 use volume_format::{are_below, are_distinct};
 
 /// Why a turn of the flusher was refused. Then the kernel is halted, and the mark stopped.

@@ -6,13 +6,13 @@ ghost use Rattle.fs.specs.Changes.{SameMarks};
 ghost use Rattle.fs.specs.Touches.{Touches, touched_by_cut};
 ghost use Rattle.fs.specs.Calls.{IsName, IsThere, IsFileAt, Creates, HasNoFreeInode, Unlinks, file_names};
 
+use blocks::Blocks;
 use fs_inodes::{remove_empty, shrink_to};
 use fs_layout::FsError;
 use fs_layout::inodes::{FILE_KIND, INODES_AT, size_of};
 use fs_layout::records::{RECORD_SIZE, find, find_from, get_record, put_record};
 use fs_layout::slots::{name_of, slot_for};
 use std::alloc::{AllocError, Global};
-use volume::Blocks;
 
 /// The size of a file in octets. `NotFound` exactly if no file has the name.
 pub fn size<B: Blocks>(blocks: &B, inodes: u32, name: &[u8]) -> Result<u64, FsError>

@@ -8,13 +8,13 @@ ghost use Rattle.fs.specs.Changes.{Rewrites};
 ghost use Rattle.fs.specs.Touches.{Touches, touched_by_growth, touched_by_truncation, touched_by_write};
 ghost use Rattle.fs.specs.Growing.{Appends, CannotGrow};
 
+use blocks::Blocks;
 use fs_inodes::{extend, extend_zeros, has_room_for, overwrite, read_entry, shrink_to};
 use fs_layout::FsError;
 use fs_layout::inodes::size_of;
 use fs_layout::records::find;
 use fs_layout::slots::slot_for;
 use std::alloc::Global;
-use volume::Blocks;
 
 /// The octets of a file from a place up to its size, at most `count`. `NotFound` exactly if no file has the name. The
 /// only other refusal is `Memory`.

@@ -6,9 +6,9 @@ ghost use Rattle.model.specs.Files.{HasRoom};
 ghost use Rattle.fs.specs.Calls.{Makes};
 ghost use Rattle.fs.specs.Touches.{Touches};
 
+use blocks::{BLOCK_SIZE, Blocks};
 use fs_layout::FsError;
 use fs_layout::bits::set_front;
-use volume::{BLOCK_SIZE, Blocks};
 
 /// Makes the empty file system on zeroed blocks. After `Memory` the caller must drop the stage.
 pub fn make_empty<B: Blocks>(blocks: &mut B, inodes: u32) -> Result<(), FsError>

@@ -7,14 +7,14 @@ ghost use Rattle.model.specs.Files.{HasRoom, entry_of, indirect_for, indirect_po
 ghost use Rattle.fs_layout.specs.Blocks.{IsThere};
 ghost use Rattle.fs_check.specs.Checking.{IsSlot, HasNumber, HasTables, HasPointers, HasSmallEntry};
 
+use blocks::Blocks;
 use fs_layout::inodes::{
     BLOCK_POINTERS, DIRECT_POINTERS, DOUBLE_AT, INODES_AT, SIZE_AT, SPARE_AT, content_blocks,
     indirect_at, most_octets, pointer_at,
 };
-use fs_layout::numbers::{number32, number64};
 use fs_layout::records::{RECORD_SIZE, get_record};
 use fs_layout::slots::{NAME_MAX, slot_for};
-use volume::Blocks;
+use octet_numbers::{number32, number64};
 
 const FREE_KIND: u32 = 0;
 

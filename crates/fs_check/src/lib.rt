@@ -7,13 +7,13 @@ ghost use Rattle.fs_check.specs.Checking.{HasEntry, HasSmallEntry, HasDistinctNa
 
 use crate::entry::{data_start, is_entry};
 use crate::marks::{is_bitmap, mark_owners};
+use blocks::Blocks;
 use fs_layout::FsError;
 use fs_layout::bits::set_front;
 use fs_layout::inodes::INODES_AT;
 use fs_layout::records::{RECORD_SIZE, get_record};
 use std::alloc::{AllocError, Global};
 use std::collections::BTreeSet;
-use volume::Blocks;
 
 mod entry;
 mod marks;

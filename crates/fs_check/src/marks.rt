@@ -10,11 +10,11 @@ ghost use Rattle.fs_layout.specs.Bits.{bit_of, SetsBit, IsFront};
 ghost use Rattle.fs_check.specs.Checking.{HasEntry, CanMark, Marks, HasOwners, MarksUsed};
 
 use crate::entry::tables_for;
+use blocks::{BLOCK_SIZE, Blocks};
 use fs_layout::bits::{is_set, set};
 use fs_layout::inodes::{DOUBLE_AT, INODES_AT, SIZE_AT, content_blocks, indirect_at, pointer_at};
-use fs_layout::numbers::{number32, number64};
 use fs_layout::records::{RECORD_SIZE, get_record};
-use volume::{BLOCK_SIZE, Blocks};
+use octet_numbers::{number32, number64};
 
 // Marks the blocks that entries own. False if one lies outside the data, or is owned twice.
 pub fn mark_owners<B: Blocks>(blocks: &B, inodes: u32, marks: &mut [u8]) -> bool

@@ -13,15 +13,15 @@ ghost use Rattle.fs_inodes.specs.Growing.{inode_entry, with_double, with_indirec
 
 use crate::pieces::{put_number, put_piece};
 use crate::room::blocks_more;
+use blocks::{BLOCK_SIZE, Blocks};
 use fs_layout::inodes::{
     BLOCK_POINTERS, DIRECT_POINTERS, DOUBLE_AT, INDIRECT_AT, INODES_AT, POINTERS_AT, SIZE_AT,
     indirect_at, pointer_at, size_of,
 };
 use fs_layout::marks::take_block;
-use fs_layout::numbers::{number32, number64, put32, put64};
 use fs_layout::records::{RECORD_SIZE, get_record, put_record};
+use octet_numbers::{number32, number64, put32, put64};
 use std::alloc::AllocError;
-use volume::{BLOCK_SIZE, Blocks};
 
 // Puts the number of a file's i-th block into its inode, or into a block of pointers.
 pub(crate) fn put_pointer<B: Blocks>(

@@ -5,9 +5,9 @@ ghost use Rattle.byteorder.specs.Endian.{little_bytes};
 ghost use Rattle.disk.specs.Image.{overwritten};
 ghost use Rattle.fs_inodes.specs.Growing.{PutsPiece};
 
-use fs_layout::numbers::put32;
+use blocks::{BLOCK_SIZE, Blocks, put_part};
+use octet_numbers::put32;
 use std::alloc::AllocError;
-use volume::{BLOCK_SIZE, Blocks, put_part};
 
 // Puts a number into four octets of a block.
 pub(crate) fn put_number<B: Blocks>(

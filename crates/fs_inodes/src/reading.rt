@@ -3,11 +3,11 @@
 ghost use Rattle.std.specs.Prelude.{◌≡◌, ◌-◌, ◌%◌, ◌<◌, ◌++◌, min, take, drop, IfOk, OnOk};
 ghost use Rattle.model.specs.Files.{HasRoom, IsFileSystem, IsFile, entry, content_of};
 
+use blocks::{BLOCK_SIZE, Blocks};
 use fs_layout::inodes::{INODES_AT, SIZE_AT, pointer_at, size_of};
-use fs_layout::numbers::number64;
 use fs_layout::records::{RECORD_SIZE, get_record};
+use octet_numbers::number64;
 use std::alloc::{AllocError, Global};
-use volume::{BLOCK_SIZE, Blocks};
 
 /// Borrows the octets of the file of an inode from a place on: at most `count`, and no further than the end of the
 /// block that contains the place. From the file's size on the result is empty.

@@ -6,9 +6,9 @@ ghost use Rattle.model.specs.Files.{HasRoom, indirect_for, largest_file, most_oc
 ghost use Rattle.fs_inodes.specs.Growing.{blocks_for, HasNoRoomFor};
 ghost use Rattle.fs_inodes.specs.Growing.{HasRoomFor};
 
+use blocks::Blocks;
 use fs_layout::inodes::{BLOCK_POINTERS, DIRECT_POINTERS, content_blocks, most_octets};
 use fs_layout::marks::free_block_count;
-use volume::Blocks;
 
 // The number of blocks that a file of this many octets owns, including those that name its blocks.
 fn owned_blocks(size: u64) -> u64

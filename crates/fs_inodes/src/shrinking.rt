@@ -9,15 +9,15 @@ ghost use Rattle.fs_inodes.specs.Growing.{NamesBlocks, inode_entry};
 ghost use Rattle.fs_inodes.specs.Shrinking.{DropsPointer, DropsTable};
 
 use crate::growing::{put_indirect, put_pointer};
+use blocks::{BLOCK_SIZE, Blocks};
 use fs_layout::inodes::{
     BLOCK_POINTERS, DIRECT_POINTERS, DOUBLE_AT, INODES_AT, SIZE_AT, content_blocks, indirect_at,
     pointer_at,
 };
 use fs_layout::marks::unmark;
-use fs_layout::numbers::{number32, number64, put32, put64};
 use fs_layout::records::{RECORD_SIZE, get_record, put_record};
+use octet_numbers::{number32, number64, put32, put64};
 use std::alloc::AllocError;
-use volume::{BLOCK_SIZE, Blocks};
 
 /// Cuts the file of an inode to `end` octets, which must not exceed its size. Refused only for want of memory; then the
 /// caller must drop the stage.

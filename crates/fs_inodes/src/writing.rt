@@ -6,10 +6,10 @@ ghost use Rattle.model.specs.Files.{HasRoom, IsFileSystem, IsFile, entry, size, 
 ghost use Rattle.fs_layout.specs.Touches.{SameBut, Touches, blocks_reached};
 ghost use Rattle.fs_inodes.specs.Changes.{ReplacesContent, SameMarks};
 
+use blocks::{BLOCK_SIZE, Blocks};
 use fs_layout::inodes::{INODES_AT, pointer_at};
 use fs_layout::records::{RECORD_SIZE, get_record};
 use std::alloc::AllocError;
-use volume::{BLOCK_SIZE, Blocks};
 
 /// Overwrites octets of the file of an inode, from a place on and within its size. Refused only for want of memory;
 /// then the caller must drop the stage.

@@ -7,9 +7,9 @@ ghost use Rattle.fs_layout.specs.Blocks.{IsThere};
 ghost use Rattle.model.specs.Files as files;
 ghost use Rattle.model.specs.Files.{HasRoom, entry, entry_of, free_inodes, indirect_pointer, pointer, largest_file, most_octets};
 
-use crate::numbers::{number32, number64};
 use crate::records::{RECORD_SIZE, get_record};
-use volume::{BLOCK_SIZE, Blocks};
+use blocks::{BLOCK_SIZE, Blocks};
+use octet_numbers::{number32, number64};
 
 /// The first block of the inodes, after the bitmap.
 pub const INODES_AT: u32 = 2;

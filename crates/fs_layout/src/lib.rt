@@ -5,7 +5,6 @@ pub mod bits;
 mod errors;
 pub mod inodes;
 pub mod marks;
-pub mod numbers;
 pub mod records;
 pub mod slots;
 

@@ -5,8 +5,8 @@ ghost use Rattle.model.specs.Files.{HasRoom, free_blocks};
 ghost use Rattle.fs_layout.specs.Marks.{IsLowestFree, HasNoFreeBlock, NoneFreeBelow, SetsMark, TakesBlock};
 
 use crate::bits::{count_clear, lowest_clear, set, unset};
+use blocks::{BLOCK_SIZE, Blocks};
 use std::alloc::AllocError;
-use volume::{BLOCK_SIZE, Blocks};
 
 /// The number of bits in a block.
 pub const BLOCK_BITS: usize = 8 * BLOCK_SIZE;

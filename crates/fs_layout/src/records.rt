@@ -5,8 +5,8 @@ ghost use Rattle.disk.specs.Image.{part};
 ghost use Rattle.model.specs.Files.{HasRoom, slot_of};
 ghost use Rattle.fs_layout.specs.Blocks.{PutsRecord, IsFoundIn, IsFound};
 
+use blocks::Blocks;
 use std::alloc::AllocError;
-use volume::Blocks;
 
 /// The number of octets in a record.
 pub const RECORD_SIZE: usize = 64;

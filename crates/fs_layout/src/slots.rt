@@ -5,8 +5,8 @@ ghost use Rattle.model.specs.Files.{slot_octets, name_in};
 ghost use Rattle.fs_layout.specs.Table.{IsName};
 
 use crate::records::RECORD_SIZE;
+use blocks::put_part;
 use std::alloc::{AllocError, Global};
-use volume::put_part;
 
 /// The most octets that a name may have.
 pub const NAME_MAX: usize = 63;

@@ -10,7 +10,7 @@ use Rattle.model.specs.Stream.{Octets}
 use Rattle.model.specs.Volume.{blocks_from, laid_over}
 use Rattle.spool.specs.View.{IsSpool, SpoolView}
 use Rattle.volume.specs.Volume.{BatchView}
-use Rattle.volume.proofs.Octets.{blocks_from-flat_map}
+use Rattle.blocks.proofs.Octets.{blocks_from-flat_map}
 use Rattle.importing.specs.Saved.{Carries, IsSameVolume, LeavesOneOf, after_batch}
 use Rattle.importing.proofs.Carried.{stands}
 

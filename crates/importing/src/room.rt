@@ -12,7 +12,7 @@ use journal::{Journal, JournalError};
 use lookups::LookUps;
 use spool::Spool;
 use usage::{inodes_used, used_blocks};
-use volume::BLOCK_SIZE;
+use blocks::BLOCK_SIZE;
 
 /// A change is made only if this many blocks are free.
 const BLOCKS_ASKED: u64 = spool::BLOCKS_ASKED as u64;

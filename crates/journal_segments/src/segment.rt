@@ -11,7 +11,8 @@ use crate::reading::load_batch;
 use disk::Disk;
 use std::alloc::{AllocError, Global};
 use std::marker::Model;
-use volume_format::layout::{BLOCK, SEGMENT_IMAGES, block_at, number64};
+use octet_numbers::number64;
+use volume_format::layout::{BLOCK, SEGMENT_IMAGES, block_at};
 use volume_format::{describe_batch, zeros};
 
 /// A segment: its place on the device, and the descriptor block, the numbers and the images of its batch. It has room

@@ -10,7 +10,7 @@ use Rattle.std.proofs.lemmas.List.Elements.{All-get_or, All-weaker}
 use Rattle.model.specs.Stream.{Octets}
 use Rattle.model.specs.Volume.{AreDistinct, blocks_from, laid_over}
 use Rattle.volume.specs.Volume.{AgreeOutside}
-use Rattle.volume.proofs.Octets.{blocks_from-flat_map}
+use Rattle.blocks.proofs.Octets.{blocks_from-flat_map}
 use Rattle.spool.specs.View.{IsSpool, SpoolView}
 use Rattle.kernel.specs.Kernel.{AgreesBehind, Takes}
 use Rattle.seats.specs.Seats.{Seat}

@@ -17,7 +17,8 @@ use model::Text;
 use spool::Spool;
 use std::alloc::Global;
 use thiserror::Error;
-use volume::{Blocks, Volume};
+use blocks::Blocks;
+use volume::Volume;
 use volume_label::read_label;
 
 /// Why a kernel was not opened.
@@ -116,7 +117,7 @@ fn read<D: Disk>(alloc: Global, journal: &mut Journal<D>) -> Result<Spool, OpenE
         return Err(OpenError::Memory);
     };
     let format = journal.format_number();
-    let loaded = Volume::open(alloc, journal);
+    let loaded = volume_loading::open(alloc, journal);
     // its clauses state what the journal keeps
     let _idle = journal.is_idle();
     match loaded {
@@ -125,8 +126,8 @@ fn read<D: Disk>(alloc: Global, journal: &mut Journal<D>) -> Result<Spool, OpenE
             let _count = volume.len();
             spool_in(alloc, Text::new(host), inodes, format, volume)
         }
-        Err(volume::LoadError::Fault) => Err(OpenError::Fault),
-        Err(volume::LoadError::Memory) => Err(OpenError::Memory),
+        Err(volume_loading::LoadError::Fault) => Err(OpenError::Fault),
+        Err(volume_loading::LoadError::Memory) => Err(OpenError::Memory),
     }
 }
 

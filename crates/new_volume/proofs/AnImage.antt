@@ -19,7 +19,7 @@ use Rattle.model.proofs.Owning.{zero_at}
 use Rattle.segment_laws.specs.Images.{IsInside, IsOpenIn, SameBut}
 use Rattle.segment_laws.proofs.Blocks.{block-overwritten, overwritten_same}
 use Rattle.segment_laws.proofs.Standing.{count_same, get_or-home, head_same, home_size_same, length-home, stands_over}
-use Rattle.volume.proofs.Octets.{length-block}
+use Rattle.blocks.proofs.Octets.{length-block}
 use Rattle.volume_format.specs.Formatting.{zero_block, zeroed}
 use Rattle.volume_format.proofs.Formatted.{blocks_are, label_is, length-superblock, none_formatted, segments_are, stands_formatted, IsZero}
 use Rattle.volume_format.proofs.Formatted.{superblock, superblock_valid, is_zero_block}

@@ -5,7 +5,7 @@ ghost use Rattle.fs_layout.specs.Bits.{IsFront};
 ghost use Rattle.model.specs.Files.{first_data};
 
 use fs_layout::bits::set_front;
-use volume::BLOCK_SIZE;
+use blocks::BLOCK_SIZE;
 
 /// The first block of the empty file system, whose other blocks are zeros. The bitmap marks all blocks before the data
 /// as used.

@@ -41,7 +41,8 @@ use room::extends_large;
 use spool_growing::{grow_by_article, grow_by_expiry, grow_by_group};
 use std::alloc::{AllocError, Global};
 use std::marker::Model;
-use volume::{BatchBuf, Blocks, Volume};
+use blocks::Blocks;
+use volume::{BatchBuf, Volume};
 
 /// A change is refused as `Full` (E6) if fewer blocks than this are free.
 pub const BLOCKS_ASKED: u32 = 256;

@@ -12,7 +12,7 @@ use model::Change;
 use places::Places;
 use spool_reading::{file_at, read_change};
 use std::alloc::{AllocError, Global};
-use volume::Blocks;
+use blocks::Blocks;
 
 /// The change with this serial of the spool that the blocks hold, read once from its file. Refused only for want of
 /// memory.

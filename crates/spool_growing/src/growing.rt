@@ -18,7 +18,8 @@ use model::{Envelope, Moment, Status};
 use places::Places;
 use records::{article_record, expiry_record, group_record};
 use std::alloc::{AllocError, Global};
-use volume::{Blocks, Volume};
+use blocks::Blocks;
+use volume::Volume;
 
 /// What is free, after a search for the lowest free block.
 fn seek_block(volume: &Volume, inodes: u32, free: Free) -> Free

@@ -13,7 +13,7 @@ ghost use Rattle.spool_growing.specs.Growing.{FilesArticle, HasFree, LacksGroup,
 use filing::{Free, Piece, append_all, create_file, make_file};
 use records::{FileKind, expiry_record, file_name, group_record, serial_digits};
 use std::alloc::{AllocError, Global};
-use volume::Blocks;
+use blocks::Blocks;
 
 /// The inodes of the files of a group.
 #[derive(Clone, Copy)]

@@ -13,7 +13,7 @@ use index::Index;
 use places::Places;
 use spool_reading::{Files, ReadSpoolError};
 use std::alloc::Global;
-use volume::Blocks;
+use blocks::Blocks;
 
 /// Replays all changes, whose files are in the first `count` slots. `Damaged` only if the blocks hold no spool of the
 /// host.

@@ -17,7 +17,7 @@ use index::Index;
 use records::{FileKind, kind_of};
 use spool_reading::{file_name_at, file_size_at};
 use std::alloc::{AllocError, Global};
-use volume::Blocks;
+use blocks::Blocks;
 
 /// Whether a file of this name belongs to a change.
 fn names_change(name: &[u8]) -> bool

@@ -23,7 +23,7 @@ use overview::Overview;
 use records::{FileKind, file_name, number_record};
 use spool_reading::{Files, read_file};
 use std::alloc::{AllocError, Global};
-use volume::Blocks;
+use blocks::Blocks;
 
 /// The number of octets that an article takes in the numbers of a group.
 pub(crate) const NUMBER_SIZE: u64 = 16;

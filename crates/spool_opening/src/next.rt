@@ -15,7 +15,7 @@ use model::{Moment, Status};
 use records::{FileKind, file_name};
 use spool_reading::{Files, ReadSpoolError, StoredChange, file_at, read_change};
 use std::alloc::Global;
-use volume::Blocks;
+use blocks::Blocks;
 
 /// Replays a group, whose numbers and overview are found by their names. `Damaged` only if it is not the next change of
 /// a spool that the blocks hold: it may not follow the changes before it, or one of its files is missing.

@@ -14,7 +14,7 @@ use fs_check::check;
 use fs_layout::FsError;
 use spool_reading::{ReadSpoolError, sort};
 use std::alloc::Global;
-use volume::Blocks;
+use blocks::Blocks;
 
 /// Opens the spool of a host in the blocks of a volume of this format, whatever they contain: its index, and the places
 /// of its files. `Damaged` exactly if the blocks hold no spool of the host, because the rule of blocks or the rule of

@@ -19,7 +19,7 @@ use model::{Envelope, Moment, Status};
 use places::Places;
 use spool_reading::{Files, ReadSpoolError};
 use std::alloc::Global;
-use volume::Blocks;
+use blocks::Blocks;
 
 /// The index of the changes that were replayed, and the places of their files.
 #[derive(Drop)]

@@ -8,7 +8,7 @@ use fs_layout::inodes::{INODES_AT, MOST_OCTETS, size_of};
 use fs_layout::records::{RECORD_SIZE, get_record};
 use fs_layout::slots::name_of;
 use std::alloc::{AllocError, Global};
-use volume::Blocks;
+use blocks::Blocks;
 
 /// The name of the file of an inode, if it has one. Refused only for want of memory.
 pub fn file_name_at<B: Blocks>(

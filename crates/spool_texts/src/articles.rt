@@ -17,7 +17,7 @@ use index::Index;
 use model::Part;
 use places::Places;
 use std::alloc::{AllocError, Global};
-use volume::Blocks;
+use blocks::Blocks;
 
 /// The number of octets of the line that ends a header.
 const EMPTY_LINE_SIZE: u64 = 2;

@@ -11,7 +11,7 @@ use header_fields::header_length;
 use index::Index;
 use places::Places;
 use std::alloc::{AllocError, Global};
-use volume::Blocks;
+use blocks::Blocks;
 
 /// The number of octets of the longest header that is stored, and of the empty line after it.
 const FRONT_SIZE: u64 = HEADER_LIMIT as u64 + 2;

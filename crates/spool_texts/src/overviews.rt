@@ -19,7 +19,7 @@ use index_groups::Group;
 use overview::push_line;
 use places::Places;
 use std::alloc::{AllocError, Global};
-use volume::{BLOCK_SIZE, Blocks};
+use blocks::{BLOCK_SIZE, Blocks};
 
 /// The number of octets that end a line.
 const CRLF_SIZE: u64 = 2;

@@ -8,7 +8,7 @@ use fs_inodes::piece;
 use fs_layout::inodes::size_of;
 use replies::{Stuffing, push_end};
 use std::alloc::AllocError;
-use volume::Blocks;
+use blocks::Blocks;
 
 /// The number of octets of the line that ends a block of lines (RFC 3977, section 3.1.1).
 pub(crate) const END_SIZE: u64 = 3;

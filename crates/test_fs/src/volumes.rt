@@ -9,7 +9,8 @@ use fs::{
     size, truncate, unlink, write_at,
 };
 use std::alloc::Global;
-use volume::{BATCH_BLOCKS, BLOCK_SIZE, BatchBuf, Blocks, Volume};
+use blocks::{BLOCK_SIZE, Blocks};
+use volume::{BATCH_BLOCKS, BatchBuf, Volume};
 
 /// The inodes of the volumes that are tested.
 const INODES: u32 = 64;

@@ -8,7 +8,8 @@ use names::is_host;
 use spool::Spool;
 use spool_reading::ReadSpoolError;
 use std::alloc::{AllocError, Global};
-use volume::{BATCH_BLOCKS, BLOCK_SIZE, BatchBuf, Blocks, Volume};
+use blocks::{BLOCK_SIZE, Blocks};
+use volume::{BATCH_BLOCKS, BatchBuf, Volume};
 
 /// The inodes of the volumes that are tested.
 pub const INODES: u32 = 64;

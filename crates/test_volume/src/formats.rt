@@ -7,7 +7,7 @@ use names::is_host;
 use new_volume::{FORMAT_1, FORMAT_2, VolumePlan, are_sizes, device_octets, format};
 use std::alloc::Global;
 use std::test::Fail;
-use volume::BLOCK_SIZE;
+use blocks::BLOCK_SIZE;
 
 /// What an opening finds.
 #[derive(Clone, Copy, Debug, PartialEq, Eq)]

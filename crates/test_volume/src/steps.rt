@@ -6,7 +6,9 @@ use journal::{FormatError, Journal};
 use memdisk::MemDisk;
 use std::alloc::{AllocError, Global};
 use std::test::Fail;
-use volume::{BATCH_BLOCKS, BLOCK_SIZE, BatchBuf, Blocks, LoadError, Volume};
+use blocks::{BLOCK_SIZE, Blocks};
+use volume::{BATCH_BLOCKS, BatchBuf, Volume};
+use volume_loading::LoadError;
 
 /// A call, or what a read must give.
 #[derive(Clone, Copy)]
@@ -60,7 +62,7 @@ pub fn loaded(alloc: Global, fail_at: u64) -> Result<Result<Volume, LoadError>, 
         return Err("the journal is not idle")?;
     }
     journal.fail_at(fail_at);
-    Ok(Volume::open(alloc, &mut journal))
+    Ok(volume_loading::open(alloc, &mut journal))
 }
 
 /// Whether each octet of a block is this one.

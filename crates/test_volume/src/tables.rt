@@ -3,7 +3,8 @@
 use crate::steps::{Step, answers, loaded, zeros};
 use std::alloc::{AllocError, Global};
 use std::test::Fail;
-use volume::{BatchBuf, LoadError, Volume};
+use volume::{BatchBuf, Volume};
+use volume_loading::LoadError;
 
 /// The steps of a volume of 8 zeroed blocks.
 const STEPS: &[(&str, &[Step<'static>])] = &[

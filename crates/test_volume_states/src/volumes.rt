@@ -8,7 +8,8 @@ use spool_reading::ReadSpoolError;
 use std::alloc::Global;
 use std::test::Fail;
 use test_support_spool::{Answer, Call, Stored, make};
-use volume::{BATCH_BLOCKS, BLOCK_SIZE, BatchBuf, Blocks, Volume};
+use blocks::{BLOCK_SIZE, Blocks};
+use volume::{BATCH_BLOCKS, BatchBuf, Volume};
 use volume_states::volume_status;
 
 /// The inodes and the blocks of the volumes of `Stored`.

@@ -10,7 +10,7 @@ use Rattle.model.proofs.Blocks.{get_or-blocks_from}
 use Rattle.volume.specs.Numbers.{Numbers, IsNumbers}
 use Rattle.volume.specs.Volume.{Differs, seen_over}
 use Rattle.volume.proofs.Laid.{laid_over_other, laid_over_push}
-use Rattle.volume.proofs.Octets.{length-blocks_from, blocks_from-put, length-put, length-block}
+use Rattle.blocks.proofs.Octets.{length-blocks_from, blocks_from-put, length-put, length-block}
 
 -- as far as the first `at` staged blocks
 pub record IsApplied (at : ℕ) (staged images start cache : List ℕ) (before dirty : Numbers) : Type 0 where

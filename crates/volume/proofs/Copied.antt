@@ -7,7 +7,7 @@ use Rattle.model.specs.Volume.{block, blocks_from, laid_over}
 use Rattle.model.proofs.Blocks.{get_or-blocks_from}
 use Rattle.volume.specs.Volume.{AgreeOutside}
 use Rattle.volume.proofs.Laid.{laid_over_done, laid_over_agree}
-use Rattle.volume.proofs.Octets.{length-block, blocks_from-flat_map}
+use Rattle.blocks.proofs.Octets.{length-block, blocks_from-flat_map}
 
 flat_map_same : (f g : ℕ → List ℕ) (ns : List ℕ) → All (λ n. f n ≡ g n) ns → flat_map f ns ≡ flat_map g ns
 flat_map_same f g [] same = refl

@@ -9,7 +9,7 @@ use Rattle.model.proofs.Blocks.{get_or-blocks_from, length-laid_over}
 use Rattle.volume.specs.Numbers.{Numbers}
 use Rattle.volume.specs.Volume.{IsVolume, seen_over}
 use Rattle.volume.proofs.Laid.{laid_over_at, laid_over_other, laid_over_push, laid_over_set}
-use Rattle.volume.proofs.Octets.{length-blocks_from, blocks_whole, blocks_from-put, blocks_from-push}
+use Rattle.blocks.proofs.Octets.{length-blocks_from, blocks_whole, blocks_from-put, blocks_from-push}
 
 laid_over_whole : (xs : List (List ℕ)) (ns : List ℕ) (images : List (List ℕ)) → All (λ b. length b ≡ 4096) xs
     → All (λ b. length b ≡ 4096) images → All (λ b. length b ≡ 4096) (laid_over xs ns images)

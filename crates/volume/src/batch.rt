@@ -6,7 +6,7 @@ ghost use Rattle.model.specs.Volume.{block};
 ghost use Rattle.volume.specs.Volume.{BatchView};
 
 use crate::BATCH_BLOCKS;
-use crate::blocks::{BLOCK_SIZE, block_of, put_block};
+use blocks::{BLOCK_SIZE, block_of, put_block};
 use std::alloc::{AllocError, Global};
 use std::marker::Model;
 

@@ -2,14 +2,11 @@
 #![tactic(auto)]
 
 mod batch;
-mod blocks;
-mod errors;
 mod numbers;
 mod volume;
 
 pub use batch::BatchBuf;
-pub use blocks::{BLOCK_SIZE, Blocks, put_part};
-pub use errors::LoadError;
+pub use numbers::NumberSet;
 pub use volume::Volume;
 
 /// The most blocks that a batch has.

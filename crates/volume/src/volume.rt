@@ -1,21 +1,16 @@
 //! A stage over a cache.
 
-ghost use Rattle.std.specs.Prelude.{◌≡◌, ◌≢◌, ◌⊎◌, ◌↔◌, ℕ, ◌+◌, ◌*◌, ◌<◌, ◌≤◌, List, [], length, slice_index_or, IfOk, IfErr, OnOk, OnErr};
-ghost use Rattle.std.specs.Prelude.{◌∷◌, ◌++◌, IsTrue, true, false, is_ok, if◌then◌else◌};
+ghost use Rattle.std.specs.Prelude.{◌≡◌, ◌⊎◌, ◌↔◌, ℕ, ◌+◌, ◌*◌, ◌^◌, ◌<◌, ◌≤◌, List, [], length, slice_index_or, IfOk};
+ghost use Rattle.std.specs.Prelude.{◌∷◌, ◌++◌, is_ok, if◌then◌else◌};
 ghost use Rattle.std.specs.List.{All, Contains, flat_map};
 ghost use Rattle.model.specs.Volume.{AreDistinct, blocks_from, laid_over};
 ghost use Rattle.disk.specs.Image.{overwritten};
-ghost use Rattle.journal.specs.Journal.{HasWholeBlocks, IsReady, LeavesAdmitted};
-ghost use Rattle.volume.specs.Opening.{Loads};
 ghost use Rattle.volume.specs.Numbers.{IsNumbers};
 ghost use Rattle.volume.specs.Volume.{VolumeView, Differs, AgreeOutside, IsVolume, seen_over};
 
 use crate::batch::BatchBuf;
-use crate::blocks::{BLOCK_SIZE, Blocks, block_of, put_block, put_in_block, put_part};
-use crate::errors::LoadError;
 use crate::numbers::NumberSet;
-use disk::Disk;
-use journal::{Journal, JournalError};
+use blocks::{BLOCK_SIZE, Blocks, block_of, put_block, put_in_block, put_part};
 use std::alloc::{AllocError, Global};
 use std::marker::Model;
 
@@ -49,44 +44,29 @@ impl Volume {
         ensures seen { IfOk result (λ v. v.seen ≡ v.cache) }
         ensures dirty { IfOk result (λ v. v.dirty ≡ []) }
     {
-        Ok(Volume {
-            cache: octets,
-            staged: NumberSet::new(alloc, count)?,
-            images: Vec::new(alloc),
-            dirty: NumberSet::new(alloc, count)?,
-        })
-    }
-
-    /// Loads all logical blocks of a journal after its opening and before its first batch. Nothing is staged, and
-    /// nothing is dirty. `Fault` halts the journal. `Memory` comes before the first read and leaves the journal as it
-    /// was.
-    pub fn open<D: Disk>(alloc: Global, journal: &mut Journal<D>) -> Result<Volume, LoadError>
-        requires { IsReady journal.old }
-        ensures blocks { IsTrue (D.device journal.old.disk).tells → IfOk result (λ v. v.cache ≡ journal.old.blocks) }
-        ensures count { IfOk result (λ v. length v.cache ≡ journal.old.size) }
-        ensures seen { IfOk result (λ v. v.seen ≡ v.cache) }
-        ensures dirty { IfOk result (λ v. v.dirty ≡ []) }
-        ensures loads { Loads D.device journal.old journal.new }
-        ensures ok { OnOk result (IsReady journal.new) }
-        ensures ok_failures { OnOk result ((D.device journal.new.disk).failures ≡ (D.device journal.old.disk).failures) }
-        ensures memory { IfErr result (λ e. e ≡ LoadError.Memory → journal.new ≡ journal.old) }
-        ensures fault { IfErr result (λ e. e ≡ LoadError.Fault
-            → (journal.new.halted ≡ true) × ((D.device journal.new.disk).failures ≢ (D.device journal.old.disk).failures)) }
-    {
-        // its clauses state what the journal keeps
-        let _ready = journal.is_idle();
-        let count = journal.blocks() as u32;
-        let mut octets = vec![in alloc; 0; count as usize * BLOCK_SIZE]?;
         let staged = NumberSet::new(alloc, count)?;
         let dirty = NumberSet::new(alloc, count)?;
-        match load_all(journal, &mut octets, count) {
-            Err(_) => Err(LoadError::Fault),
-            Ok(()) => Ok(Volume {
-                cache: octets,
-                staged,
-                images: Vec::new(alloc),
-                dirty,
-            }),
+        Ok(Volume::with_sets(alloc, octets, staged, dirty))
+    }
+
+    /// The same with sets that were made before: it allocates nothing.
+    pub fn with_sets(alloc: Global, octets: Vec<u8>, staged: NumberSet, dirty: NumberSet) -> Volume
+        requires few { staged.bound < 2 ^ 32 }
+        requires octets { length octets.items ≡ 4096 * staged.bound }
+        requires none { staged.members ≡ [] }
+        requires valid { IsNumbers staged }
+        requires same { dirty ≡ staged }
+        ensures { result ≡ record {
+          cache = blocks_from 0 staged.bound octets.items;
+          seen = blocks_from 0 staged.bound octets.items;
+          dirty = [];
+        } }
+    {
+        Volume {
+            cache: octets,
+            staged,
+            images: Vec::new(alloc),
+            dirty,
         }
     }
 
@@ -142,53 +122,6 @@ impl Volume {
         into.fill(self.dirty.as_slice(), &self.cache);
         self.dirty.clear();
     }
-}
-
-// Loads all blocks into their places.
-fn load_all<D: Disk>(
-    journal: &mut Journal<D>,
-    octets: &mut [u8],
-    count: u32,
-) -> Result<(), JournalError>
-    requires ready { IsReady journal.old }
-    requires now { LeavesAdmitted D.device journal.old }
-    requires whole { HasWholeBlocks D.device journal.old }
-    requires count { journal.old.size ≡ count }
-    requires room { length octets.old ≡ 4096 * count }
-    ensures loaded { IsTrue (D.device journal.old.disk).tells → OnOk result (blocks_from 0 count octets.new ≡ journal.old.blocks) }
-    ensures loads { Loads D.device journal.old journal.new }
-    ensures ok { OnOk result ((journal.new.halted ≡ false)
-        × ((D.device journal.new.disk).failures ≡ (D.device journal.old.disk).failures)) }
-    ensures fault { OnErr result ((journal.new.halted ≡ true)
-        × ((D.device journal.new.disk).failures ≢ (D.device journal.old.disk).failures)) }
-{
-    for number in 0..count {
-        load_block(journal, octets, number)?;
-    }
-    Ok(())
-}
-
-// Loads a block into its place.
-fn load_block<D: Disk>(
-    journal: &mut Journal<D>,
-    octets: &mut [u8],
-    number: u32,
-) -> Result<(), JournalError>
-    requires ready { IsReady journal.old }
-    requires below { number < journal.old.size }
-    requires room { 4096 * number + 4096 ≤ length octets.old }
-    ensures octets { IsTrue (D.device journal.old.disk).tells
-        → OnOk result (octets.new ≡ overwritten (4096 * number) (slice_index_or journal.old.blocks number []) octets.old) }
-    ensures loads { Loads D.device journal.old journal.new }
-    ensures ok { OnOk result ((journal.new.halted ≡ false)
-        × ((D.device journal.new.disk).failures ≡ (D.device journal.old.disk).failures)) }
-    ensures fault { OnErr result ((journal.new.halted ≡ true)
-        × ((D.device journal.new.disk).failures ≢ (D.device journal.old.disk).failures)) }
-{
-    let mut block = [0; BLOCK_SIZE];
-    journal.load(u64::from(number), &mut block)?;
-    put_block(octets, number as usize, &block);
-    Ok(())
 }
 
 // Moves the staged blocks into the cache, and marks those whose octets change.

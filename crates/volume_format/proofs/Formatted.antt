@@ -12,7 +12,7 @@ use Rattle.volume_format.specs.Formatting.{zero_block, zeroed}
 use Rattle.model.specs.Volume.{block, format_in, format_number, gate_place, home, home_place, home_size, IsSuperblock, is_open, label_of}
 use Rattle.model.specs.Volume.{magic, number_at, open_segments, segment_count, StandsFor}
 use Rattle.segment_laws.proofs.Blocks.{overwritten_same, block-overwritten}
-use Rattle.volume_format.proofs.Numbers.{number_at_apart, number_at_written}
+use Rattle.octet_numbers.proofs.Numbers.{number_at_apart, number_at_written}
 use Rattle.segment_laws.proofs.Standing.{get_or-home, length-home, none_are_open, stands_bare}
 
 abbrev pub IsZero : ℕ → Type 0

@@ -10,25 +10,7 @@ use Rattle.byteorder.specs.Numbers.{little_number-reads_back}
 use Rattle.disk.specs.Image.{overwritten}
 use Rattle.disk.proofs.Images.{length-overwritten, part-overwritten_apart}
 use Rattle.model.specs.Volume.{number_at, listed, descriptor_of}
-use Rattle.segment_laws.proofs.Standing.{number_at-part}
-
--- apart from what was written
-pub number_at_apart : (at : ℕ) (octets xs : List ℕ) → at + length octets ≤ length xs → (p n : ℕ) → (p + n ≤ at) ⊎ (at + length octets ≤ p)
-    → number_at p n (overwritten at octets xs) ≡ number_at p n xs
-number_at_apart at octets xs fits p n apart =
-    number_at-part p n (overwritten at octets xs)
-    ∙ ap (λ (ys : List ℕ). little_number n ys) (part-overwritten_apart at octets xs fits p n apart) ∙ sym (number_at-part p n xs)
-
-after : (at : ℕ) (octets xs : List ℕ) → at ≤ length xs → drop at (overwritten at octets xs) ≡ octets ++ drop (at + length octets) xs
-after at octets xs within = drop_at (take at xs) (octets ++ drop (at + length octets) xs) at (length-take-le at xs within)
-
--- what was written
-pub number_at_written : (at n x : ℕ) (xs : List ℕ) → at ≤ length xs → x < 256 ^ n
-    → number_at at n (overwritten at (little_bytes n x) xs) ≡ x
-unfolding number_at
-number_at_written at n x xs within fits =
-    ap (λ (ys : List ℕ). little_number n ys) (after at (little_bytes n x) xs within)
-    ∙ little_number-reads_back n x (drop (at + length (little_bytes n x)) xs) fits
+use Rattle.octet_numbers.proofs.Numbers.{after, number_at_apart, number_at_written}
 
 nth : (ns rest : List ℕ) (k : ℕ) → k < length ns → All (λ n. n < 256 ^ 4) ns
     → little_number 4 (drop (4 * k) (flat_map (λ x. little_bytes 4 x) ns ++ rest)) ≡ get_or ns k 0

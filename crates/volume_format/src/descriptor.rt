@@ -4,7 +4,8 @@ ghost use Rattle.std.specs.Prelude.{◌≡◌, ◌↔◌, ◌<◌, ◌≤◌, �
 ghost use Rattle.std.specs.List.{All};
 ghost use Rattle.model.specs.Volume.{AreDistinct, IsDescriptor, descriptor_of, listed, number_at};
 
-use crate::layout::{NUMBERS_AT, SEGMENT_IMAGES, number32, put_numbers, put32, put64};
+use crate::layout::{NUMBERS_AT, SEGMENT_IMAGES, put_numbers};
+use octet_numbers::{number32, put32, put64};
 
 /// Writes the descriptor of a batch over whatever the block holds. The batch has at most 512 numbers.
 pub fn describe_batch(descriptor: &mut Vec<u8>, number: u64, last: u64, numbers: &[u32])

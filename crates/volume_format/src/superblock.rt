@@ -7,8 +7,9 @@ ghost use Rattle.model.specs.Volume.{IsSuperblock, format_in, home_place, magic,
 
 use crate::layout::{
     FEWEST_BLOCKS, FORMAT_AT, IS_FORMAT_1, IS_FORMAT_2, LABEL_AT, MAGIC, MOST_BLOCKS, ONE_SEGMENT,
-    SEGMENTS, SUPERBLOCK_USED, VERSION, home_block, number32, put_octets, put32, start_of,
+    SEGMENTS, SUPERBLOCK_USED, VERSION, home_block, put_octets, start_of,
 };
+use octet_numbers::{number32, put32};
 
 /// Turns a block of zeros into a superblock.
 pub(crate) fn describe_in(

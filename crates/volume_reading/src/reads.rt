@@ -12,7 +12,8 @@ use fs_layout::records::RECORD_SIZE;
 use fs_layout::slots::NAME_MAX;
 use std::alloc::Global;
 use std::fmt::{self, Display, Formatter};
-use volume_format::layout::{BLOCK, number32, number64};
+use octet_numbers::{number32, number64};
+use volume_format::layout::BLOCK;
 
 /// The octets of an inode or a slot.
 pub type Record = [u8; RECORD_SIZE];

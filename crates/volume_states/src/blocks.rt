@@ -16,7 +16,7 @@ use reporting::{GroupStatus, Share, VolumeStatus};
 use spool_opening::open;
 use spool_reading::ReadSpoolError;
 use std::alloc::{AllocError, Global};
-use volume::Blocks;
+use blocks::Blocks;
 
 /// The state of the volume of a host in the blocks of a volume of this format, whatever they contain. `Damaged` exactly
 /// if they hold no spool of the host in the files of the format (docs/FORMATS.md), `Memory` if an allocation was

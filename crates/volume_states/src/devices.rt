@@ -17,7 +17,7 @@ use journal::{Journal, JournalError};
 use kernel::OpenError;
 use reporting::VolumeStatus;
 use std::alloc::Global;
-use volume::{Blocks, Volume};
+use blocks::Blocks;
 use volume_label::read_label;
 
 /// The state of the volume on a device, whose format stays as it is. `Fault` (E1) if the device failed, `Memory` (E2)
@@ -55,7 +55,7 @@ fn state_in<D: Disk>(alloc: Global, journal: &mut Journal<D>) -> Result<VolumeSt
         return Err(OpenError::Memory);
     };
     let format = journal.format_number();
-    let loaded = Volume::open(alloc, journal);
+    let loaded = volume_loading::open(alloc, journal);
     // its clauses state what the journal keeps
     let _idle = journal.is_idle();
     match loaded {
@@ -64,8 +64,8 @@ fn state_in<D: Disk>(alloc: Global, journal: &mut Journal<D>) -> Result<VolumeSt
             let _count = volume.len();
             state_over(alloc, &volume, inodes, format, &host)
         }
-        Err(volume::LoadError::Fault) => Err(OpenError::Fault),
-        Err(volume::LoadError::Memory) => Err(OpenError::Memory),
+        Err(volume_loading::LoadError::Fault) => Err(OpenError::Fault),
+        Err(volume_loading::LoadError::Memory) => Err(OpenError::Memory),
     }
 }
 

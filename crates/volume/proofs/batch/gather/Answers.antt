@@ -3,7 +3,7 @@ use Rattle.std.specs.List.{flat_map}
 use Rattle.std.proofs.lemmas.List.{take_more, append-nil}
 use Rattle.std.proofs.lemmas.Grind.{flat_map-append}
 use Rattle.model.specs.Volume.{block}
-use Rattle.volume.proofs.Octets.{take-put}
+use Rattle.blocks.proofs.Octets.{take-put}
 use Rattle.volume.proofs.batch.gather.Goals as goal
 
 pub loop-place-preserved : goal.loop-place-preserved

@@ -2,7 +2,7 @@ use Rattle.std.proofs.Common.{rules, ◌≡◌, ◌<◌, ℕ, List, [], length, 
 use Rattle.std.specs.List.{All, flat_map}
 use Rattle.model.specs.Volume.{block, blocks_from, laid_over}
 use Rattle.volume.specs.Volume.{VolumeView, BatchView, AgreeOutside}
-use Rattle.volume.proofs.Octets.{length-blocks_from}
+use Rattle.blocks.proofs.Octets.{length-blocks_from}
 use Rattle.volume.proofs.Copied.{copied_images, copied_laid}
 use Rattle.volume.proofs.volume.Volume.copy_dirty.Goals as goal
 

@@ -5,7 +5,7 @@ use Rattle.disk.proofs.Images.{length-overwritten}
 use Rattle.model.specs.Volume.{block}
 use Rattle.volume.specs.Numbers.{Numbers}
 use Rattle.volume.specs.Volume.{VolumeView, seen_over}
-use Rattle.volume.proofs.Parts.{length-written, overwritten-append}
+use Rattle.blocks.proofs.Parts.{length-written, overwritten-append}
 use Rattle.volume.proofs.Seen.{length-seen, put_again, put_first, seen_clean, seen_staged, seen_whole_at}
 use Rattle.volume.proofs.volume.VolumeBlocks.put_at.Goals as goal
 

@@ -1,5 +1,0 @@
-use Rattle.volume.proofs.Loading.{AreLoaded}
-use Rattle.volume.proofs.volume.load_all.Given as goal
-
-abbrev pub invariant-loop-number : goal.invariant-loop-number
-invariant-loop-number g l = AreLoaded g.D.Disk.device l.number l.octets l.initial.octets l.initial.journal l.journal

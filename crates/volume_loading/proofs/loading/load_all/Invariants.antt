@@ -1,0 +1,5 @@
+use Rattle.volume_loading.proofs.Loading.{AreLoaded}
+use Rattle.volume_loading.proofs.loading.load_all.Given as goal
+
+abbrev pub invariant-loop-number : goal.invariant-loop-number
+invariant-loop-number g l = AreLoaded g.D.Disk.device l.number l.octets l.initial.octets l.initial.journal l.journal
