@@ -28,22 +28,29 @@ fn push_facts(alloc: Global, status: &VolumeStatus, text: &mut Vec<u8>) -> Resul
     ensures { OnOk result (text.new.items ≡ text.old.items ++ table.facts status.now) }
 {
     push_fact(text, b"host", status.host.as_slice())?;
-    push_fact(
-        text,
-        b"format",
-        number(alloc, u64::from(status.format))?.as_slice(),
-    )?;
-    push_fact(
-        text,
-        b"blocks",
-        share_text(alloc, &status.blocks)?.as_slice(),
-    )?;
-    push_fact(
-        text,
-        b"inodes",
-        share_text(alloc, &status.inodes)?.as_slice(),
-    )?;
-    push_fact(text, b"changes", number(alloc, status.changes)?.as_slice())
+    push_count(alloc, text, b"format", u64::from(status.format))?;
+    push_share(alloc, text, b"blocks", &status.blocks)?;
+    push_share(alloc, text, b"inodes", &status.inodes)?;
+    push_count(alloc, text, b"changes", status.changes)
+}
+
+/// Appends the line of a number.
+fn push_count(alloc: Global, text: &mut Vec<u8>, name: &[u8], count: u64) -> Result<(), AllocError>
+    ensures { OnOk result (text.new.items ≡ text.old.items ++ table.fact name.now (decimal count)) }
+{
+    push_fact(text, name, number(alloc, count)?.as_slice())
+}
+
+/// Appends the line of a share.
+fn push_share(
+    alloc: Global,
+    text: &mut Vec<u8>,
+    name: &[u8],
+    share: &Share,
+) -> Result<(), AllocError>
+    ensures { OnOk result (text.new.items ≡ text.old.items ++ table.fact name.now (table.share_text share.now)) }
+{
+    push_fact(text, name, share_text(alloc, share)?.as_slice())
 }
 
 /// Appends a line with the name of a fact and its value.
@@ -61,15 +68,20 @@ fn share_text(alloc: Global, share: &Share) -> Result<Text, AllocError>
     ensures { IfOk result (λ text. text ≡ table.share_text share.now) }
 {
     let mut text = Vec::new(alloc);
-    push_number(&mut text, u64::from(share.all))?;
-    text.extend_from_slice(b": ")?;
-    push_number(&mut text, u64::from(share.used))?;
-    text.extend_from_slice(b" used, ")?;
-    push_number(&mut text, u64::from(share.free()))?;
-    text.extend_from_slice(b" free, ")?;
+    push_worded(&mut text, u64::from(share.all), b": ")?;
+    push_worded(&mut text, u64::from(share.used), b" used, ")?;
+    push_worded(&mut text, u64::from(share.free()), b" free, ")?;
     push_per_cent(&mut text, share.used, share.all)?;
     text.extend_from_slice(b" used")?;
     Ok(Text::new(text))
+}
+
+/// Appends a number and the words behind it.
+fn push_worded(text: &mut Vec<u8>, n: u64, words: &[u8]) -> Result<(), AllocError>
+    ensures { OnOk result (text.new.items ≡ text.old.items ++ decimal n ++ words.now) }
+{
+    push_number(text, n)?;
+    text.extend_from_slice(words)
 }
 
 // ---- the table of groups
