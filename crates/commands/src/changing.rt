@@ -3,7 +3,10 @@
 ghost use Rattle.journal.specs.Journal.{IsReady};
 
 use crate::files::{VolumeDisk, open};
-use flusher::{BatchBuf, FlushError, Kern, Locked, NoGate, flush_turn};
+use flusher::{FlushError, flush_turn};
+use locked_kernel::Locked;
+use shared_kernel::{Kern, NoGate};
+use volume::BatchBuf;
 use journal::Journal;
 use kernel::{AdminError, ExpireError};
 use lookups::LookUps;

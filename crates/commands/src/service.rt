@@ -4,7 +4,10 @@ ghost use Rattle.std.specs.Prelude.{◌≡◌};
 ghost use Rattle.journal.specs.Journal.{IsIdle, IsReady};
 
 use crate::files::{VolumeDisk, new_count, open_counted};
-use flusher::{BitmapMarks, Kernel, Locked, NoGate, Tally, VolumeFacts};
+use kernel::Kernel;
+use locked_kernel::Locked;
+use shared_kernel::NoGate;
+use usage::{BitmapMarks, Tally, VolumeFacts};
 use journal::Journal;
 use logging::{Log, Verbosity};
 use lookups::LookUps;
