@@ -11,16 +11,16 @@ const LOCKS: &str = "/proc/locks";
 
 /// A file as the list of locks names it. Files of two devices may have one inode number.
 #[derive(Clone, Copy, PartialEq, Eq)]
-pub(crate) struct Node {
-    pub(crate) major: u64,
-    pub(crate) minor: u64,
-    pub(crate) inode: u64,
+pub struct Node {
+    major: u64,
+    minor: u64,
+    inode: u64,
 }
 
 impl Node {
     /// The file with this inode on the device of this number, whose hexadecimal digits are `MMMMMmmmmmmMMMmm`: those of
     /// the major and of the minor number, each in two parts (makedev(3)).
-    pub(crate) fn new(device: u64, inode: u64) -> Node {
+    pub fn new(device: u64, inode: u64) -> Node {
         Node {
             major: (device >> 8) & 0xfff | (device >> 32) & 0xffff_f000,
             minor: device & 0xff | (device >> 12) & 0xffff_ff00,
@@ -48,8 +48,8 @@ pub fn holder<R: Files<File = File>>(rt: &R, alloc: Global, path: &str) -> Optio
     holder_in(locks.as_str(), Node::new(metadata.dev(), metadata.ino()))
 }
 
-/// The process that holds the lock of this file, according to a list of locks.
-pub(crate) fn holder_in(locks: &str, node: Node) -> Option<u32> {
+/// The process that holds the lock of this file, according to a list of locks such as `/proc/locks`.
+pub fn holder_in(locks: &str, node: Node) -> Option<u32> {
     locks.lines().find_map(|line| holder_by(line, node))
 }
 

@@ -3,14 +3,12 @@
 
 mod holders;
 mod refusals;
-#[cfg(test)]
-mod tests;
 
 ghost use Rattle.std.specs.Prelude.{◌≡◌, ◌↔◌, IsErr, IfOk, IfErr, OnOk};
 ghost use Rattle.disk.specs.Device.{one_more};
 
 use disk::{Disk, DiskError};
-pub use holders::holder;
+pub use holders::{Node, holder, holder_in};
 pub use refusals::FileError;
 use std::fs::{File, OpenOptions, TryLockError};
 use std::io;

@@ -82,17 +82,19 @@ fn push_marked(line: &mut Vec<u8>, digits: &[u8]) -> Result<(), AllocError>
     requires { length digits.now ≡ 14 }
     ensures { OnOk result (line.new.items ≡ line.old.items ++ marked digits.now) }
 {
-    line.extend_from_slice(&digits[..4])?;
-    line.push(b'-')?;
-    line.extend_from_slice(&digits[4..6])?;
-    line.push(b'-')?;
-    line.extend_from_slice(&digits[6..8])?;
-    line.push(b'T')?;
-    line.extend_from_slice(&digits[8..10])?;
-    line.push(b':')?;
-    line.extend_from_slice(&digits[10..12])?;
-    line.push(b':')?;
-    line.extend_from_slice(&digits[12..])?;
-    line.push(b'Z')?;
+    push_piece(line, &digits[..4], b'-')?;
+    push_piece(line, &digits[4..6], b'-')?;
+    push_piece(line, &digits[6..8], b'T')?;
+    push_piece(line, &digits[8..10], b':')?;
+    push_piece(line, &digits[10..12], b':')?;
+    push_piece(line, &digits[12..], b'Z')
+}
+
+/// Appends octets and the mark behind them.
+fn push_piece(line: &mut Vec<u8>, piece: &[u8], mark: u8) -> Result<(), AllocError>
+    ensures { OnOk result (line.new.items ≡ line.old.items ++ piece.now ++ mark ∷ []) }
+{
+    line.extend_from_slice(piece)?;
+    line.push(mark)?;
     Ok(())
 }

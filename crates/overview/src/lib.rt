@@ -2,8 +2,9 @@
 #![tactic(auto)]
 
 ghost use Rattle.std.specs.Prelude.{◌≡◌, ◌==◌, ◌++◌, codes, decimal, if◌then◌else◌, map, IfOk, OnOk};
-ghost use Rattle.model.specs.Article.{overview_field, overview_line};
+ghost use Rattle.model.specs.Article.{fields, overview_field, overview_line};
 ghost use Rattle.article.specs.Causes.{content_in};
+ghost use Rattle.overview.specs.Rest.{shown_fields};
 
 use article::{Article, Header, body_line_count};
 use itoa::Buffer;
@@ -43,11 +44,7 @@ impl<'t> Overview<'t> {
         let text = article.text();
         let room = article.header().len().saturating_add(TABS_AND_SIZES);
         let mut rest = Vec::with_capacity(alloc, room)?;
-        push_field(&mut rest, article, b"Subject")?;
-        push_field(&mut rest, article, b"From")?;
-        push_field(&mut rest, article, b"Date")?;
-        push_field(&mut rest, article, b"Message-ID")?;
-        push_field(&mut rest, article, b"References")?;
+        push_fields(&mut rest, article)?;
         push_sizes(&mut rest, text.len(), article.line_count())?;
         Ok(Overview { text, rest })
     }
@@ -86,12 +83,19 @@ pub fn push_line(
 {
     let header = Header::read(alloc, text)?;
     push_number(line, number)?;
-    push_content(line, &header, b"Subject")?;
-    push_content(line, &header, b"From")?;
-    push_content(line, &header, b"Date")?;
-    push_content(line, &header, b"Message-ID")?;
-    push_content(line, &header, b"References")?;
+    push_contents(line, &header)?;
     push_sizes(line, text.len(), body_line_count(text))
+}
+
+/// Appends the contents that the overview shows of a header, each after a TAB.
+fn push_contents(line: &mut Vec<u8>, header: &Header<'_>) -> Result<(), AllocError>
+    ensures { OnOk result (line.new.items ≡ line.old.items ++ shown_fields header.now) }
+{
+    push_content(line, header, b"Subject")?;
+    push_content(line, header, b"From")?;
+    push_content(line, header, b"Date")?;
+    push_content(line, header, b"Message-ID")?;
+    push_content(line, header, b"References")
 }
 
 /// Appends a TAB and the content of the field of this name, or only the TAB if the header has none.
@@ -104,6 +108,17 @@ fn push_content(line: &mut Vec<u8>, header: &Header<'_>, name: &[u8]) -> Result<
     header.push_content(line, name)?;
     replace_tabs(&mut line[start..]);
     Ok(())
+}
+
+/// Appends the contents that the overview shows of an article, each after a TAB.
+fn push_fields(line: &mut Vec<u8>, article: &Article<'_>) -> Result<(), AllocError>
+    ensures { OnOk result (line.new.items ≡ line.old.items ++ shown_fields (fields article.now)) }
+{
+    push_field(line, article, b"Subject")?;
+    push_field(line, article, b"From")?;
+    push_field(line, article, b"Date")?;
+    push_field(line, article, b"Message-ID")?;
+    push_field(line, article, b"References")
 }
 
 /// Appends a TAB and the content of the field of this name, or only the TAB if the article has none.

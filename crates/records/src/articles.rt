@@ -1,6 +1,6 @@
 //! The record of an article: serial, moment, the text's length, the groups after their lengths, the text.
 
-ghost use Rattle.std.specs.Prelude.{◌≡◌, ◌+◌, ◌^◌, ◌<◌, ◌∷◌, ◌++◌, ℕ, List, flat_map, length, IfOk, MatchOption, OnOk};
+ghost use Rattle.std.specs.Prelude.{◌≡◌, ◌+◌, ◌^◌, ◌<◌, [], ◌∷◌, ◌++◌, ℕ, List, flat_map, length, IfOk, MatchOption, OnOk};
 ghost use Rattle.std.specs.List.{All};
 ghost use Rattle.byteorder.specs.Endian.{little_bytes};
 ghost use Rattle.model.specs.Records as model_records;
@@ -43,14 +43,29 @@ pub fn article_record(
 {
     let groups = envelope.groups.as_slice();
     let size = ARTICLE_HEAD + NAME_SIZE * groups.len() + text.len();
+    let head = ArticleHead {
+        serial,
+        moment: envelope.moment.seconds(),
+        text: text.len() as u32,
+        groups: groups.len() as u8,
+    };
     let mut octets = Vec::with_capacity(alloc, size)?;
-    octets.extend_from_slice(&serial.to_le_bytes())?;
-    octets.extend_from_slice(&envelope.moment.seconds().to_le_bytes())?;
-    octets.extend_from_slice(&(text.len() as u32).to_le_bytes())?;
-    octets.push(groups.len() as u8)?;
+    push_head(&mut octets, head)?;
     push_names(&mut octets, groups)?;
     octets.extend_from_slice(text)?;
     Ok(octets)
+}
+
+/// Appends the fields before an article's groups.
+fn push_head(octets: &mut Vec<u8>, head: ArticleHead) -> Result<(), AllocError>
+    ensures { OnOk result (octets.new.items ≡ octets.old.items ++ little_bytes 8 head.serial ++ little_bytes 8 head.moment
+        ++ little_bytes 4 head.text ++ head.groups ∷ []) }
+{
+    octets.extend_from_slice(&head.serial.to_le_bytes())?;
+    octets.extend_from_slice(&head.moment.to_le_bytes())?;
+    octets.extend_from_slice(&head.text.to_le_bytes())?;
+    octets.push(head.groups)?;
+    Ok(())
 }
 
 /// Appends names, each after its length.

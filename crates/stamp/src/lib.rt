@@ -103,15 +103,27 @@ pub fn push_date_reply(text: &mut Vec<u8>, moment: Moment) -> Result<(), AllocEr
     ensures { OnOk result (text.new.items ≡ text.old.items ++ calendar.date_reply moment) }
 {
     let seconds = moment.seconds();
-    let date = parts_at(seconds);
-    push_two(text, date.year / 100)?;
-    push_two(text, date.year)?;
+    push_date_digits(text, parts_at(seconds))?;
+    push_clock_digits(text, seconds)
+}
+
+/// Appends the eight digits of a date, as 20010909.
+fn push_date_digits(text: &mut Vec<u8>, date: Parts) -> Result<(), AllocError>
+    ensures { OnOk result (text.new.items ≡ text.old.items ++ (four_digits date.year ++ two_digits date.month ++ two_digits date.day)) }
+{
+    push_four(text, date.year)?;
     push_two(text, date.month)?;
-    push_two(text, date.day)?;
-    push_two(text, seconds % DAY / HOUR)?;
-    push_two(text, seconds % HOUR / MINUTE)?;
-    push_two(text, seconds % MINUTE)?;
-    Ok(())
+    push_two(text, date.day)
+}
+
+/// Appends the six digits of a moment's time of day, as 014640.
+fn push_clock_digits(text: &mut Vec<u8>, moment: u64) -> Result<(), AllocError>
+    ensures { OnOk result (text.new.items ≡ text.old.items ++ (two_digits (calendar.hour_at moment) ++ two_digits (calendar.minute_at moment)
+        ++ two_digits (calendar.second_at moment))) }
+{
+    push_two(text, moment % DAY / HOUR)?;
+    push_two(text, moment % HOUR / MINUTE)?;
+    push_two(text, moment % MINUTE)
 }
 
 /// The name of a moment's day of the week.

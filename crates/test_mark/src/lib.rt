@@ -1,0 +1,5 @@
+//! Tests of the mark, over its public calls.
+#![tactic(auto)]
+
+#[cfg(test)]
+mod seats;
