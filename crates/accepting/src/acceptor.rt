@@ -3,10 +3,10 @@
 use crate::Caller;
 use crate::lingering::read_at_once;
 use crossbeam_channel::Sender;
-use flusher::{JoinError, Kern};
 use logging::{Log, LogEvent, SessionRefusal};
 use networks::{Network, may_call};
 use releasing::{Shared, give_short_writes};
+use shared_kernel::{JoinError, Kern};
 use std::alloc::Global;
 use std::io::{self, Write};
 use std::net::{Net, Shutdown, SocketAddr, TcpListener, TcpStream};

@@ -7,6 +7,7 @@ ghost use Rattle.std.specs.Prelude.{◌≤◌, IfOk, OnOk};
 ghost use Rattle.bench_files.specs.Files.{HasFiles};
 
 use anyhow::{Result, ensure};
+use blocks::BLOCK_SIZE;
 use fs::{append, create, make_empty, read_at};
 use std::alloc::{AllocError, Global};
 use std::cmp::min;
@@ -14,7 +15,6 @@ use std::collections::BTreeMap;
 use std::env;
 use std::io::Print;
 use std::time::{Clock, Instant};
-use blocks::BLOCK_SIZE;
 use volume::Volume;
 
 /// Blocks of the volume.

@@ -14,6 +14,9 @@ use fs::by_inode::extend;
 use fs::{FsError, create_absent};
 use std::alloc::AllocError;
 
+/// A change is refused as `Full` (E6) if fewer blocks than this are free.
+pub const BLOCKS_ASKED: u32 = 256;
+
 /// What is known of the free blocks and inodes.
 #[derive(Clone, Copy)]
 pub struct Free {

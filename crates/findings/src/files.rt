@@ -4,9 +4,9 @@ use crate::owners::{NOBODY, Names};
 use disk::Disk;
 use model::{MOMENT_LIMIT, Status};
 use names::{DESCRIPTION_LIMIT, is_group_name};
+use octet_numbers::{number32, number64};
 use records::{ARTICLE_COUNT_AT, ARTICLE_HEAD, ARTICLE_TEXT_AT, FileKind, kind_of, serial_of};
 use std::alloc::Global;
-use octet_numbers::{number32, number64};
 use volume_reading::{DirectoryEntry, Grouped, ReadStop, ReadVolume, wrong, wrong_unless};
 
 /// The octets of an article in the numbers of a group.

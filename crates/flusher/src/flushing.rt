@@ -7,17 +7,15 @@ ghost use Rattle.journal.specs.Order.{following};
 ghost use Rattle.journal.specs.declared.Next.{Next};
 ghost use Rattle.flusher.specs.Flush.{Carries, Commits, Failed, HasBegun, HasNotFailed, MayBegin, Turns, has_failed};
 
-use crate::bells::Bells;
-use crate::{Gate, Kern};
+use blocks::BLOCK_SIZE;
 use disk::Disk;
 use journal::{Journal, JournalError, Progress};
-use kernel::Ticket;
 use mark::{FlushSeat, Mark};
+use shared_kernel::{Bells, Gate, Kern, Ticket};
 use std::sync::Wait;
 use std::thread;
 use thiserror::Error;
 use usage::{BitmapMarks, Tally};
-use blocks::BLOCK_SIZE;
 use volume::{BATCH_BLOCKS, BatchBuf};
 use volume_format::{are_below, are_distinct};
 

@@ -3,20 +3,6 @@
 //! turn of it does.
 #![tactic(auto)]
 
-mod arrivals;
-mod bells;
 mod flushing;
-mod gate;
-mod kern;
-mod locked;
 
-pub use arrivals::Arrivals;
-pub use bells::{Bell, Bells, Ringing};
 pub use flushing::{FlushError, Flusher, FlusherEnd, flush_all, flush_turn};
-pub use gate::{Gate, NoGate};
-pub use kern::{ExecOutcome, Kern, KernelCounts};
-pub use kernel::{
-    AdminError, BatchBuf, ExecError, ExpireError, JoinError, Kernel, SESSIONS, Stale, Ticket,
-};
-pub use locked::Locked;
-pub use usage::{BitmapMarks, Tallied, Tally, VolumeFacts};

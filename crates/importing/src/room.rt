@@ -7,15 +7,15 @@ ghost use Rattle.usage.specs.Usage.{used_in};
 ghost use Rattle.importing.specs.Room.{lack_of};
 
 use crate::outcome::Lack;
+use blocks::BLOCK_SIZE;
 use disk::Disk;
 use journal::{Journal, JournalError};
 use lookups::LookUps;
 use spool::Spool;
 use usage::{inodes_used, used_blocks};
-use blocks::BLOCK_SIZE;
 
 /// A change is made only if this many blocks are free.
-const BLOCKS_ASKED: u64 = spool::BLOCKS_ASKED as u64;
+const BLOCKS_ASKED: u64 = filing::BLOCKS_ASKED as u64;
 
 /// What the volume has too little of for any text, if this many of its blocks are used. `None` if it has enough.
 pub(crate) fn lack_by(spool: &Spool, used: u64) -> Option<Lack>

@@ -13,8 +13,8 @@ use Rattle.model.specs.Answer.{is_long}
 use Rattle.model.specs.Room.{is_full}
 use Rattle.outbox.specs.Queue.{buffered as octets_held}
 use Rattle.kernel.specs.Errors.{of_exec}
-use Rattle.kernel.specs.declared.errors.ExecError.{ExecError}
-use Rattle.kernel.specs.declared.errors.ExecError.TheVariants.{Memory}
+use Rattle.shared_kernel.specs.declared.errors.ExecError.{ExecError}
+use Rattle.shared_kernel.specs.declared.errors.ExecError.TheVariants.{Memory}
 use Rattle.std.proofs.lemmas.Slice.Eq.{bytes_eq-Decides}
 use Rattle.model.specs.Stream.{Octets}
 use Rattle.model.specs.Service.{mode_of}

@@ -16,10 +16,8 @@ ghost use Rattle.model.specs.declared.change.Change.TheVariants.{Group, Expire};
 ghost use Rattle.kernel.specs.Stored.{kernel_of};
 ghost use Rattle.names.specs.Requests.{group_of};
 
-mod errors;
 mod opening;
 
-pub use errors::{AdminError, ExecError, ExpireError, JoinError, Stale};
 use lookups::LookUps;
 use model::{Mark, Message, Mode, Moment};
 use names::{GroupName, GroupRequest};
@@ -27,35 +25,18 @@ pub use opening::{OpenError, open_spool};
 use outbox::ReadyBuf;
 use seats::{Seat, position, release, release_of};
 use session::Received;
+use shared_kernel::{AdminError, ExecError, ExpireError, JoinError, SESSIONS, Stale, Ticket};
 use spool::AddError;
 pub use spool::Spool;
 use std::alloc::Global;
 use std::marker::Model;
 pub use volume::BatchBuf;
 
-/// The most sessions at a time.
-pub const SESSIONS: usize = 64;
-
 /// A session with this many buffered octets is not served again until some are released.
 pub const MOST_BUFFERED: u64 = 1_048_576;
 
 /// With more dirty blocks than this, no article, group or expiry is accepted until a batch is taken.
 pub const MOST_DIRTY: usize = 256;
-
-/// Names a batch in flight.
-#[derive(Clone, Copy, Debug, PartialEq, Eq)]
-pub struct Ticket {
-    last: u64,
-}
-
-impl Ticket {
-    /// The number of changes that were accepted when the batch was taken.
-    pub fn last(self) -> u64
-        ensures { result ≡ self.last }
-    {
-        self.last
-    }
-}
 
 /// The value under the lock.
 pub struct Kernel {
@@ -302,7 +283,7 @@ impl Kernel {
         self.spool.kept();
         self.spool.copy_dirty(into);
         self.in_flight = Some(last);
-        Some(Ticket { last })
+        Some(Ticket::new(last))
     }
 
     /// Notes that the batch in flight is on disk: its changes are durable. `Stale` (E13) exactly if the ticket is not
@@ -312,10 +293,10 @@ impl Kernel {
             × (self.new ≡ made_durable self.old ticket.last)) }
         ensures stale { OnErr result (((self.old.in_flight ≢ Some ticket.last) ⊎ (self.old.halted ≡ true)) × (self.new ≡ self.old)) }
     {
-        if self.halted || self.in_flight != Some(ticket.last) {
+        if self.halted || self.in_flight != Some(ticket.last()) {
             return Err(Stale);
         }
-        self.durable = ticket.last;
+        self.durable = ticket.last();
         self.in_flight = None;
         Ok(())
     }

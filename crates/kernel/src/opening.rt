@@ -11,13 +11,13 @@ ghost use Rattle.kernel.specs.Opening.{CostsUpgrade, HasFailed, IsDamaged, IsLoa
 ghost use Rattle.kernel.specs.Opening.{OnlyReads, ReadsAndUpgrades};
 
 use crate::Kernel;
+use blocks::Blocks;
 use disk::Disk;
 use journal::{Journal, JournalError};
 use model::Text;
 use spool::Spool;
 use std::alloc::Global;
 use thiserror::Error;
-use blocks::Blocks;
 use volume::Volume;
 use volume_label::read_label;
 

@@ -1,7 +1,7 @@
 -- What a call does to the kernel under the lock, and to the caller's buffer.
 use Rattle.std.specs.Prelude.{◌≡◌, ◌<◌, ◌↔◌, ℕ, Bool, IsTrue, List, ◌++◌, length}
-use Rattle.flusher.specs.declared.kern.ExecOutcome.{ExecOutcome}
-use Rattle.flusher.specs.declared.kern.KernelCounts.{KernelCounts}
+use Rattle.shared_kernel.specs.declared.kern.ExecOutcome.{ExecOutcome}
+use Rattle.shared_kernel.specs.declared.kern.KernelCounts.{KernelCounts}
 use Rattle.kernel.specs.Kernel.{Execs, KernelView, released_of, seat_of}
 use Rattle.model.specs.SpoolFiles.{files_of}
 use Rattle.model.specs.declared.message.Message.{Message}

@@ -4,8 +4,8 @@ ghost use Rattle.std.specs.Prelude.{◌≡◌, ◌≤◌, length};
 ghost use Rattle.fs_layout.specs.Bits.{IsFront};
 ghost use Rattle.model.specs.Files.{first_data};
 
-use fs_layout::bits::set_front;
 use blocks::BLOCK_SIZE;
+use fs_layout::bits::set_front;
 
 /// The first block of the empty file system, whose other blocks are zeros. The bitmap marks all blocks before the data
 /// as used.

@@ -6,9 +6,9 @@ ghost use Rattle.operator.specs.Changes.{IsNone, asked};
 
 use crate::desk::OperatorService;
 use crate::writing::Refused;
-use flusher::{AdminError, Bells, ExpireError, Kern};
 use names::{GroupName, GroupRequest};
 use script::{Line, ParseError, parse};
+use shared_kernel::{AdminError, Bells, ExpireError, Kern};
 use std::alloc::Global;
 use std::sync::Wait;
 

@@ -14,13 +14,14 @@ use crate::requests::{Request, request_of};
 use crate::status::Status;
 use crate::writing::{Answer, Refused, Told, write_answer};
 use crossbeam_channel::{Receiver, Sender, bounded};
-use flusher::{Bells, Kern, Tally, VolumeFacts};
 use mark::{Mark, Seat};
+use shared_kernel::{Bells, Kern};
 use std::alloc::{AllocError, Global};
 use std::io::{BufRead, Write};
 use std::sync::Wait;
 use std::thread::{self, Threads};
 use std::time::{Clock, Duration};
+use usage::{Tally, VolumeFacts};
 
 /// The most lines that are under way: handed on, with their answers not yet written. One more may be read; the others
 /// stay in the stream.

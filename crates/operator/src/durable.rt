@@ -3,8 +3,8 @@
 ghost use Rattle.std.specs.Prelude.{◌≡◌, ◌<◌, ◌≤◌, true, false};
 ghost use Rattle.operator.specs.Told.{HasSeenStop};
 
-use flusher::Bells;
 use mark::{Mark, Seat};
+use shared_kernel::Bells;
 use std::sync::Wait;
 
 /// Waits until this many changes are durable. Answers false if the flusher stopped before that: the number read after

@@ -1,10 +1,11 @@
 //! What the operator is told of a running server.
 
 use crate::desk::OperatorService;
-use flusher::{Kern, KernelCounts, Tallied};
+use shared_kernel::{Kern, KernelCounts};
 use std::alloc::{AllocError, Global};
 use std::fmt::{self, Display, Formatter};
 use std::sync::Wait;
+use usage::Tallied;
 
 /// The volume and the kernel at one moment.
 #[derive(Drop)]

@@ -4,7 +4,7 @@ ghost use Rattle.std.specs.Prelude.{◌≡◌};
 ghost use Rattle.operator.specs.declared.writing.Refused.TheVariants.{Group, Expiry, Memory};
 
 use crate::status::Status;
-use flusher::{AdminError, ExpireError};
+use shared_kernel::{AdminError, ExpireError};
 use std::alloc::AllocError;
 use std::fmt::{self, Display, Formatter};
 use std::io::{self, Write};

@@ -6,7 +6,8 @@ ghost use Rattle.printing.specs.Streams.{command_error_of};
 
 use filedisk::FileError;
 use journal::JournalError;
-use kernel::{AdminError, ExpireError, OpenError};
+use kernel::OpenError;
+use shared_kernel::{AdminError, ExpireError};
 use std::alloc::AllocError;
 use std::io::{self, ErrorKind};
 use std::net::SocketAddr;

@@ -4,6 +4,6 @@
 mod running;
 
 pub use command_line::ServeOptions;
-pub use commands::Streams;
 pub use printing::Failure;
+pub use program_server::Streams;
 pub use running::{AfterRun, fail, import, run, serve};

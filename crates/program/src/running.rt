@@ -4,9 +4,12 @@ ghost use Rattle.std.specs.Prelude.{◌≡◌};
 ghost use Rattle.printing.specs.Status.{status_of};
 
 use command_line::{Asked, Export, ServeOptions, read_words};
-use commands::{ImportCounts, LineEnds, Offer, Streams, Verbosity};
+use exporting::LineEnds;
+use importing::ImportCounts;
+use logging::Verbosity;
 use names::GroupName;
 use printing::{DONE, Failure, REFUSED};
+use program_server::{Offer, Streams};
 use simulation::simulate;
 use std::alloc::Global;
 use std::convert::AsStr;
@@ -100,7 +103,7 @@ pub fn serve<
         networks: service.networks.as_slice(),
         verbosity,
     };
-    match commands::serve(rt, alloc, &offer, streams) {
+    match program_server::serve(rt, alloc, &offer, streams) {
         Ok(()) => DONE,
         Err(error) => fail(faults, &Failure::Command(error)),
     }
@@ -117,7 +120,7 @@ pub fn import<R: Files<File = File> + Clock, I: BufRead, W: Write, F: Write>(
     faults: &mut F,
     is_terminal: bool,
 ) -> u8 {
-    let report = match commands::import(rt, alloc, path, input, faults, is_terminal) {
+    let report = match program_imports::import(rt, alloc, path, input, faults, is_terminal) {
         Ok(report) => report,
         Err(error) => return fail(faults, &Failure::Command(error)),
     };
@@ -153,23 +156,23 @@ fn carry_out<R: Files<File = File> + Wait, I: BufRead, W: Write>(
         Asked::Nothing(_) | Asked::Serve(_) | Asked::Import(_) => Ok(()),
         Asked::Simulation(plan, is_cached) => simulate(alloc, &plan, is_cached, input, output),
         Asked::Format(path, plan) => {
-            commands::format(rt, alloc, path, &plan)?;
+            program_files::format(rt, alloc, path, &plan)?;
             Ok(())
         }
         Asked::Group(path, group) => {
-            let serial = commands::group(rt, alloc, path, &group)?;
+            let serial = program_changes::group(rt, alloc, path, &group)?;
             print_serial(serial, output)
         }
         Asked::Expire(path, name, number) => {
-            let serial = commands::expire(rt, alloc, path, &name, number)?;
+            let serial = program_changes::expire(rt, alloc, path, &name, number)?;
             print_serial(serial, output)
         }
         Asked::Dump(path) => {
-            commands::dump(rt, alloc, path, output)?;
+            program_reports::dump(rt, alloc, path, output)?;
             Ok(())
         }
         Asked::Status(path, is_json) => {
-            commands::status(rt, alloc, path, is_json, output)?;
+            program_reports::status(rt, alloc, path, is_json, output)?;
             Ok(())
         }
         Asked::Export(asked) => export(rt, alloc, asked, output),
@@ -192,7 +195,7 @@ fn export<R: Files<File = File>, W: Write>(
     } else {
         LineEnds::Lf
     };
-    commands::export(rt, alloc, asked.path, group.as_ref(), ends, output)?;
+    program_reports::export(rt, alloc, asked.path, group.as_ref(), ends, output)?;
     Ok(())
 }
 

@@ -3,8 +3,8 @@
 ghost use Rattle.std.specs.Prelude.{◌≡◌, ◌≤◌, length};
 
 use crate::Shared;
-use flusher::{Gate, Kern};
 use outbox::{RELEASE_ENTRIES, RELEASE_OCTETS, ReadyBuf};
+use shared_kernel::{Gate, Kern};
 use std::alloc::{AllocError, Global};
 use std::io::{self, ErrorKind, Write};
 use std::net::{Shutdown, TcpStream};

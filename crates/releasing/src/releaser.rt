@@ -2,7 +2,7 @@
 //! the callers.
 
 use crate::Shared;
-use flusher::{Gate, Kern};
+use shared_kernel::{Gate, Kern};
 use std::net::Shutdown;
 use std::sync::Wait;
 use std::time::Duration;

@@ -1,7 +1,7 @@
 //! What the threads of a server share.
 
 use crate::{Limits, ReplyWriter};
-use flusher::Bells;
+use shared_kernel::Bells;
 use std::alloc::Global;
 use std::sync::atomic::{AtomicBool, Ordering};
 

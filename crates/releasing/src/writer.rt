@@ -4,9 +4,9 @@
 
 use crate::Shared;
 use crate::outgoing::{Delivery, Outgoing, Patience};
-use flusher::{ExecError, ExecOutcome, Gate, Kern};
 use model::{Message, Moment};
 use outbox::RELEASE_ENTRIES;
+use shared_kernel::{ExecError, ExecOutcome, Gate, Kern};
 use std::alloc::{AllocError, Global};
 use std::net::{Shutdown, TcpStream};
 use std::sync::atomic::{AtomicBool, Ordering};

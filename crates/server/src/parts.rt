@@ -4,7 +4,7 @@ ghost use Rattle.std.specs.Prelude.{◌≡◌};
 ghost use Rattle.journal.specs.Journal.{IsIdle};
 
 use disk::Disk;
-use flusher::{BitmapMarks, FlushError, Tally, VolumeFacts};
+use flusher::FlushError;
 use journal::Journal;
 use logging::Log;
 use mark::{FlushSeat, Mark, Seat};
@@ -13,6 +13,7 @@ use releasing::Limits;
 use std::alloc::AllocError;
 use std::net::TcpListener;
 use thiserror::Error;
+use usage::{BitmapMarks, Tally, VolumeFacts};
 
 /// An opened volume and its kernel, the mark of what is durable with two of its seats, what is known and counted about
 /// the volume, the listeners for the callers and the log. `gate` is called before and after each flush and each write

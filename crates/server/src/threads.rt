@@ -9,20 +9,20 @@ use crate::{ServeError, Server};
 use accepting::{Acceptor, Caller, Doors, FAREWELLS, Parting, linger_all};
 use crossbeam_channel::{Receiver, Sender, bounded};
 use disk::Disk;
-use flusher::{
-    BatchBuf, Bells, FlushError, Flusher, FlusherEnd, Gate, Kern, Ringing, SESSIONS, Tally,
-    VolumeFacts, flush_all,
-};
+use flusher::{FlushError, Flusher, FlusherEnd, flush_all};
 use logging::{Log, LogEvent, Moments};
 use mark::{Mark, Seat};
 use operator::Operator;
 use releasing::{Closing, ReplyWriter, Shared, release_all};
+use shared_kernel::{Bells, Gate, Kern, Ringing, SESSIONS};
 use std::alloc::{AllocError, Global};
 use std::io::{BufRead, Write};
 use std::net::{Net, TcpListener, TcpStream};
 use std::sync::Wait;
 use std::thread::{self, JoinHandle, Scope, Threads};
 use std::time::Clock;
+use usage::{Tally, VolumeFacts};
+use volume::BatchBuf;
 
 /// Serves the callers of some listeners and the operator's lines, until the operator stops the server or a turn of the
 /// flusher is refused. Then callers get the reply that the service ends, what is durable is released, all threads end,

@@ -3,13 +3,14 @@
 ghost use Rattle.std.specs.Prelude.{◌≤◌, ◌<◌, ◌*◌, ◌+◌, ◌⊎◌, ◌↔◌, IsTrue};
 ghost use Rattle.model.specs.Room.{blocks_asked};
 
-use flusher::{Gate, Kern, Tally, VolumeFacts};
+use filing::BLOCKS_ASKED;
 use logging::{Log, LogEvent, UsedPart};
 use releasing::Shared;
-use spool::BLOCKS_ASKED;
+use shared_kernel::{Gate, Kern};
 use std::sync::Wait;
 use std::sync::atomic::{AtomicBool, Ordering};
 use std::time::Clock;
+use usage::{Tally, VolumeFacts};
 
 /// A gate that looks at a volume after each batch, and then calls the other gate. It tells the log once when the blocks
 /// are nearly used up, and once when nine tenths of the inodes are used.

@@ -27,9 +27,10 @@ mod room;
 mod stored;
 
 use article::Article;
+use blocks::Blocks;
 use change_spool::FilingError;
 pub use errors::{AddError, ExpireError};
-use filing::Free;
+use filing::{BLOCKS_ASKED, Free};
 use fs::free_block_count;
 use index::Index;
 use index_groups::Group;
@@ -41,11 +42,7 @@ use room::extends_large;
 use spool_growing::{grow_by_article, grow_by_expiry, grow_by_group};
 use std::alloc::{AllocError, Global};
 use std::marker::Model;
-use blocks::Blocks;
 use volume::{BatchBuf, Volume};
-
-/// A change is refused as `Full` (E6) if fewer blocks than this are free.
-pub const BLOCKS_ASKED: u32 = 256;
 
 /// The most groups on a server.
 const GROUPS: usize = 4096;

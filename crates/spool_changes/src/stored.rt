@@ -8,11 +8,11 @@ ghost use Rattle.model.specs.Stream.{Octets};
 ghost use Rattle.spool_changes.specs.Stored.{HasChange};
 
 use crate::copying::change_said;
+use blocks::Blocks;
 use model::Change;
 use places::Places;
 use spool_reading::{file_at, read_change};
 use std::alloc::{AllocError, Global};
-use blocks::Blocks;
 
 /// The change with this serial of the spool that the blocks hold, read once from its file. Refused only for want of
 /// memory.

@@ -33,7 +33,7 @@ use Rattle.index.specs.View.{IndexView, Indexes}
 use Rattle.index.proofs.Callers.{overview_small}
 use Rattle.index.proofs.Growing.{filed_distinct, overview_size}
 use Rattle.index.proofs.Known.{count_is}
-use Rattle.spool_opening.proofs.Going.{high_is}
+use Rattle.spool_reading.proofs.Groups.{high_is}
 use Rattle.spool_growing.specs.Articles.{ArePieces, ArePiecesOf, CanFile, CanFileIn}
 use Rattle.spool_growing.specs.Kept.{IsHeld}
 use Rattle.spool_growing.proofs.Absent.{LacksNames, group_files_lack, not_first}

@@ -11,6 +11,7 @@ use crate::lines::lines_of;
 use crate::staging::{file_article, make_expiry, make_group};
 use admission::id_of;
 use article::Article;
+use blocks::Blocks;
 use filing::Free;
 use fs_layout::marks::lowest_free;
 use index::Index;
@@ -18,7 +19,6 @@ use model::{Envelope, Moment, Status};
 use places::Places;
 use records::{article_record, expiry_record, group_record};
 use std::alloc::{AllocError, Global};
-use blocks::Blocks;
 use volume::Volume;
 
 /// What is free, after a search for the lowest free block.

@@ -10,10 +10,10 @@ ghost use Rattle.fs.specs.Touches.{Touches, touched_by_growth};
 ghost use Rattle.filing.specs.Calls.{IsKnown, MakesAt, MayAllGrow, touched_by_pieces};
 ghost use Rattle.spool_growing.specs.Growing.{FilesArticle, HasFree, LacksGroup, MakesGroup};
 
+use blocks::Blocks;
 use filing::{Free, Piece, append_all, create_file, make_file};
 use records::{FileKind, expiry_record, file_name, group_record, serial_digits};
 use std::alloc::{AllocError, Global};
-use blocks::Blocks;
 
 /// The inodes of the files of a group.
 #[derive(Clone, Copy)]

@@ -21,6 +21,7 @@ use Rattle.spool_reading.specs.Sorted.{AreSorted}
 use Rattle.spool_opening.specs.Stored.{HasPiece, IsFileAt, Numbers, Overview, Which, file_for, name_for, piece_for}
 use Rattle.spool_opening.specs.Going.{GoesOn}
 use Rattle.spool_reading.proofs.Contents.{content_fits}
+use Rattle.spool_reading.proofs.Groups.{high_is}
 use Rattle.fs_layout.proofs.Tables.{there_once}
 
 -- ---- a file with a piece
@@ -60,9 +61,6 @@ piece_fits inodes blocks name piece after room rule has =
     )
 
 -- ---- by the index
-
-pub high_is : (S : Spool) (g : NewsGroup) → length (group_index S g).filed ≡ high S g.name
-high_is S g = length-map (filed_in S g.name) (λ (a : NewsArticle). a.serial)
 
 pub goes_on_is : (inodes : List (Option File)) (S : Spool) (g : NewsGroup) (text : Octets)
     → GoesOn inodes (group_index S g) (length S + 1) text ↔ ((w : Which)

@@ -25,12 +25,12 @@ use Rattle.records.specs.Kinds.{front_of}
 use Rattle.records.specs.declared.names.FileKind.{FileKind}
 use Rattle.records.specs.declared.names.FileKind.TheVariants as kind
 use Rattle.spool_reading.specs.Sorted.{AreFirst, AreSorted}
+use Rattle.spool_reading.proofs.Groups.{high_is}
 use Rattle.spool_reading.proofs.Slots.{first_once, slots_as_many}
 use Rattle.spool_opening.specs.Ended.{IsNameOf, IsWholeAt}
 use Rattle.spool_opening.specs.Replayed.{AreReplayedTo}
 use Rattle.spool_opening.specs.Stored.{AreRead, Numbers, Overview, Which, file_for, name_for}
 use Rattle.spool_opening.proofs.Fronts.{is_front}
-use Rattle.spool_opening.proofs.Going.{high_is}
 use Rattle.spool_opening.proofs.Growing.{none_is_read}
 use Rattle.spool_opening.proofs.Sizes.{here_is}
 
@@ -155,16 +155,6 @@ pub named_whole : (inodes : List (Option File)) (S : Spool) (at : ℕ) (f : File
 named_whole inodes S at f name there named not whole = subst (λ (o : Octets). IsNameOf S o (length f.content)) named (whole f there not)
 
 -- ---- how many
-
-groups_from : (n : ℕ) (S : Spool) → length (filter_map group_made (entries_from n S)) ≤ length S
-groups_from n [] = omega arith
-groups_from n (Group created ∷ S) = omega (arith, groups_from (suc n) S)
-groups_from n (Article filing ∷ S) = omega (arith, groups_from (suc n) S)
-groups_from n (Expire expiry ∷ S) = omega (arith, groups_from (suc n) S)
-
-pub groups_few : (S : Spool) → length (groups S) ≤ length S
-unfolding groups entries
-groups_few S = groups_from 1 S
 
 pub used_and_free : (inodes : ℕ) (blocks : List Octets) → HasRoom inodes blocks → IsFileSystem inodes blocks
     → free_inodes inodes blocks + length (files_in (table inodes blocks)) ≡ inodes

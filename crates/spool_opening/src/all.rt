@@ -9,11 +9,11 @@ ghost use Rattle.spool_reading.specs.Sorted.{AreFirst, AreSorted};
 
 use crate::next::replay_next;
 use crate::replay::Replay;
+use blocks::Blocks;
 use index::Index;
 use places::Places;
 use spool_reading::{Files, ReadSpoolError};
 use std::alloc::Global;
-use blocks::Blocks;
 
 /// Replays all changes, whose files are in the first `count` slots. `Damaged` only if the blocks hold no spool of the
 /// host.

@@ -12,12 +12,12 @@ ghost use Rattle.spool_opening.specs.Replayed.{IsBounded};
 
 use crate::lines::NUMBER_SIZE;
 use admission::find_group;
+use blocks::Blocks;
 use fs_layout::inodes::free_inode_count;
 use index::Index;
 use records::{FileKind, kind_of};
 use spool_reading::{file_name_at, file_size_at};
 use std::alloc::{AllocError, Global};
-use blocks::Blocks;
 
 /// Whether a file of this name belongs to a change.
 fn names_change(name: &[u8]) -> bool

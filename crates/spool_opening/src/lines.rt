@@ -16,6 +16,7 @@ ghost use Rattle.spool_opening.specs.Going.{GoesOn};
 
 use admission::find_group;
 use article::Article;
+use blocks::Blocks;
 use index::Index;
 use index_groups::Group;
 use model::Text;
@@ -23,7 +24,6 @@ use overview::Overview;
 use records::{FileKind, file_name, number_record};
 use spool_reading::{Files, read_file};
 use std::alloc::{AllocError, Global};
-use blocks::Blocks;
 
 /// The number of octets that an article takes in the numbers of a group.
 pub(crate) const NUMBER_SIZE: u64 = 16;

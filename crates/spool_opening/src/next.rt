@@ -11,11 +11,11 @@ ghost use Rattle.spool_reading.specs.StoredChanges.{change_of};
 ghost use Rattle.spool_reading.specs.Sorted.{AreSorted, free};
 
 use crate::replay::{Replay, replay_article, replay_expiry, replay_group};
+use blocks::Blocks;
 use model::{Moment, Status};
 use records::{FileKind, file_name};
 use spool_reading::{Files, ReadSpoolError, StoredChange, file_at, read_change};
 use std::alloc::Global;
-use blocks::Blocks;
 
 /// Replays a group, whose numbers and overview are found by their names. `Damaged` only if it is not the next change of
 /// a spool that the blocks hold: it may not follow the changes before it, or one of its files is missing.

@@ -10,11 +10,11 @@ ghost use Rattle.spool_opening.specs.Ended.{IsOpened};
 use crate::all::replay_all;
 use crate::ending::{are_as_many, are_whole};
 use crate::replay::Replay;
+use blocks::Blocks;
 use fs_check::check;
 use fs_layout::FsError;
 use spool_reading::{ReadSpoolError, sort};
 use std::alloc::Global;
-use blocks::Blocks;
 
 /// Opens the spool of a host in the blocks of a volume of this format, whatever they contain: its index, and the places
 /// of its files. `Damaged` exactly if the blocks hold no spool of the host, because the rule of blocks or the rule of

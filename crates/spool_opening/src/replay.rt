@@ -14,12 +14,12 @@ ghost use Rattle.spool_opening.specs.Stored.{IsFileAt};
 use crate::lines::line_sizes;
 use admission::{groups_here, id_of, may_expire, may_file, may_make};
 use article::{Article, Origin, ReadError};
+use blocks::Blocks;
 use index::Index;
 use model::{Envelope, Moment, Status};
 use places::Places;
 use spool_reading::{Files, ReadSpoolError};
 use std::alloc::Global;
-use blocks::Blocks;
 
 /// The index of the changes that were replayed, and the places of their files.
 #[derive(Drop)]

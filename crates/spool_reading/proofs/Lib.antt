@@ -1,5 +1,7 @@
-pub mod Saying
-pub mod Finding
-pub mod Slots
 pub mod Contents
+pub mod Finding
+pub mod Groups
 pub mod Passing
+pub mod Saying
+pub mod Sizes
+pub mod Slots

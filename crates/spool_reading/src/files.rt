@@ -3,12 +3,12 @@
 ghost use Rattle.std.specs.Prelude.{◌≡◌, ◌<◌, ◌≤◌, Option, Some, None, drop, length, option_map, slice_index_or, take, IfOk};
 ghost use Rattle.model.specs.Files.{File, HasRoom, IsFileSystem, table, largest_file};
 
+use blocks::Blocks;
 use fs_inodes::read_entry;
 use fs_layout::inodes::{INODES_AT, MOST_OCTETS, size_of};
 use fs_layout::records::{RECORD_SIZE, get_record};
 use fs_layout::slots::name_of;
 use std::alloc::{AllocError, Global};
-use blocks::Blocks;
 
 /// The name of the file of an inode, if it has one. Refused only for want of memory.
 pub fn file_name_at<B: Blocks>(

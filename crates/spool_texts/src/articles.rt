@@ -12,12 +12,12 @@ ghost use Rattle.spool_texts.specs.Texts.{HasArticle};
 
 use crate::finding::{front_of, place_of};
 use crate::sending::push_stuffed;
+use blocks::Blocks;
 use header_fields::header_length;
 use index::Index;
 use model::Part;
 use places::Places;
 use std::alloc::{AllocError, Global};
-use blocks::Blocks;
 
 /// The number of octets of the line that ends a header.
 const EMPTY_LINE_SIZE: u64 = 2;

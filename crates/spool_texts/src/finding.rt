@@ -5,13 +5,13 @@ ghost use Rattle.model.specs.Files.{HasRoom, IsFile, IsFileSystem, entry};
 ghost use Rattle.spool_texts.specs.Texts.{HasArticle, HasHeader, IsPlaceOf, octets_in};
 
 use article::HEADER_LIMIT;
+use blocks::Blocks;
 use fs_inodes::read_entry;
 use fs_layout::inodes::size_of;
 use header_fields::header_length;
 use index::Index;
 use places::Places;
 use std::alloc::{AllocError, Global};
-use blocks::Blocks;
 
 /// The number of octets of the longest header that is stored, and of the empty line after it.
 const FRONT_SIZE: u64 = HEADER_LIMIT as u64 + 2;

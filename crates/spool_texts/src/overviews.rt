@@ -13,13 +13,13 @@ ghost use Rattle.spool_texts.specs.Texts.{HasArticle, HasNumbers, IsRun, LinesRi
 
 use crate::finding::place_of;
 use crate::sending::END_SIZE;
+use blocks::{BLOCK_SIZE, Blocks};
 use fs_inodes::{piece, read_entry, read_into};
 use index::Index;
 use index_groups::Group;
 use overview::push_line;
 use places::Places;
 use std::alloc::{AllocError, Global};
-use blocks::{BLOCK_SIZE, Blocks};
 
 /// The number of octets that end a line.
 const CRLF_SIZE: u64 = 2;

@@ -4,11 +4,11 @@ ghost use Rattle.std.specs.Prelude.{◌≡◌, ◌++◌, ◌<◌, take, drop, On
 ghost use Rattle.model.specs.Files.{HasRoom, IsFile, IsFileSystem, content_of, entry};
 ghost use Rattle.model.specs.Stream.{stuffed};
 
+use blocks::Blocks;
 use fs_inodes::piece;
 use fs_layout::inodes::size_of;
 use replies::{Stuffing, push_end};
 use std::alloc::AllocError;
-use blocks::Blocks;
 
 /// The number of octets of the line that ends a block of lines (RFC 3977, section 3.1.1).
 pub(crate) const END_SIZE: u64 = 3;

@@ -4,12 +4,12 @@ ghost use Rattle.std.specs.Prelude.{◌≤◌, IsTrue, IfOk};
 ghost use Rattle.model.specs.Files.{HasRoom, IsFileSystem};
 ghost use Rattle.fs.specs.Calls.{IsName};
 
+use blocks::{BLOCK_SIZE, Blocks};
 use fs::{
     FsError, append, check, create, free_block_count, free_inode_count, make_empty, names, read_at,
     size, truncate, unlink, write_at,
 };
 use std::alloc::Global;
-use blocks::{BLOCK_SIZE, Blocks};
 use volume::{BATCH_BLOCKS, BatchBuf, Volume};
 
 /// The inodes of the volumes that are tested.

@@ -1,7 +1,8 @@
 //! Devices with a volume that has two groups, and batches for them.
 
-use flusher::{BatchBuf, Kern, Locked, NoGate, flush_turn};
+use flusher::flush_turn;
 use importing::Store;
+use locked_kernel::Locked;
 use mark::Mark;
 use memdisk::MemDisk;
 use model::{Moment, Status};
@@ -9,9 +10,11 @@ use names::{Description, GroupName, GroupRequest, is_host};
 use new_volume::{FORMAT_1, FORMAT_2, VolumePlan, are_sizes, device_octets};
 use opening::Opened;
 use rnews::entry;
+use shared_kernel::{Kern, NoGate};
 use std::alloc::{AllocError, Global};
 use std::sync::Wait;
 use test_support_rows::Octets;
+use volume::BatchBuf;
 
 const HOST: &[u8] = b"news.example";
 

@@ -3,8 +3,9 @@
 ghost use Rattle.std.specs.Prelude.{IsTrue};
 ghost use Rattle.kernel.specs.Kernel.{FitsMode};
 
-use kernel::{BatchBuf, ExecError, Kernel};
+use kernel::{BatchBuf, Kernel};
 use model::{Mark, Message, Mode, Moment, Text};
+use shared_kernel::ExecError;
 use std::alloc::{AllocError, Global};
 use std::sync::{Mutex, Wait};
 use std::thread;

@@ -1,15 +1,15 @@
 //! A kernel that counts the groups that it is asked for, and makes none.
 
-use flusher::{
-    AdminError, BatchBuf, ExecError, ExecOutcome, ExpireError, JoinError, Kern, KernelCounts,
-    Stale, Ticket,
-};
 use model::{Message, Mode, Moment};
 use names::{GroupName, GroupRequest};
 use outbox::ReadyBuf;
+use shared_kernel::{
+    AdminError, ExecError, ExecOutcome, ExpireError, JoinError, Kern, KernelCounts, Stale, Ticket,
+};
 use std::alloc::Global;
 use std::sync::Wait;
 use std::sync::atomic::{AtomicBool, AtomicU64, Ordering};
+use volume::BatchBuf;
 
 /// What was asked of the kernel.
 #[derive(Drop)]

@@ -4,14 +4,15 @@ ghost use Rattle.std.specs.Prelude.{◌≡◌};
 
 use crate::kernels::Counting;
 use crate::streams::{Answers, Lines};
-use flusher::{Bells, BitmapMarks, Kern, Tally, VolumeFacts};
 use mark::{FlushSeat, Mark, Seat};
 use operator::{Operator, OperatorService};
+use shared_kernel::{Bells, Kern};
 use std::alloc::Global;
 use std::sync::atomic::{AtomicU64, Ordering};
 use std::sync::{Arc, Mutex, Wait};
 use std::thread::{self, Threads, join};
 use std::time::{Clock, Duration};
+use usage::{BitmapMarks, Tally, VolumeFacts};
 
 /// A play waits for this many milliseconds, and then fails.
 const WAIT_MILLIS: u64 = 20_000;

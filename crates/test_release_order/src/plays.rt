@@ -4,13 +4,15 @@ use crate::callers::{Caller, fill};
 use crate::sides::Side;
 use crate::stages::{Session, Stage};
 use crate::stops::{PAUSE_MILLIS, Point, Stop, StopGate, pause, wait_for};
-use flusher::{BatchBuf, Gate, Kern, Locked};
+use locked_kernel::Locked;
 use releasing::Limits;
+use shared_kernel::{Gate, Kern};
 use std::alloc::Global;
 use std::net::{Net, TcpListener, TcpStream};
 use std::sync::Wait;
 use std::sync::atomic::Ordering;
 use std::thread::{Threads, join};
+use volume::BatchBuf;
 
 /// The most times that a session waits for a release.
 const WAITS: u32 = 100;

@@ -3,12 +3,13 @@
 use crate::callers::Caller;
 use crate::plays::{GREETING, REPLIES};
 use crate::stages::{Session, Stage, make_kernel};
-use flusher::{BatchBuf, Gate, Kern, NoGate, Ticket};
 use releasing::Limits;
+use shared_kernel::{Gate, Kern, NoGate, Ticket};
 use std::alloc::Global;
 use std::net::{Net, TcpListener, TcpStream};
 use std::sync::Wait;
 use std::thread::{self, Threads, join};
+use volume::BatchBuf;
 
 /// The number of articles.
 const ROUNDS: u64 = 200;

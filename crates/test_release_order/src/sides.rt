@@ -1,15 +1,16 @@
 //! A kernel under its lock, before and after whose calls a thread stops.
 
 use crate::stops::{Point, Stop};
-use flusher::{
-    AdminError, BatchBuf, ExecError, ExecOutcome, ExpireError, JoinError, Kern, KernelCounts,
-    Locked, Stale, Ticket,
-};
+use locked_kernel::Locked;
 use model::{Message, Mode, Moment};
 use names::{GroupName, GroupRequest};
 use outbox::ReadyBuf;
+use shared_kernel::{
+    AdminError, ExecError, ExecOutcome, ExpireError, JoinError, Kern, KernelCounts, Stale, Ticket,
+};
 use std::alloc::Global;
 use std::sync::Wait;
+use volume::BatchBuf;
 
 /// The kernel of a play.
 #[derive(Drop)]

@@ -1,17 +1,20 @@
 //! One session over a kernel, its writer, and what the threads of a play do with them.
 
 use crate::callers::Caller;
-use flusher::{BatchBuf, Bells, Gate, Kern, Kernel, Locked, Ticket};
 use journal::Journal;
+use kernel::Kernel;
+use locked_kernel::Locked;
 use memdisk::MemDisk;
 use model::{Message, Moment, Status, Text};
 use names::{Description, GroupName, GroupRequest, is_host};
 use new_volume::{FORMAT_2, VolumePlan, are_sizes, device_octets, format};
 use releasing::{Closing, Limits, ReplyWriter, Shared, give_short_writes};
+use shared_kernel::{Bells, Gate, Kern, Ticket};
 use std::alloc::{AllocError, Global};
 use std::net::{Net, TcpListener, TcpStream};
 use std::slice::from_ref;
 use std::sync::{Arc, Wait};
+use volume::BatchBuf;
 
 /// The host of the volumes.
 const HOST: &[u8] = b"news.example";

@@ -1,6 +1,6 @@
 //! Where a thread stops to wait for another.
 
-use flusher::Gate;
+use shared_kernel::Gate;
 use std::sync::Wait;
 use std::sync::atomic::{AtomicBool, Ordering};
 use std::thread::Parker;

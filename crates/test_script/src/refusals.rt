@@ -1,7 +1,7 @@
 //! How each refusal is printed: of a world, of the kernel, and of the program when it ends.
 
-use kernel::Stale;
 use printing::{Failure, NOT_UNDERSTOOD, REFUSED};
+use shared_kernel::Stale;
 use std::test::Fail;
 use world::{OpenError, StepError};
 

@@ -2,11 +2,11 @@
 
 use crate::scenes::{Scene, Visit};
 use disk::DiskCall;
-use flusher::{ExecError, NoGate};
 use logging::{Log, Verbosity};
 use mark::Mark;
 use model::Message;
 use server::{Limits, ServeError};
+use shared_kernel::{ExecError, NoGate};
 use std::alloc::{AllocError, Global};
 use std::net::{Net, TcpListener, TcpStream};
 use std::sync::atomic::{AtomicBool, Ordering};

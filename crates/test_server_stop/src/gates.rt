@@ -1,7 +1,7 @@
 //! Where a play holds a session's thread.
 
 use crate::props::{Callers, Props};
-use flusher::Gate;
+use shared_kernel::Gate;
 use std::sync::Wait;
 use std::sync::atomic::Ordering;
 use std::time::Clock;

@@ -5,7 +5,7 @@ use crate::disks::Lent;
 use crate::gates::Holding;
 use crate::props::{Callers, Props};
 use disk::DiskCall;
-use flusher::Locked;
+use locked_kernel::Locked;
 use mark::Mark;
 use memdisk::{MemDisk, Pick};
 use server::Limits;

@@ -1,7 +1,7 @@
 //! Where a test holds the flusher or the releaser, and the flags between its threads.
 
 use crate::kernels::Watch;
-use flusher::{Arrivals, Gate};
+use shared_kernel::{Arrivals, Gate};
 use std::alloc::{AllocError, Global};
 use std::sync::atomic::{AtomicBool, AtomicU64, Ordering};
 use std::sync::{Arc, Mutex, Wait};

@@ -6,10 +6,11 @@ use crate::callers::call;
 use crate::gates::{Flags, Holds, TestGate};
 use crate::kernels::{Watch, Watching};
 use disk::DiskCall;
-use flusher::{BatchBuf, Kern, Locked, Stale};
+use locked_kernel::Locked;
 use mark::{FlushSeat, Mark, Seat};
 use memdisk::MemDisk;
 use server::{Limits, ServeError};
+use shared_kernel::{Kern, Stale};
 use std::alloc::Global;
 use std::io::{self, Write};
 use std::net::{Net, TcpListener, TcpStream};
@@ -21,6 +22,7 @@ use std::time::Clock;
 use test_support_server::{
     BLOCKS, Hooked, Setting, Stage, add_group, listen, new_device, open, silent_log,
 };
+use volume::BatchBuf;
 
 /// The outcome of a play.
 #[derive(Clone, Copy, Debug, PartialEq, Eq)]

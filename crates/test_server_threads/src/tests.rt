@@ -2,8 +2,8 @@
 
 use crate::gates::{Holds, gather_until, note_until_quiet};
 use crate::plays::{Outcome, play, raises_after_commit, tell};
-use flusher::{Arrivals, Stale};
 use server::ServeError;
+use shared_kernel::{Arrivals, Stale};
 use std::sync::atomic::AtomicBool;
 use std::thread::{Parker, join};
 

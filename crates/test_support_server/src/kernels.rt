@@ -1,14 +1,16 @@
 //! A kernel two of whose calls a test can refuse.
 
-use flusher::{
-    AdminError, BatchBuf, ExecError, ExecOutcome, ExpireError, JoinError, Kern, Kernel,
-    KernelCounts, Locked, Stale, Ticket,
-};
+use kernel::Kernel;
+use locked_kernel::Locked;
 use model::{Message, Mode, Moment};
 use names::{GroupName, GroupRequest};
 use outbox::ReadyBuf;
+use shared_kernel::{
+    AdminError, ExecError, ExecOutcome, ExpireError, JoinError, Kern, KernelCounts, Stale, Ticket,
+};
 use std::alloc::Global;
 use std::sync::Wait;
+use volume::BatchBuf;
 
 /// What a test has a kernel refuse.
 pub trait Hooks {

@@ -5,14 +5,13 @@ ghost use Rattle.journal.specs.Journal.{IsIdle};
 
 use crate::volumes::{HOST, INODES, add_group};
 use disk::{Disk, DiskCall, Faults};
-use flusher::{
-    BatchBuf, BitmapMarks, Gate, Kern, KernelCounts, NoGate, Tally, VolumeFacts, flush_turn,
-};
+use flusher::flush_turn;
 use journal::Journal;
 use logging::{Log, Verbosity};
 use mark::{FlushSeat, Mark, Seat};
 use new_volume::FORMAT_2;
 use server::{Limits, ServeError, Server, serve};
+use shared_kernel::{Gate, Kern, KernelCounts, NoGate};
 use std::alloc::{AllocError, Global};
 use std::io::{self, BufRead, Write};
 use std::net::{Net, TcpListener, TcpStream};
@@ -20,6 +19,8 @@ use std::sync::atomic::AtomicU64;
 use std::sync::{Arc, Wait};
 use std::thread::Threads;
 use std::time::Clock;
+use usage::{BitmapMarks, Tally, VolumeFacts};
+use volume::BatchBuf;
 
 /// The marks of used blocks that the servers begin with.
 const MARKS: BitmapMarks = BitmapMarks {

@@ -4,12 +4,13 @@ ghost use Rattle.std.specs.Prelude.{IfSome};
 ghost use Rattle.journal.specs.Journal.{IsReady};
 
 use disk::Disk;
-use flusher::{Kern, Kernel};
 use journal::Journal;
+use kernel::Kernel;
 use memdisk::MemDisk;
 use model::{Moment, Status};
 use names::{Description, GroupName, GroupRequest, is_host};
 use new_volume::{FORMAT_2, VolumePlan, are_sizes, device_octets, format};
+use shared_kernel::Kern;
 use std::alloc::Global;
 use std::sync::Wait;
 

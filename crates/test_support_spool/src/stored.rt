@@ -3,12 +3,12 @@
 ghost use Rattle.std.specs.Prelude.{IsTrue};
 ghost use Rattle.model.specs.Files.{HasRoom};
 
+use blocks::{BLOCK_SIZE, Blocks};
 use model::Text;
 use names::is_host;
 use spool::Spool;
 use spool_reading::ReadSpoolError;
 use std::alloc::{AllocError, Global};
-use blocks::{BLOCK_SIZE, Blocks};
 use volume::{BATCH_BLOCKS, BatchBuf, Volume};
 
 /// The inodes of the volumes that are tested.

@@ -1,5 +1,6 @@
 //! What a device holds after a new volume was asked for, even if one of the calls failed.
 
+use blocks::BLOCK_SIZE;
 use disk::{Disk, DiskCall, Faults};
 use journal::{Journal, JournalError, Refused};
 use memdisk::MemDisk;
@@ -7,7 +8,6 @@ use names::is_host;
 use new_volume::{FORMAT_1, FORMAT_2, VolumePlan, are_sizes, device_octets, format};
 use std::alloc::Global;
 use std::test::Fail;
-use blocks::BLOCK_SIZE;
 
 /// What an opening finds.
 #[derive(Clone, Copy, Debug, PartialEq, Eq)]

@@ -2,11 +2,11 @@
 
 ghost use Rattle.std.specs.Prelude.{◌≤◌};
 
+use blocks::{BLOCK_SIZE, Blocks};
 use journal::{FormatError, Journal};
 use memdisk::MemDisk;
 use std::alloc::{AllocError, Global};
 use std::test::Fail;
-use blocks::{BLOCK_SIZE, Blocks};
 use volume::{BATCH_BLOCKS, BatchBuf, Volume};
 use volume_loading::LoadError;
 

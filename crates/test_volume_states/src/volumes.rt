@@ -3,12 +3,12 @@
 ghost use Rattle.std.specs.Prelude.{IsTrue};
 ghost use Rattle.model.specs.Files.{HasRoom};
 
+use blocks::{BLOCK_SIZE, Blocks};
 use reporting::VolumeStatus;
 use spool_reading::ReadSpoolError;
 use std::alloc::Global;
 use std::test::Fail;
 use test_support_spool::{Answer, Call, Stored, make};
-use blocks::{BLOCK_SIZE, Blocks};
 use volume::{BATCH_BLOCKS, BatchBuf, Volume};
 use volume_states::volume_status;
 

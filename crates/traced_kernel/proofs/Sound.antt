@@ -9,8 +9,8 @@ use Rattle.kernel.specs.Kernel.{mode_at, seat_of, taken}
 use Rattle.seats.specs.Seats.{Ready, Seat, new_seat, ready, ready_of}
 use Rattle.seats.proofs.SeatsLaws.{eqb-same}
 use Rattle.kernel.specs.Errors.{of_exec}
-use Rattle.kernel.specs.declared.errors.ExecError.{ExecError}
-use Rattle.kernel.specs.declared.errors.ExecError.TheVariants as exec
+use Rattle.shared_kernel.specs.declared.errors.ExecError.{ExecError}
+use Rattle.shared_kernel.specs.declared.errors.ExecError.TheVariants as exec
 use Rattle.kernel.specs.Kept.{IsKept}
 use Rattle.model.specs.News.{mode_of, service}
 use Rattle.model.specs.Stream.{Octets, next}

@@ -11,8 +11,8 @@ use Rattle.kernel.specs.Kernel.{KernelView, seat_of, mode_at, joined, left, rele
 use Rattle.kernel.specs.Kernel.{NoSession, Execs, Administers, TestedOrMemory}
 use Rattle.seats.specs.Seats.{ready, ready_of}
 use Rattle.kernel.specs.Errors.{of_exec}
-use Rattle.kernel.specs.declared.errors.ExecError.{ExecError}
-use Rattle.kernel.specs.declared.errors.ExecError.TheVariants as exec
+use Rattle.shared_kernel.specs.declared.errors.ExecError.{ExecError}
+use Rattle.shared_kernel.specs.declared.errors.ExecError.TheVariants as exec
 use Rattle.synchrony.specs.Server.{Command, Admin}
 use Rattle.traced_kernel.specs.Traced.{TracedView, Sent, nobody, sent_at, with_sent}
 

@@ -26,13 +26,12 @@ mod peer;
 pub use entry::{Entry, Happened};
 pub use errors::ArriveError;
 pub use input::Input;
-use kernel::{
-    AdminError, BatchBuf, ExecError, ExpireError, JoinError, Kernel, Spool, Stale, Ticket,
-};
+use kernel::{BatchBuf, Kernel, Spool};
 use model::{Change, Expiry, Mark, Mode, Moment, NewGroup, Text};
 use names::{GroupName, GroupRequest};
 use outbox::ReadyBuf;
 pub use peer::Peer;
+use shared_kernel::{AdminError, ExecError, ExpireError, JoinError, Stale, Ticket};
 use std::alloc::{AllocError, Global};
 use std::marker::Model;
 

@@ -11,9 +11,10 @@ ghost use Rattle.traced_kernel.specs.Traced.{nobody, numbered, sent_at, with_num
 ghost use Rattle.traced_kernel.specs.declared.input.Input.{Input as ItsInput};
 
 use crate::input::Input;
-use kernel::{Kernel, SESSIONS};
+use kernel::Kernel;
 use model::{Message, Mode};
 use outbox::{RELEASE_OCTETS, ReadyBuf};
+use shared_kernel::SESSIONS;
 use std::alloc::{AllocError, Global};
 
 /// What a session sent, and what was released to it.

@@ -5,9 +5,9 @@ ghost use Rattle.journal.specs.Journal.{CountsFailures, IsReady};
 ghost use Rattle.usage.specs.Marks.{IsWhole, image_of, marked, marked_after};
 
 use crate::bitmap::used_blocks;
+use blocks::BLOCK_SIZE;
 use disk::Disk;
 use journal::{Journal, JournalError};
-use blocks::BLOCK_SIZE;
 use volume::{BATCH_BLOCKS, BatchBuf};
 
 /// The set bits of each of the bitmap's two blocks, which are the logical blocks 0 and 1 (docs/FORMATS.md).

@@ -5,9 +5,11 @@ use crate::grouped::Grouped;
 use crate::superblock::ReadSizes;
 use crate::wrong_unless;
 use disk::Disk;
-use std::alloc::{AllocError, Global};
 use octet_numbers::{number32, number64};
-use volume_format::layout::{NUMBERS_AT, OPEN, SEGMENT_IMAGES, descriptor_block, gate_block, home_block, image_block};
+use std::alloc::{AllocError, Global};
+use volume_format::layout::{
+    NUMBERS_AT, OPEN, SEGMENT_IMAGES, descriptor_block, gate_block, home_block, image_block,
+};
 
 /// The offsets in a descriptor of the count of its images, and of its zeros.
 const COUNT_AT: usize = 16;

@@ -10,9 +10,9 @@ use fs_layout::inodes::{
 };
 use fs_layout::records::RECORD_SIZE;
 use fs_layout::slots::NAME_MAX;
+use octet_numbers::{number32, number64};
 use std::alloc::Global;
 use std::fmt::{self, Display, Formatter};
-use octet_numbers::{number32, number64};
 use volume_format::layout::BLOCK;
 
 /// The octets of an inode or a slot.

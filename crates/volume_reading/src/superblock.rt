@@ -5,9 +5,12 @@ use crate::grouped::Grouped;
 use crate::wrong_unless;
 use disk::Disk;
 use names::{HOST_LIMIT, is_host};
-use std::alloc::Global;
 use octet_numbers::number32;
-use volume_format::layout::{BLOCK, FEWEST_BLOCKS, FORMAT_AT, LABEL_AT, MAGIC, MOST_BLOCKS, ONE_SEGMENT, SEGMENTS, VERSION, home_block};
+use std::alloc::Global;
+use volume_format::layout::{
+    BLOCK, FEWEST_BLOCKS, FORMAT_AT, LABEL_AT, MAGIC, MOST_BLOCKS, ONE_SEGMENT, SEGMENTS, VERSION,
+    home_block,
+};
 use volume_format::read_format;
 
 /// The offsets of the length of the label's host, and of the host.

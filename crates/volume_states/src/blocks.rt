@@ -8,6 +8,7 @@ ghost use Rattle.model.specs.Layout.{HoldsIn};
 ghost use Rattle.model.specs.Spool.{Spool};
 ghost use Rattle.volume_states.specs.State.{AreBlocks, AreInodes, IsStatusOf, of_index};
 
+use blocks::Blocks;
 use fs_layout::inodes::free_inode_count;
 use fs_layout::marks::free_block_count;
 use index_groups::Group;
@@ -16,7 +17,6 @@ use reporting::{GroupStatus, Share, VolumeStatus};
 use spool_opening::open;
 use spool_reading::ReadSpoolError;
 use std::alloc::{AllocError, Global};
-use blocks::Blocks;
 
 /// The state of the volume of a host in the blocks of a volume of this format, whatever they contain. `Damaged` exactly
 /// if they hold no spool of the host in the files of the format (docs/FORMATS.md), `Memory` if an allocation was

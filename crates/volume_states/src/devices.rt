@@ -12,12 +12,12 @@ ghost use Rattle.volume_states.specs.State.{IsStatusOf};
 ghost use Rattle.volume_states.specs.Told.{IsStateIn, IsStateOf};
 
 use crate::blocks::volume_status;
+use blocks::Blocks;
 use disk::Disk;
 use journal::{Journal, JournalError};
 use kernel::OpenError;
 use reporting::VolumeStatus;
 use std::alloc::Global;
-use blocks::Blocks;
 use volume_label::read_label;
 
 /// The state of the volume on a device, whose format stays as it is. `Fault` (E1) if the device failed, `Memory` (E2)

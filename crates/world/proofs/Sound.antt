@@ -12,7 +12,7 @@ use Rattle.journal.specs.declared.Next.TheVariants as next
 use Rattle.journal.specs.declared.Progress.{Progress}
 use Rattle.journal.specs.declared.Progress.TheVariants as progress
 use Rattle.kernel.specs.Kernel as refusal
-use Rattle.kernel.specs.declared.errors.ExecError.TheVariants as exec
+use Rattle.shared_kernel.specs.declared.errors.ExecError.TheVariants as exec
 use Rattle.world.specs.declared.events.StepAnswer.TheVariants as answer
 use Rattle.std.specs.Prelude.{drop, ◌||◌, ◌&&◌, not, is_none, nat_le, nat_lt, IfOk, map, option_map, slice_index_or, OnErr, OnOk, Result}
 use Rattle.std.specs.Prelude.{Ok, Err}
@@ -23,8 +23,8 @@ use Rattle.kernel.specs.Kernel.{AgreesBehind, KernelView, halted_for_good, made_
 use Rattle.kernel.specs.Kernel.{exec_refusal, first_failing, has_batch, is_block, mode_at, taken}
 use Rattle.seats.specs.Seats.{Seat}
 use Rattle.kernel.specs.Kept.{IsKept}
-use Rattle.kernel.specs.declared.Ticket.{Ticket}
-use Rattle.kernel.specs.declared.errors.ExecError.{ExecError}
+use Rattle.shared_kernel.specs.declared.ticket.Ticket.{Ticket}
+use Rattle.shared_kernel.specs.declared.errors.ExecError.{ExecError}
 use Rattle.model.specs.Stream.{Octets}
 use Rattle.model.specs.Volume.{laid_over}
 use Rattle.model.specs.declared.message.Mark.{Mark}

@@ -12,14 +12,14 @@ use Rattle.journal.specs.declared.Progress.TheVariants as progress
 use Rattle.kernel.specs.Kernel.{KernelView, Refusal, Tested, TestedOrMemory, admin_refusal_of, early_refusal, exec_refusal}
 use Rattle.kernel.specs.Kernel.{expire_refusal_of, halted_for_good, has_batch, join_refusal, made_durable, mode_at, taken}
 use Rattle.kernel.specs.Kernel as refusal
-use Rattle.kernel.specs.declared.errors.AdminError.{AdminError}
-use Rattle.kernel.specs.declared.errors.AdminError.TheVariants as admin
-use Rattle.kernel.specs.declared.errors.ExecError.{ExecError}
-use Rattle.kernel.specs.declared.errors.ExecError.TheVariants as exec
-use Rattle.kernel.specs.declared.errors.ExpireError.{ExpireError}
-use Rattle.kernel.specs.declared.errors.ExpireError.TheVariants as expire
-use Rattle.kernel.specs.declared.errors.JoinError.{JoinError}
-use Rattle.kernel.specs.declared.errors.JoinError.TheVariants as join
+use Rattle.shared_kernel.specs.declared.errors.AdminError.{AdminError}
+use Rattle.shared_kernel.specs.declared.errors.AdminError.TheVariants as admin
+use Rattle.shared_kernel.specs.declared.errors.ExecError.{ExecError}
+use Rattle.shared_kernel.specs.declared.errors.ExecError.TheVariants as exec
+use Rattle.shared_kernel.specs.declared.errors.ExpireError.{ExpireError}
+use Rattle.shared_kernel.specs.declared.errors.ExpireError.TheVariants as expire
+use Rattle.shared_kernel.specs.declared.errors.JoinError.{JoinError}
+use Rattle.shared_kernel.specs.declared.errors.JoinError.TheVariants as join
 use Rattle.traced_kernel.specs.declared.errors.ArriveError.{ArriveError}
 use Rattle.traced_kernel.specs.declared.errors.ArriveError.TheVariants as arrive
 use Rattle.model.specs.Stream.{Octets}

@@ -1,6 +1,6 @@
 -- What the fields of the code mean, and what they keep.
 use Rattle.std.specs.Prelude.{◌≡◌, Bool, true, false, List, [], ◌∷◌, ◌++◌, Option, Some, None, option_map}
-use Rattle.kernel.specs.declared.Ticket.{Ticket}
+use Rattle.shared_kernel.specs.declared.ticket.Ticket.{Ticket}
 use Rattle.world.specs.Tied.{IsTied}
 use Rattle.world.specs.World.{HasFailed, IsDurable, News, WorldView, kernel_of}
 

@@ -7,7 +7,7 @@ use Rattle.seats.specs.Kept.{IsSeat}
 use Rattle.seats.specs.Seats.{Seat}
 use Rattle.kernel.specs.Kernel.{LaterDirty, LaterOut, NoSession, buffered, is_block}
 use Rattle.kernel.specs.Serving.{Grows, answer_in, mark_in}
-use Rattle.kernel.specs.declared.errors.ExecError.TheVariants as exec
+use Rattle.shared_kernel.specs.declared.errors.ExecError.TheVariants as exec
 use Rattle.kernel.proofs.KernelLaws.{all_at}
 use Rattle.kernel.proofs.ExecLaws.{awaits, case_of, closed, done, kept_answered, later_dirty, later_out, no_session, none_fails}
 use Rattle.kernel.proofs.ExecLaws.{out_of_memory, refused, room_for, served_mark, size, stopped_changes_nothing, stopped_mark}

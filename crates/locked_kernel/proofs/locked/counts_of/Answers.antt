@@ -1,7 +1,7 @@
 use Rattle.std.proofs.Common.{◌≡◌, ap, arith, length}
 use Rattle.model.specs.Spool.{Spool}
-use Rattle.flusher.proofs.Counted.{files_fit}
-use Rattle.flusher.proofs.locked.counts_of.Goals as goal
+use Rattle.locked_kernel.proofs.Counted.{files_fit}
+use Rattle.locked_kernel.proofs.locked.counts_of.Goals as goal
 
 pub inodes_used-requires : goal.inodes_used-requires
 inodes_used-requires c =

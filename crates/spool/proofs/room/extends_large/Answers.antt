@@ -2,7 +2,7 @@ use Rattle.std.proofs.Common.{◌≡◌, ◌∙◌, Bool, true, ℕ, List, [], g
 use Rattle.std.specs.Prelude.{◌||◌}
 use Rattle.std.proofs.lemmas.List.Folds.{list_any_more}
 use Rattle.model.specs.Spool.{is_here}
-use Rattle.spool_opening.proofs.Sizes.{name_here}
+use Rattle.spool_reading.proofs.Sizes.{name_here}
 use Rattle.spool.proofs.Large.{any_at, one_large}
 use Rattle.spool.proofs.room.extends_large.Goals as goal
 

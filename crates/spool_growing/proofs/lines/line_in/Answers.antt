@@ -6,7 +6,7 @@ use Rattle.model.specs.Indexed.{GroupIndex, group_index}
 use Rattle.model.specs.Spool.{group_named, groups}
 use Rattle.model.specs.SpoolFiles.{number_record}
 use Rattle.index_groups.specs.Shown.{shown}
-use Rattle.spool_opening.proofs.Whole.{groups_few}
+use Rattle.spool_reading.proofs.Groups.{groups_few}
 use Rattle.spool_growing.proofs.Adding.{are_its_pieces, filed_here, indexed_at, is_at, its_place, never_absent, numbers_at}
 use Rattle.spool_growing.proofs.Adding.{overview_at, place_below, read_place, same_count, short_end, short_line}
 use Rattle.spool_growing.proofs.Held.{changes_are_few}

@@ -4,7 +4,7 @@ use Rattle.model.specs.Files.{table}
 use Rattle.model.specs.FileCalls.{next_line}
 use Rattle.filing.specs.declared.Piece.{Piece}
 use Rattle.spool_growing.specs.Articles.{ArePieces, ArePiecesOf}
-use Rattle.spool_opening.proofs.Sizes.{all_more, count_more, name_here, sizes_more}
+use Rattle.spool_reading.proofs.Sizes.{all_more, count_more, name_here, sizes_more}
 use Rattle.spool_growing.proofs.Adding.{pieces_more}
 use Rattle.spool_growing.proofs.lines.lines_of.Goals as goal
 

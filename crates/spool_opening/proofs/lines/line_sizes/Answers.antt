@@ -5,8 +5,8 @@ use Rattle.model.specs.FileCalls.{next_line}
 use Rattle.index_groups.specs.Shown.{shown}
 use Rattle.spool_opening.specs.Going.{GoesOn}
 use Rattle.spool_opening.specs.Stored.{HasPiece, file_for, name_for, piece_for}
-use Rattle.spool_opening.proofs.Sizes.{all_more, count_more, few_filed, goes_by_pieces, line_size, name_here, pieces_more, pieces_of}
-use Rattle.spool_opening.proofs.Sizes.{short_end, sizes_more}
+use Rattle.spool_reading.proofs.Sizes.{all_more, count_more, name_here, sizes_more}
+use Rattle.spool_opening.proofs.Sizes.{few_filed, goes_by_pieces, line_size, pieces_more, pieces_of, short_end}
 use Rattle.spool_opening.proofs.lines.line_sizes.Goals as goal
 
 pub goes_on-requires-clause-few : goal.goes_on-requires-clause-few

@@ -4,8 +4,8 @@ use Rattle.std.proofs.lemmas.Result.{err_from_is_err_and}
 use Rattle.std.proofs.lemmas.Option.{MatchOption-at_none}
 use Rattle.kernel.specs.Errors.{of_exec}
 use Rattle.kernel.specs.Kernel.{mode_at, exec_refusal}
-use Rattle.kernel.specs.declared.errors.ExecError.{ExecError}
-use Rattle.kernel.specs.declared.errors.ExecError.TheVariants.{Memory}
+use Rattle.shared_kernel.specs.declared.errors.ExecError.{ExecError}
+use Rattle.shared_kernel.specs.declared.errors.ExecError.TheVariants.{Memory}
 use Rattle.model.specs.declared.message.Mark.{Mark}
 use Rattle.model.specs.declared.message.Mode.{Mode}
 use Rattle.traced_kernel.specs.Fields.{inputs, seen, view_of}

@@ -2,7 +2,7 @@ use Rattle.std.proofs.Common.{◌≡◌, ap, ◌++◌, ◌∷◌, [], ◌∙◌,
 use Rattle.std.proofs.lemmas.List.{map-append}
 use Rattle.kernel.specs.Errors.{of_join}
 use Rattle.kernel.specs.Kernel.{join_refusal, joined}
-use Rattle.kernel.specs.declared.errors.JoinError.TheVariants.{Memory}
+use Rattle.shared_kernel.specs.declared.errors.JoinError.TheVariants.{Memory}
 use Rattle.traced_kernel.specs.Events.{joins}
 use Rattle.traced_kernel.specs.Fields.{inputs, seen, sent_of, sents}
 use Rattle.traced_kernel.specs.Traced.{Sent, nobody}

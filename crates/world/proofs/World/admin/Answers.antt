@@ -1,7 +1,7 @@
 use Rattle.world.specs.Fields.{news_in}
 use Rattle.world.specs.World.{WorldView, kernel_of}
 use Rattle.kernel.specs.Errors.{of_admin}
-use Rattle.kernel.specs.declared.errors.AdminError.TheVariants.{Memory}
+use Rattle.shared_kernel.specs.declared.errors.AdminError.TheVariants.{Memory}
 use Rattle.world.proofs.Tying.{Grows-administers}
 use Rattle.world.proofs.Sound.{sound_tested}
 use Rattle.world.proofs.World.admin.Goals as goal

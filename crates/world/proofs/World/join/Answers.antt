@@ -4,7 +4,7 @@ use Rattle.world.specs.Fields.{news_in}
 use Rattle.world.specs.World.{WorldView, kernel_of}
 use Rattle.kernel.specs.Errors.{of_join}
 use Rattle.kernel.specs.Kernel.{join_refusal}
-use Rattle.kernel.specs.declared.errors.JoinError.TheVariants.{Memory}
+use Rattle.shared_kernel.specs.declared.errors.JoinError.TheVariants.{Memory}
 use Rattle.world.proofs.Sound.{Grows-seats, sound_tested, tested_or}
 use Rattle.world.proofs.World.join.Goals as goal
 

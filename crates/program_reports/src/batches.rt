@@ -1,9 +1,9 @@
 //! Writes the articles of a volume as a batch.
 
-use crate::files::open;
 use exporting::LineEnds;
 use names::GroupName;
 use printing::CommandError;
+use program_files::open;
 use std::alloc::Global;
 use std::fs::File;
 use std::io::Write;

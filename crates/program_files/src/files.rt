@@ -22,7 +22,7 @@ use std::sync::atomic::AtomicU64;
 use wcache::WCache;
 
 /// The device of a volume in a file: it collects writes until a sync, and counts the syncs.
-pub(crate) type VolumeDisk = WCache<CountedDisk<FileDisk>>;
+pub type VolumeDisk = WCache<CountedDisk<FileDisk>>;
 
 /// Makes an empty volume in place of any file with this path.
 pub fn format<R: Files<File = File>>(
@@ -42,7 +42,7 @@ pub fn format<R: Files<File = File>>(
 }
 
 /// Opens the volume in a file, whose length is the device's.
-pub(crate) fn open<R: Files<File = File>>(
+pub fn open<R: Files<File = File>>(
     rt: &R,
     alloc: Global,
     path: &str,
@@ -53,12 +53,12 @@ pub(crate) fn open<R: Files<File = File>>(
 }
 
 /// A count that begins at 0. Refused only for want of memory.
-pub(crate) fn new_count(alloc: Global) -> Result<Arc<AtomicU64, Global>, AllocError> {
+pub fn new_count(alloc: Global) -> Result<Arc<AtomicU64, Global>, AllocError> {
     Ok(Arc::new(alloc, AtomicU64::new(0))?)
 }
 
 /// Opens the volume in a file, whose length is the device's. Each sync that is asked of the file is counted.
-pub(crate) fn open_counted<R: Files<File = File>>(
+pub fn open_counted<R: Files<File = File>>(
     rt: &R,
     alloc: Global,
     path: &str,
@@ -97,7 +97,7 @@ fn no_device<R: Files<File = File>>(
 
 /// The file of a volume as a device, after its gates are written back. So the first sync of the opening makes durable
 /// what a read gives of them.
-pub(crate) fn find<R: Files<File = File>>(
+pub fn find<R: Files<File = File>>(
     rt: &R,
     alloc: Global,
     path: &str,

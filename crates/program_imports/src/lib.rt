@@ -1,11 +1,11 @@
 //! Files the articles of a batch.
+#![tactic(auto)]
 
-use crate::files::find;
-use crate::refusals::refusal_of;
 use importing::{ImportCounts, ImportError, Place, Report, Store, Watcher};
 use logging::{beginning_of_1970, moment};
 use model::Moment;
 use printing::CommandError;
+use program_files::{find, refusal_of};
 use std::alloc::Global;
 use std::fs::File;
 use std::io::{self, Read, Write};

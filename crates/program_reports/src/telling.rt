@@ -1,8 +1,7 @@
 //! Reports the state of a volume.
 
-use crate::files::find;
-use crate::refusals::refusal_of;
 use printing::CommandError;
+use program_files::{find, refusal_of};
 use reporting::{VolumeStatus, json_text, table_text};
 use std::alloc::Global;
 use std::fs::File;

@@ -1,20 +1,23 @@
 //! Adds a group, or removes articles from one, while no server runs.
+#![tactic(auto)]
 
 ghost use Rattle.journal.specs.Journal.{IsReady};
 
-use crate::files::{VolumeDisk, open};
-use flusher::{BatchBuf, FlushError, Kern, Locked, NoGate, flush_turn};
+use flusher::{FlushError, flush_turn};
 use journal::Journal;
-use kernel::{AdminError, ExpireError};
+use locked_kernel::Locked;
 use lookups::LookUps;
 use mark::Mark;
 use names::{GroupName, GroupRequest};
 use opening::Opened;
 use printing::CommandError;
+use program_files::{VolumeDisk, open};
+use shared_kernel::{AdminError, ExpireError, Kern, NoGate};
 use std::alloc::Global;
 use std::fs::File;
 use std::rt::Files;
 use std::sync::Wait;
+use volume::BatchBuf;
 
 /// Adds a group and makes it durable. Answers its serial.
 pub fn group<R: Files<File = File> + Wait>(

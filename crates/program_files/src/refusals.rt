@@ -9,7 +9,7 @@ use std::rt::Files;
 
 /// The refusal of the opening of a volume in a file. If it is no volume or is damaged, the file is read once more, to
 /// say what is wrong with it; its device has to be dropped before that. Nothing depends on those words.
-pub(crate) fn refusal_of<R: Files<File = File>>(
+pub fn refusal_of<R: Files<File = File>>(
     rt: &R,
     alloc: Global,
     path: &str,

@@ -1,18 +1,21 @@
 //! Serves a volume.
+#![tactic(auto)]
 
 ghost use Rattle.std.specs.Prelude.{◌≡◌};
 ghost use Rattle.journal.specs.Journal.{IsIdle, IsReady};
 
-use crate::files::{VolumeDisk, new_count, open_counted};
-use flusher::{BitmapMarks, Kernel, Locked, NoGate, Tally, VolumeFacts};
 use journal::Journal;
+use kernel::Kernel;
+use locked_kernel::Locked;
 use logging::{Log, Verbosity};
 use lookups::LookUps;
 use mark::{FlushSeat, Mark, Seat};
 use networks::Network;
 use opening::Opened;
 use printing::CommandError;
+use program_files::{VolumeDisk, new_count, open_counted};
 use server::{Limits, ServeError, Server};
+use shared_kernel::NoGate;
 use std::alloc::{AllocError, Global};
 use std::fs::File;
 use std::io::{BufRead, Write};
@@ -22,6 +25,7 @@ use std::sync::atomic::AtomicU64;
 use std::sync::{Arc, Wait};
 use std::thread::Threads;
 use std::time::Clock;
+use usage::{BitmapMarks, Tally, VolumeFacts};
 
 /// What is asked of a server.
 #[derive(Clone, Copy)]

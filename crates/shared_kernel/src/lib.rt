@@ -1,0 +1,17 @@
+//! The calls of a kernel that threads share, with their refusals, and how the threads of a server wake one another.
+//! Nothing here knows the kernel: `locked_kernel` makes these calls of a kernel under its lock.
+#![tactic(auto)]
+
+mod arrivals;
+mod bells;
+mod errors;
+mod gate;
+mod kern;
+mod ticket;
+
+pub use arrivals::Arrivals;
+pub use bells::{Bell, Bells, Ringing};
+pub use errors::{AdminError, ExecError, ExpireError, JoinError, Stale};
+pub use gate::{Gate, NoGate};
+pub use kern::{ExecOutcome, Kern, KernelCounts, SESSIONS};
+pub use ticket::Ticket;
