@@ -1,9 +1,5 @@
-//! Tables of calls to a volume, with the expected answer to each.
+//! What a device holds after a new volume was asked for.
 #![tactic(auto)]
 
 #[cfg(test)]
 mod formats;
-#[cfg(test)]
-mod steps;
-#[cfg(test)]
-mod tables;
