@@ -31,7 +31,7 @@ const INODES: u32 = 2;
 const SLOTS: u32 = 3;
 
 /// The changes that are filed, and taken as a batch.
-const CHANGES: &[(Call, Answer)] = &[
+const CHANGES: &[(Call<'static>, Answer)] = &[
     (
         Call::Add("x.a", Status::Open, "test"),
         Answer::Changed(Filed::Serial(1)),
@@ -244,7 +244,7 @@ fn rows() -> &'static [Row] {
 }
 
 /// The changes, as a function for the same reason.
-fn changes() -> &'static [(Call, Answer)] {
+fn changes() -> &'static [(Call<'static>, Answer)] {
     CHANGES
 }
 

@@ -61,7 +61,7 @@ fn rows() -> &'static [Row] {
 const BITS: [u8; 8] = [1, 2, 4, 8, 16, 32, 64, 128];
 
 /// What each spool that is opened must find.
-const FOUND: &[(Asked, u64)] = &[
+const FOUND: &[(Asked<'static>, u64)] = &[
     (Asked::Len, 6),
     (Asked::GroupCount, 2),
     (Asked::Serial("x.a"), 1),
@@ -74,12 +74,12 @@ const FOUND: &[(Asked, u64)] = &[
     (Asked::ById("<2@a.example>"), 5),
 ];
 
-fn found() -> &'static [(Asked, u64)] {
+fn found() -> &'static [(Asked<'static>, u64)] {
     FOUND
 }
 
 /// The texts that each spool must have.
-const TEXTS: &[Sought] = &[
+const TEXTS: &[Sought<'static>] = &[
     Sought::Description("x.a"),
     Sought::Description("x.b"),
     Sought::Whole("<1@a.example>"),
@@ -88,7 +88,7 @@ const TEXTS: &[Sought] = &[
     Sought::Lines("x.b", 1, 1),
 ];
 
-fn texts() -> &'static [Sought] {
+fn texts() -> &'static [Sought<'static>] {
     TEXTS
 }
 

@@ -249,8 +249,11 @@ pub fn shows(alloc: Global, sim: &Sim, commits: u64) -> Result<bool, SimError> {
 /// Whether the change with this serial is that of the script.
 fn is_change(alloc: Global, sim: &Sim, serial: u64) -> Result<bool, SimError> {
     if serial == 1 {
-        return Ok(sim.is_group(1, b"x.a"));
+        return Ok(sim.serial(b"x.a") == Some(1));
     }
     let sent = article(alloc, serial)?;
-    sim.is_article(alloc, serial, sent.as_bytes())
+    match sim.article(alloc, serial)? {
+        Some(octets) => Ok(octets.as_slice() == sent.as_bytes()),
+        None => Ok(false),
+    }
 }

@@ -2,7 +2,6 @@
 
 use crate::changes::{Wanted, is_change};
 use crate::changing::{Filed, add, expire, post, take};
-use crate::finding::{Asked, Sought, find, text_of};
 use crate::sent::Sent;
 use crate::stored::Stored;
 use model::Status;
@@ -11,25 +10,20 @@ use std::alloc::Global;
 
 /// A call.
 #[derive(Clone, Copy)]
-pub enum Call {
+pub enum Call<'a> {
     /// Adds a group with this status and this description.
-    Add(&'static str, Status, &'static str),
+    Add(&'a str, Status, &'a str),
     /// Adds this many groups, with the names g.1, g.2 and so on.
     AddMany(u64),
     /// Removes the articles up to a number from a group.
-    Expire(&'static str, u32),
-    Post(Sent),
+    Expire(&'a str, u32),
+    Post(Sent<'a>),
     /// Posts an article this many times.
-    PostMany(u64, Sent),
+    PostMany(u64, Sent<'a>),
     /// Accepts an article from another server.
-    Take(Sent),
+    Take(Sent<'a>),
     /// Whether the change with a serial is this one.
-    Change(u64, Wanted),
-    Find(Asked),
-    /// Whether a text that is asked for is this one.
-    Is(Sought, &'static [u8]),
-    /// Whether nothing is found in place of a text.
-    IsNone(Sought),
+    Change(u64, Wanted<'a>),
     DirtyLen,
     /// Takes the dirty blocks as a batch, and counts them.
     Carry,
@@ -41,7 +35,6 @@ pub enum Call {
 #[derive(Clone, Copy, Debug, PartialEq)]
 pub enum Answer {
     Changed(Filed),
-    Found(u64),
     Nothing,
     Is(bool),
     /// This many blocks.
@@ -54,7 +47,7 @@ pub enum Answer {
 }
 
 /// Makes a call.
-pub fn make(alloc: Global, stored: &mut Stored, call: Call) -> Answer {
+pub fn make(alloc: Global, stored: &mut Stored, call: Call<'_>) -> Answer {
     match call {
         Call::Change(serial, wanted) => {
             match is_change(alloc, &stored.spool, serial, &wanted) {
@@ -63,12 +56,6 @@ pub fn make(alloc: Global, stored: &mut Stored, call: Call) -> Answer {
                 Err(_) => Answer::Memory,
             }
         }
-        Call::Find(asked) => match find(&stored.spool, asked) {
-            Some(number) => Answer::Found(number),
-            None => Answer::Nothing,
-        },
-        Call::Is(sought, wanted) => is_text(alloc, stored, sought, Some(wanted)),
-        Call::IsNone(sought) => is_text(alloc, stored, sought, None),
         Call::DirtyLen => Answer::Blocks(stored.spool.dirty_len()),
         Call::Carry => match stored.carry() {
             Some(count) => Answer::Blocks(count),
@@ -82,17 +69,8 @@ pub fn make(alloc: Global, stored: &mut Stored, call: Call) -> Answer {
     }
 }
 
-fn is_text(alloc: Global, stored: &Stored, sought: Sought, wanted: Option<&[u8]>) -> Answer {
-    match (text_of(alloc, &stored.spool, sought), wanted) {
-        (Ok(Some(text)), Some(wanted)) => Answer::Is(text.as_slice() == wanted),
-        (Ok(None), None) => Answer::Is(true),
-        (Ok(_), _) => Answer::Is(false),
-        (Err(_), _) => Answer::Memory,
-    }
-}
-
 // Makes a change.
-fn change_by(alloc: Global, stored: &mut Stored, call: Call) -> Filed {
+fn change_by(alloc: Global, stored: &mut Stored, call: Call<'_>) -> Filed {
     let spool = &mut stored.spool;
     match call {
         Call::Add(name, status, description) => add(
@@ -112,7 +90,7 @@ fn change_by(alloc: Global, stored: &mut Stored, call: Call) -> Filed {
 }
 
 // Posts an article this many times, and gives the answer to the last post.
-fn post_many(alloc: Global, stored: &mut Stored, count: u64, sent: &Sent) -> Filed {
+fn post_many(alloc: Global, stored: &mut Stored, count: u64, sent: &Sent<'_>) -> Filed {
     let mut last = Filed::NotCalled;
     for _ in 0..count {
         last = post(alloc, &mut stored.spool, sent);

@@ -9,12 +9,12 @@ use std::alloc::{AllocError, Global};
 
 /// The expected change.
 #[derive(Clone, Copy)]
-pub enum Wanted {
+pub enum Wanted<'a> {
     /// A group with this status and this description.
-    Group(&'static str, Status, &'static str),
-    /// An article as it was sent, filed in these groups.
-    Article(Sent, &'static [&'static str]),
-    Expiry(&'static str, u64),
+    Group(&'a str, Status, &'a str),
+    /// An article as it was sent, filed in these groups, with a space between two of them.
+    Article(Sent<'a>, &'a str),
+    Expiry(&'a str, u64),
 }
 
 /// Whether the change with a serial is this one; `None` if there is no such change.
@@ -22,7 +22,7 @@ pub fn is_change(
     alloc: Global,
     spool: &Spool,
     serial: u64,
-    wanted: &Wanted,
+    wanted: &Wanted<'_>,
 ) -> Result<Option<bool>, AllocError> {
     if serial < 1 || spool.len() < serial {
         return Ok(None);
@@ -31,7 +31,7 @@ pub fn is_change(
     Ok(Some(is_wanted(alloc, &change, wanted)?))
 }
 
-fn is_wanted(alloc: Global, change: &Change, wanted: &Wanted) -> Result<bool, AllocError> {
+fn is_wanted(alloc: Global, change: &Change, wanted: &Wanted<'_>) -> Result<bool, AllocError> {
     match (change, wanted) {
         (Change::Group(group), Wanted::Group(name, status, description)) => Ok(
             is_text(&group.name, name)
@@ -41,9 +41,10 @@ fn is_wanted(alloc: Global, change: &Change, wanted: &Wanted) -> Result<bool, Al
         ),
         (Change::Article(filing), Wanted::Article(sent, groups)) => {
             let octets = sent.text(alloc)?;
+            let are_filed = are_names(alloc, &filing.envelope.groups, groups)?;
             Ok(
                 filing.text.as_slice() == octets.as_slice()
-                    && are_names(&filing.envelope.groups, groups)
+                    && are_filed
                     && filing.envelope.moment.seconds() == MOMENT,
             )
         }
@@ -58,11 +59,14 @@ fn is_text(text: &Text, wanted: &str) -> bool {
     text.as_slice() == wanted.as_bytes()
 }
 
-fn are_names(names: &Names, wanted: &[&str]) -> bool {
-    let names = names.as_slice();
-    names.len() == wanted.len()
-        && names
-            .iter()
-            .zip(wanted.iter())
-            .all(|(name, wanted)| is_text(name, wanted))
+/// Whether these are the names, with a space between two of them.
+fn are_names(alloc: Global, names: &Names, wanted: &str) -> Result<bool, AllocError> {
+    let mut text = Vec::new(alloc);
+    for name in names.as_slice() {
+        if !text.is_empty() {
+            text.extend_from_slice(b" ")?;
+        }
+        text.extend_from_slice(name.as_slice())?;
+    }
+    Ok(text.as_slice() == wanted.as_bytes())
 }

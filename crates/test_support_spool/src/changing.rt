@@ -77,12 +77,12 @@ pub fn expire(spool: &mut Spool, name: &[u8], number: u32) -> Filed {
 }
 
 /// Posts an article.
-pub fn post(alloc: Global, spool: &mut Spool, sent: &Sent) -> Filed {
+pub fn post(alloc: Global, spool: &mut Spool, sent: &Sent<'_>) -> Filed {
     deliver(alloc, spool, sent, Awaits::PostBlock)
 }
 
 /// Accepts an article from another server, which offered it under its id.
-pub fn take(alloc: Global, spool: &mut Spool, sent: &Sent) -> Filed {
+pub fn take(alloc: Global, spool: &mut Spool, sent: &Sent<'_>) -> Filed {
     let Ok(id) = Vec::from_slice(alloc, sent.id.as_bytes()) else {
         return Filed::Memory;
     };
@@ -93,7 +93,7 @@ pub fn take(alloc: Global, spool: &mut Spool, sent: &Sent) -> Filed {
 }
 
 // Sends an article to a session that awaits it.
-fn deliver(alloc: Global, spool: &mut Spool, sent: &Sent, awaits: Awaits) -> Filed
+fn deliver(alloc: Global, spool: &mut Spool, sent: &Sent<'_>, awaits: Awaits) -> Filed
     requires { MayAwait spool.old.host awaits }
 {
     let Ok(text) = sent.text(alloc) else {

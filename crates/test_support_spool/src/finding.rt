@@ -8,28 +8,28 @@ use std::alloc::{AllocError, Global};
 
 /// The question that is asked.
 #[derive(Clone, Copy)]
-pub enum Asked {
+pub enum Asked<'a> {
     Len,
     Blocks,
     Inodes,
     GroupCount,
     /// The serial of the group at a place.
     At(usize),
-    Serial(&'static str),
-    Status(&'static str),
-    Made(&'static str),
-    Low(&'static str),
-    High(&'static str),
-    Last(&'static str),
-    ByNumber(&'static str, u64),
-    ById(&'static str),
-    ExpiredAt(&'static str, u64),
+    Serial(&'a str),
+    Status(&'a str),
+    Made(&'a str),
+    Low(&'a str),
+    High(&'a str),
+    Last(&'a str),
+    ByNumber(&'a str, u64),
+    ById(&'a str),
+    ExpiredAt(&'a str, u64),
     GoneAt(u64),
     Moment(u64),
 }
 
 /// What a look-up finds; `None` if it finds nothing, or if its preconditions do not hold.
-pub fn find(spool: &Spool, asked: Asked) -> Option<u64> {
+pub fn find(spool: &Spool, asked: Asked<'_>) -> Option<u64> {
     match asked {
         Asked::Len => Some(spool.len()),
         Asked::Blocks => Some(u64::from(spool.blocks())),
@@ -52,7 +52,7 @@ fn at(spool: &Spool, place: usize) -> Option<u64> {
     Some(spool.group_at(place).serial)
 }
 
-fn find_in_group(spool: &Spool, asked: Asked) -> Option<u64> {
+fn find_in_group(spool: &Spool, asked: Asked<'_>) -> Option<u64> {
     match asked {
         Asked::Serial(name) => Some(spool.group(name.as_bytes())?.serial),
         Asked::Status(name) => Some(u64::from(spool.group(name.as_bytes())?.status.octet())),
@@ -66,29 +66,29 @@ fn find_in_group(spool: &Spool, asked: Asked) -> Option<u64> {
 
 /// A text that is asked for.
 #[derive(Clone, Copy)]
-pub enum Sought {
+pub enum Sought<'a> {
     Host,
-    Name(&'static str),
-    Description(&'static str),
+    Name(&'a str),
+    Description(&'a str),
     /// The id, the parts and the overview line, with the number 7, of the article with an id.
-    Id(&'static str),
-    Whole(&'static str),
-    Head(&'static str),
-    Body(&'static str),
-    Nothing(&'static str),
-    Line(&'static str),
+    Id(&'a str),
+    Whole(&'a str),
+    Head(&'a str),
+    Body(&'a str),
+    Nothing(&'a str),
+    Line(&'a str),
     /// The overview lines of a group from one number to another.
-    Lines(&'static str, u64, u64),
+    Lines(&'a str, u64, u64),
     /// The lines of the articles that are in a group whose name the wildmat matches and that were filed at a moment or
     /// later.
-    New(&'static str, i64),
+    New(&'a str, i64),
 }
 
 /// A text; `None` if nothing is found, or if the look-up's preconditions do not hold.
 pub fn text_of(
     alloc: Global,
     spool: &Spool,
-    sought: Sought,
+    sought: Sought<'_>,
 ) -> Result<Option<Vec<u8>>, AllocError> {
     let mut text = Vec::new(alloc);
     let found = match sought {
@@ -149,7 +149,11 @@ fn push_new(
     Ok(true)
 }
 
-fn push_of_article(spool: &Spool, sought: Sought, text: &mut Vec<u8>) -> Result<bool, AllocError> {
+fn push_of_article(
+    spool: &Spool,
+    sought: Sought<'_>,
+    text: &mut Vec<u8>,
+) -> Result<bool, AllocError> {
     match sought {
         Sought::Id(id) => push_id(spool, id.as_bytes(), text),
         Sought::Whole(id) => push_part(spool, id.as_bytes(), &Part::Whole, text),

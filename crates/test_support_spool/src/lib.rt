@@ -13,5 +13,5 @@ pub use calls::{Answer, Call, make};
 pub use changes::Wanted;
 pub use changing::Filed;
 pub use finding::{Asked, Sought, find, text_of};
-pub use sent::{CROSSPOSTED, FIRST, FOR_CLOSED, FOURTH, LARGE, MEDIUM, SMALL, Sent, THIRD};
+pub use sent::Sent;
 pub use stored::{Octet, Stored};

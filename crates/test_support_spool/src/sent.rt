@@ -5,13 +5,13 @@ use std::alloc::{AllocError, Global};
 /// An article that is sent: its message-id, its groups, and the number of octets that it is padded to. Without an id it
 /// lacks the fields that the server adds.
 #[derive(Clone, Copy)]
-pub struct Sent {
-    pub id: &'static str,
-    pub groups: &'static str,
+pub struct Sent<'a> {
+    pub id: &'a str,
+    pub groups: &'a str,
     pub size: usize,
 }
 
-impl Sent {
+impl Sent<'_> {
     /// Its octets.
     pub fn text(&self, alloc: Global) -> Result<Vec<u8>, AllocError> {
         let Sent { id, groups, size } = self;
@@ -33,57 +33,3 @@ impl Sent {
         Ok(text)
     }
 }
-
-/// An article of 146 octets.
-pub const FIRST: Sent = Sent {
-    id: "<1@a.example>",
-    groups: "x.a",
-    size: 0,
-};
-
-/// An article of 156 octets for two groups, and for one that does not exist.
-pub const CROSSPOSTED: Sent = Sent {
-    id: "<2@a.example>",
-    groups: "x.b ,x.z,\tx.a",
-    size: 0,
-};
-
-pub const THIRD: Sent = Sent {
-    id: "<3@a.example>",
-    groups: "x.a",
-    size: 0,
-};
-
-/// An article that is also for a group that takes no posts.
-pub const FOR_CLOSED: Sent = Sent {
-    id: "<3@a.example>",
-    groups: "x.a,x.c",
-    size: 0,
-};
-
-pub const FOURTH: Sent = Sent {
-    id: "<4@a.example>",
-    groups: "x.a",
-    size: 0,
-};
-
-/// An article of 58 octets, which lacks what the server adds.
-pub const SMALL: Sent = Sent {
-    id: "",
-    groups: "x.a",
-    size: 0,
-};
-
-/// An article that is stored in 64 blocks and an indirect block.
-pub const LARGE: Sent = Sent {
-    id: "",
-    groups: "x.a",
-    size: 262_000,
-};
-
-/// An article that is stored, under a serial of two digits, in 45 blocks and an indirect block.
-pub const MEDIUM: Sent = Sent {
-    id: "",
-    groups: "x.a",
-    size: 184_192,
-};

@@ -1,10 +1,10 @@
 //! What a line of a script asks of a world, and the world's answers in words.
 
 use crate::errors::SimError;
-use model::Mark;
+use model::{Change, Mark};
 use script::{Line, ParseError, number, parse};
 use std::alloc::{AllocError, Global};
-use world::{Event, StepAnswer, StepError};
+use world::{Entry, Event, Happened, StepAnswer, StepError};
 
 /// A line of a script, or `release S` for what is ready of one session, and its answer.
 pub type Row = (&'static str, &'static str);
@@ -45,14 +45,6 @@ fn event_of(line: Line) -> Result<Event, SimError> {
     }
 }
 
-/// Appends the events that these lines ask for.
-pub(crate) fn read(alloc: Global, rows: &[Row], events: &mut Vec<Event>) -> Result<(), SimError> {
-    for (line, _) in rows {
-        events.push(event(alloc, line)?)?;
-    }
-    Ok(())
-}
-
 /// An answer in words.
 pub(crate) fn said(
     alloc: Global,
@@ -74,4 +66,37 @@ pub(crate) fn said(
         Ok(StepAnswer::Progressed(progress)) => format!(in alloc; "{progress:?}"),
         Err(error) => format!(in alloc; "{error}"),
     }
+}
+
+/// An entry of the trace in words.
+pub(crate) fn traced(alloc: Global, entry: &Entry) -> Result<String, AllocError> {
+    match entry.happened() {
+        Happened::Command(session, moment, mark) => {
+            let seconds = moment.seconds();
+            let mark = marked(*mark);
+            format!(in alloc; "session {session} at {seconds} {mark}")
+        }
+        Happened::Admin(Change::Group(group)) => named(alloc, "group", group.name.as_slice()),
+        Happened::Admin(Change::Expire(expiry)) => {
+            let mut text = named(alloc, "expire", expiry.group.as_slice())?;
+            let number = expiry.number;
+            text.push_str(format!(in alloc; " {number}")?.as_str())?;
+            Ok(text)
+        }
+        Happened::Admin(Change::Article(_)) => String::from_str(alloc, "article"),
+    }
+}
+
+fn marked(mark: Mark) -> &'static str {
+    match mark {
+        Mark::Served => "served",
+        Mark::Stopped => "stopped",
+        _ => "full",
+    }
+}
+
+/// A word, and the name of a group.
+fn named(alloc: Global, word: &str, name: &[u8]) -> Result<String, AllocError> {
+    let name = str::from_utf8(name).unwrap_or("?");
+    format!(in alloc; "{word} {name}")
 }

@@ -11,6 +11,5 @@ pub use disk::DiskCall;
 pub use errors::SimError;
 pub use events::Row;
 pub use memdisk::Pick;
-pub use model::{Change, Mark};
-pub use sealed::{BLOCKS, Device, NotOpened, Sim};
-pub use world::{Entry, Happened, OpenError};
+pub use sealed::{Device, NotOpened, Sim};
+pub use world::OpenError;

@@ -2,7 +2,7 @@
 
 use crate::copying::Room;
 use crate::errors::SimError;
-use crate::events::{Row, event, read, said};
+use crate::events::{event, said, traced};
 use disk::{Disk, DiskCall, Faults};
 use lookups::LookUps;
 use memdisk::{MemDisk, Pick};
@@ -12,10 +12,10 @@ use new_volume::{FORMAT_2, VolumePlan, are_sizes, device_octets, format};
 use std::alloc::Global;
 use std::marker::Model;
 use volume_format::layout::BLOCK;
-use world::{Entry, Event, OpenError, Refused, StepAnswer, StepError, World};
+use world::{Event, OpenError, Refused, StepAnswer, StepError, World};
 
 /// The logical blocks of the device.
-pub const BLOCKS: u64 = 1024;
+const BLOCKS: u64 = 1024;
 
 const INODES: u64 = 64;
 
@@ -83,6 +83,15 @@ impl Device {
             return Err(SimError::NoPlace);
         }
         Ok(was[0])
+    }
+
+    /// An octet.
+    pub fn octet(&mut self, at: u64) -> Result<u8, SimError> {
+        let mut octet = [0];
+        if at >= self.disk.len() || self.disk.read(at, &mut octet).is_err() {
+            return Err(SimError::NoPlace);
+        }
+        Ok(octet[0])
     }
 
     /// Makes each block equal to that of another device.
@@ -189,10 +198,12 @@ impl Sim {
         Ok(said(alloc, stepped(alloc, &mut self.world, &event))?)
     }
 
-    /// Does what the rows' lines ask by `World::run`, and answers how many events it went through.
-    pub fn run(&mut self, alloc: Global, rows: &[Row]) -> Result<u64, SimError> {
+    /// Does what the lines ask by `World::run`, and answers how many events it went through.
+    pub fn run(&mut self, alloc: Global, lines: &[String]) -> Result<u64, SimError> {
         let mut events = Vec::new(alloc);
-        read(alloc, rows, &mut events)?;
+        for line in lines {
+            events.push(event(alloc, line.as_str())?)?;
+        }
         Ok(ran(alloc, &mut self.world, &events))
     }
 
@@ -215,39 +226,38 @@ impl Sim {
         )
     }
 
-    pub fn trace(&self) -> &[Entry] {
-        self.world.trace()
+    /// The entries of the trace in words.
+    pub fn trace(&self, alloc: Global) -> Result<Vec<String>, SimError> {
+        let mut entries = Vec::new(alloc);
+        for entry in self.world.trace() {
+            entries.push(traced(alloc, entry)?)?;
+        }
+        Ok(entries)
     }
 
-    pub fn has_arrived(&self, session: u64, octets: &[u8]) -> bool {
-        self.world.arrived(session) == octets
+    pub fn arrived(&self, session: u64) -> &[u8] {
+        self.world.arrived(session)
     }
 
     pub fn released(&self, session: u64) -> &[u8] {
         self.world.released(session)
     }
 
-    pub fn has_released(&self, session: u64, octets: &[u8]) -> bool {
-        self.released(session) == octets
+    /// The serial of the group of this name, if it exists.
+    pub fn serial(&self, name: &[u8]) -> Option<u64> {
+        let group = self.world.spool().group(name)?;
+        Some(group.serial)
     }
 
-    /// Whether the change with this serial is a group of this name.
-    pub fn is_group(&self, serial: u64, name: &[u8]) -> bool {
-        match self.world.spool().group(name) {
-            Some(group) => group.serial == serial,
-            None => false,
-        }
-    }
-
-    /// Whether the change with this serial is the article that is sent in this form.
-    pub fn is_article(&self, alloc: Global, serial: u64, sent: &[u8]) -> Result<bool, SimError> {
+    /// The article with this serial in the form in which it is sent; `None` if the change is no article.
+    pub fn article(&self, alloc: Global, serial: u64) -> Result<Option<Vec<u8>>, SimError> {
         let spool = self.world.spool();
         if spool.moment(serial).is_none() {
-            return Ok(false);
+            return Ok(None);
         }
         let mut octets = Vec::new(alloc);
         spool.push_part(&Part::Whole, serial, &mut octets)?;
-        Ok(octets.as_slice() == sent)
+        Ok(Some(octets))
     }
 
     /// The lowest and the highest number of a group, if it exists.

@@ -16,7 +16,7 @@ type GroupRow = (&'static str, u64, u64, u64, Status, u32);
 /// The name of a row, the changes, the used blocks, the used inodes, the number of changes, and the groups.
 type Row = (
     &'static str,
-    &'static [Call],
+    &'static [Call<'static>],
     u32,
     u32,
     u64,
@@ -24,21 +24,21 @@ type Row = (
 );
 
 /// An article of another host in x.a.
-const FIRST: Call = Call::Post(Sent {
+const FIRST: Call<'static> = Call::Post(Sent {
     id: "<1@a.example>",
     groups: "x.a",
     size: 0,
 });
 
 /// A second one.
-const SECOND: Call = Call::Post(Sent {
+const SECOND: Call<'static> = Call::Post(Sent {
     id: "<2@a.example>",
     groups: "x.a",
     size: 0,
 });
 
 /// An article of this host in two groups.
-const IN_BOTH: Call = Call::Post(Sent {
+const IN_BOTH: Call<'static> = Call::Post(Sent {
     id: "",
     groups: "x.a,x.b",
     size: 0,

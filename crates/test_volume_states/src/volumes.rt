@@ -44,7 +44,7 @@ fn lay(octets: &mut [u8], batch: &BatchBuf) {
 }
 
 /// The octets of the volume after some calls, whose answers are ignored.
-pub(crate) fn octets_after(alloc: Global, calls: &[Call]) -> Result<Vec<u8>, Fail> {
+pub(crate) fn octets_after(alloc: Global, calls: &[Call<'_>]) -> Result<Vec<u8>, Fail> {
     let mut octets = empty(alloc)?;
     let mut batch = BatchBuf::new(alloc)?;
     let Ok(mut stored) = Stored::new(alloc) else {
