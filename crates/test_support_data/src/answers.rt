@@ -1,7 +1,8 @@
 //! What a call answers, as a row prints it.
 
-use crate::quotes::push_quoted;
+use crate::quotes::{push_escaped, push_quoted};
 use std::alloc::{AllocError, Global};
+use std::fmt::Debug;
 
 /// The words of an answer, each after a space.
 #[derive(Drop)]
@@ -50,6 +51,20 @@ impl Answer {
     pub fn octets(&mut self, octets: &[u8]) -> Result<(), AllocError> {
         self.text.push(' ')?;
         push_quoted(&mut self.text, octets)
+    }
+
+    /// Octets without quotes.
+    pub fn plain(&mut self, octets: &[u8]) -> Result<(), AllocError> {
+        self.text.push(' ')?;
+        for octet in octets {
+            push_escaped(&mut self.text, *octet)?;
+        }
+        Ok(())
+    }
+
+    /// A value as `Debug` writes it.
+    pub fn shown<T: Debug>(&mut self, value: &T) -> Result<(), AllocError> {
+        write!(self.text, " {value:?}")
     }
 
     /// Octets in quotes, or `none`.

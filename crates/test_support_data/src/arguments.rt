@@ -90,7 +90,7 @@ impl Texts {
 }
 
 fn count_of(text: &str) -> Result<u32, RowError> {
-    text.parse::<u32>().map_err(|_| RowError::Unreadable)
+    text.parse::<u32>().ok().ok_or(RowError::Unreadable)
 }
 
 /// The arguments of a call that are not yet read.
@@ -115,6 +115,11 @@ impl<'a> Arguments<'a> {
         self.words.is_empty()
     }
 
+    /// How many arguments are not yet read.
+    pub fn len(&self) -> usize {
+        self.words.len()
+    }
+
     pub fn word(&mut self) -> Result<&'a str, RowError> {
         let (word, rest) = self.words.split_first().ok_or(RowError::Unreadable)?;
         self.words = rest;
@@ -128,13 +133,13 @@ impl<'a> Arguments<'a> {
 
     /// A text in quotes that is UTF-8.
     pub fn text(&mut self) -> Result<String, RowError> {
-        String::from_utf8(self.octets()?).map_err(|_| RowError::Unreadable)
+        String::from_utf8(self.octets()?)
+            .ok()
+            .ok_or(RowError::Unreadable)
     }
 
     pub fn number(&mut self) -> Result<u64, RowError> {
-        self.word()?
-            .parse::<u64>()
-            .map_err(|_| RowError::Unreadable)
+        self.word()?.parse::<u64>().ok().ok_or(RowError::Unreadable)
     }
 
     pub fn small(&mut self) -> Result<u32, RowError> {
@@ -143,9 +148,7 @@ impl<'a> Arguments<'a> {
 
     /// A number that may be below zero.
     pub fn signed(&mut self) -> Result<i64, RowError> {
-        self.word()?
-            .parse::<i64>()
-            .map_err(|_| RowError::Unreadable)
+        self.word()?.parse::<i64>().ok().ok_or(RowError::Unreadable)
     }
 
     pub fn is(&mut self) -> Result<bool, RowError> {

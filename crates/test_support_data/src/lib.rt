@@ -16,5 +16,5 @@ mod quotes;
 pub use answers::Answer;
 pub use arguments::{Arguments, RowError, Texts};
 pub use literals::unescaped;
-pub use playing::{Area, Rows, play};
+pub use playing::{Area, Row, Rows, play};
 pub use quotes::{push_quoted, split_outside_quotes};

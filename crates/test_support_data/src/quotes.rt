@@ -128,7 +128,8 @@ pub fn push_quoted(text: &mut String, octets: &[u8]) -> Result<(), AllocError> {
     quoting.end()
 }
 
-fn push_escaped(text: &mut String, octet: u8) -> Result<(), AllocError> {
+/// Adds an octet as it is written between quotes.
+pub fn push_escaped(text: &mut String, octet: u8) -> Result<(), AllocError> {
     match octet {
         b'\r' => text.push_str("\\r"),
         b'\n' => text.push_str("\\n"),
