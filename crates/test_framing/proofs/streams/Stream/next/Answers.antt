@@ -1,4 +1,0 @@
-use Rattle.test_framing.proofs.streams.Stream.next.Goals as goal
-
-pub invariant_of-self-in-None : goal.invariant_of-self-in-None
-invariant_of-self-in-None c = record { same = rw c.in-None.is at c.in_ok-message.ensures.awaits }
