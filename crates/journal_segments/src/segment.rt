@@ -9,9 +9,9 @@ ghost use Rattle.journal_segments.specs.Found.{IsQuiet, IsReadFrom, IsStill, IsT
 use crate::SegmentError;
 use crate::reading::load_batch;
 use disk::Disk;
+use octet_numbers::number64;
 use std::alloc::{AllocError, Global};
 use std::marker::Model;
-use octet_numbers::number64;
 use volume_format::layout::{BLOCK, SEGMENT_IMAGES, block_at};
 use volume_format::{describe_batch, zeros};
 
