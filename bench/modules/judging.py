@@ -1,0 +1,62 @@
+"""What a run of the prover says of the functions that edits change."""
+import re
+
+VERDICT = re.compile(r"^(?:fn|impl|struct|enum|trait) (\S+): (.*)$", re.M)
+# a goal that isn't shown, by the proof file that should show it
+UNSHOWN = re.compile(r"^\./(proofs/\S+)/[^/\s]+:\d+:\d+: error: (.*)$", re.M)
+# a proof file that names what an edit took away, or what cites that proof, says nothing of a contract
+IS_GONE = re.compile(r"has no field|is not in scope|has no `|was not admitted")
+# a goal for which no proof file is there
+UNANSWERED = re.compile(r"no proof: expected answers in .*; `\w+` did not prove `")
+# what is said of an edit, whatever other edits are tried beside it
+PROVED, GONE = "NOT REFUSED, and the crate is proved", "NOT REFUSED by a goal, as only its proof names what the edit took away"
+FINAL = (PROVED, GONE)
+ENDED = re.compile(r"^only=\d+ proved=\d+$", re.M)
+
+
+class Judgement:
+    """What a run said of each function that it was asked for, and of those that these call."""
+
+    def __init__(self, status, said):
+        self.has_ended = status in (0, 1) and bool(ENDED.search(said))
+        self.verdicts = dict(VERDICT.findall(said))
+        self.errors = UNSHOWN.findall(said)
+        self.unshown = {folder for folder, text in self.errors if not IS_GONE.search(text)}
+        self.said = said
+
+    def fails_itself(self, name):
+        """Whether a function isn't proved for a goal of its own, and not only since one that it calls isn't."""
+        verdict = self.verdicts[name]
+        return bool(UNANSWERED.match(verdict)) or verdict != "proved" and folder_of(name) in self.unshown
+
+    def of(self, functions):
+        """The verdicts on these functions, and on the closures in them."""
+        return {name: it for name, it in self.verdicts.items() if any(is_part(name, one) for one in functions)}
+
+    def why_not(self, edit, changed, controls):
+        """Why this run doesn't show that the edit is refused; nothing where it does. The run asked for the functions that its edits change, and for controls."""
+        own, changed = self.of(edit.changed), self.of(changed)
+        bad = [name for name, it in self.verdicts.items() if it != "proved" and name not in changed]
+        if not self.has_ended:
+            return "NOT TRIED: " + next((it for it in self.said.split("\n") if "error" in it), self.said[-200:].strip())[:300]
+        if not own or not all(self.of([it]) for it in controls):
+            return "NOT TRIED: the run says nothing of a function that it was asked for"
+        if all(it == "proved" for it in own.values()):
+            return PROVED
+        if any(map(self.fails_itself, own)):
+            return "NOT REFUSED by itself: %s, which is unchanged, isn't proved either: %s" % (bad[0], self.verdicts[bad[0]][:200]) if bad else ""
+        gone = [text for folder, text in self.errors if folder in map(folder_of, own)]
+        if gone:
+            return "%s: change a value and keep the names: %s" % (GONE, gone[0][:300])
+        return "NOT REFUSED by itself: " + "; ".join("%s: %s" % it for it in own.items() if it[1] != "proved")[:300]
+
+
+def folder_of(name):
+    """Where the proof files of a function stand."""
+    return "proofs/" + "/".join(name.split("::")[1:])
+
+
+def is_part(name, function):
+    """Whether a check prints this name of the function, or of a closure in it."""
+    plain = "::" + name.replace("::fn::", "::").replace("+", "::") + "::"
+    return "::%s::" % function.ending() in plain

@@ -1,0 +1,57 @@
+"""Checks of crates over libraries that are built, and how many of them may run at once."""
+import functools
+import os
+import subprocess
+
+from toolchain import loaded, path_of_rt, remembered
+
+# what a check takes of memory, at most, in octets
+MEMORY = 2_500_000_000
+
+
+class Missing(Exception):
+    """What of the toolchain isn't there."""
+
+
+@functools.lru_cache(maxsize=None)
+def toolchain():
+    """The toolchain's program, as a module."""
+    path = path_of_rt()
+    if not path:
+        raise Missing("`rt` isn't on the path: install the Rattle toolchain")
+    rt = loaded(path)
+    crate = rt.rtlib.Crate
+    crate.below, crate.stamp = remembered(crate.below), remembered(crate.stamp)
+    # checks end when this process ends; what sees to that is begun in the main thread
+    rt.rtlib.guarded()
+    return rt
+
+
+def libraries(top):
+    """The crates of a repository as the toolchain knows them, by name, each after those that it uses."""
+    rt = toolchain()
+    rt.Crate.allowed = rt.handles_of(top)
+    return {it.name: it for it in rt.crates_of(top)}
+
+
+def lanes():
+    """How many checks may run at once: one a processor, as far as memory holds."""
+    return max(1, min(toolchain().processors(), int(toolchain().free() / MEMORY)))
+
+
+class Ran:
+    """What a check ended with, what it said, and the seconds of one processor that it took."""
+
+    def __init__(self, status, said, seconds):
+        self.status, self.said, self.seconds = status, said, seconds
+
+
+def check(crate, folder, more):
+    """Checks the texts in a folder as those of the crate."""
+    rt = toolchain()
+    words = [*rt.rtlib.guarded(), rt.rtlib.RATTLE, "check", *crate.words(["--jobs", "1"], keeps=False), *more]
+    with subprocess.Popen(words, cwd=folder, stdin=subprocess.DEVNULL, stdout=subprocess.PIPE, stderr=subprocess.STDOUT) as running:
+        said = running.stdout.read().decode(errors="replace")
+        _, status, spent = os.wait4(running.pid, 0)
+        running.returncode = os.waitstatus_to_exitcode(status)
+    return Ran(running.returncode, said, spent.ru_utime + spent.ru_stime)
