@@ -1,8 +1,6 @@
-//! Tests of the log: the line of each event, and a log that nobody reads.
+//! Tests of the log: lines that are lost, and a log that nobody reads.
 #![tactic(auto)]
 
-#[cfg(test)]
-mod lines;
 #[cfg(test)]
 mod logs;
 #[cfg(test)]

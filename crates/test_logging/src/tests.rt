@@ -1,37 +1,7 @@
 //! The tests of the log.
 
-use crate::lines::{ENDINGS, PARTS, REFUSALS, ROWS, has_its_line};
 use crate::logs::{lines_of, never_read, read_late, written_in_part};
-use logging::{UsedPart, Verbosity};
-
-#[test]
-fn an_event_has_its_line(rt: HostRuntime) {
-    for row in ROWS {
-        assert!(rt; has_its_line(rt.alloc(), row), "{}", row.line);
-    }
-}
-
-#[test]
-fn each_cause_has_its_word(rt: HostRuntime) -> Result<(), std::alloc::AllocError> {
-    for (ending, word) in ENDINGS {
-        assert!(rt; ending.to_string(rt.alloc())?.as_str() == *word, "{word}");
-    }
-    for (refusal, word) in REFUSALS {
-        assert!(rt; refusal.to_string(rt.alloc())?.as_str() == *word, "{word}");
-    }
-    Ok(())
-}
-
-#[test]
-fn nine_tenths_are_nearly_full(rt: HostRuntime) {
-    for (used, all, is_full) in PARTS {
-        let part = UsedPart {
-            used: *used,
-            all: *all,
-        };
-        assert!(rt; part.is_nearly_full() == *is_full, "{used} of {all}");
-    }
-}
+use logging::Verbosity;
 
 #[test]
 fn a_log_tells_of_lost_lines(rt: HostRuntime) {

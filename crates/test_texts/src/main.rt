@@ -9,10 +9,13 @@ mod callers;
 mod command_lines;
 mod files;
 mod indexes;
+mod log_lines;
 mod moments;
 mod name_texts;
 mod queues;
 mod released;
+mod script_lines;
+mod states;
 mod streams;
 
 use anyhow::{Result, anyhow};
@@ -23,8 +26,11 @@ use callers::Callers;
 use command_lines::CommandLines;
 use files::Files;
 use indexes::Indexes;
+use log_lines::LogLines;
 use name_texts::NameTexts;
 use queues::Queues;
+use script_lines::ScriptLines;
+use states::States;
 use std::alloc::Global;
 use std::io::{self, BufRead, BufReader, BufWriter, Write};
 use streams::Stream;
@@ -40,9 +46,12 @@ fn play_row<W: Write>(alloc: Global, row: &Row, texts: &Texts, output: &mut W) -
         "rnews" => play(alloc, &mut Batches, row, texts, output),
         "records" => play(alloc, &mut Files, row, texts, output),
         "networks" => play(alloc, &mut Callers, row, texts, output),
+        "reporting" => play(alloc, &mut States::new(), row, texts, output),
         "queues" => play(alloc, &mut Queues::new(alloc)?, row, texts, output),
         "outboxes" => play(alloc, &mut Boxes::new(alloc)?, row, texts, output),
         "index" => play(alloc, &mut Indexes::new(alloc), row, texts, output),
+        "script" => play(alloc, &mut ScriptLines, row, texts, output),
+        "logging" => play(alloc, &mut LogLines, row, texts, output),
         area => writeln!(output, "no area {area}"),
     }
 }
