@@ -44,10 +44,10 @@ WRONG = {
     "next.stays": ("edits", "n + STEP", "n"),
     "next_but_one.is_the_next": ("must-fail", "next(next(n))", "next(n)"),
 }
-HARMLESS = {"next_but_one.changes_a_comment": ("edits", "// by two steps", "// by steps")}
+HARMLESS = {"next_but_one.changes_words": ("edits", "// by two steps", "// by steps")}
 # what is wrong with an edit, and the words that bin/edits has for it
 BAD = [
-    ({"next_but_one.changes_a_comment": HARMLESS["next_but_one.changes_a_comment"]}, "next_but_one.changes_a_comment.edit: NOT REFUSED, and"),
+    (HARMLESS, "next_but_one.changes_words.edit: NOT REFUSED, and"),
     ({"next.is_no_code": ("edits", "n + STEP", "n + ")}, "next.is_no_code.edit: NOT TRIED"),
     ({"STEP.is_two": ("edits", "STEP: u64 = 1", "STEP: u64 = 2")}, "STEP.is_two.edit changes more than bodies"),
     ({"next.no_such_text": ("edits", "m + STEP", "m")}, "next.no_such_text.edit: the text of `old:` stands 0 times"),
@@ -78,7 +78,8 @@ def write(top, path, text):
 
 def tried(top, *names):
     """The status of bin/edits, and what it said."""
-    ran = subprocess.run([os.path.join(top, "bin", "edits"), *names], stdin=subprocess.DEVNULL, stdout=subprocess.PIPE, stderr=subprocess.STDOUT, text=True)
+    words = {"stdin": subprocess.DEVNULL, "stdout": subprocess.PIPE, "stderr": subprocess.STDOUT, "text": True}
+    ran = subprocess.run([os.path.join(top, "bin", "edits"), *names], **words)
     return ran.returncode, ran.stdout
 
 
@@ -117,12 +118,12 @@ def bad_edits_fail_by_their_names():
 def one_that_only_another_hides_is_not_refused():
     """Both functions are changed in one run, against the rule of the rounds: the caller's goals wait for the refused callee."""
     with repository({"next.stays": WRONG["next.stays"], **HARMLESS}) as top:
-        code = "import edits as it; it.Crate.rounds = lambda self, edits: [edits]; it.Crate.controls = lambda *_: []"
+        code = "Crate.rounds, Crate.controls = lambda crate, edits: [edits], lambda *_: []\n\n# what decides"
         with open(os.path.join(top, "bin", "edits")) as file:
-            text = file.read().replace("# what decides", code.replace("it.", "").replace("import edits as it; ", "") + "\n# what decides", 1)
+            text = file.read().replace("# what decides", code, 1)
         write(top, "bin/edits", text)
         status, said = tried(top)
-        if not status or "changes_a_comment.edit: NOT REFUSED, and" not in said or "stays.edit" in said:
+        if not status or "changes_words.edit: NOT REFUSED, and" not in said or "stays.edit" in said:
             yield "status %d: %s" % (status, said)
 
 

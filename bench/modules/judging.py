@@ -34,7 +34,8 @@ class Judgement:
         return {name: it for name, it in self.verdicts.items() if any(is_part(name, one) for one in functions)}
 
     def why_not(self, edit, changed, controls):
-        """Why this run doesn't show that the edit is refused; nothing where it does. The run asked for the functions that its edits change, and for controls."""
+        """Why this run doesn't show that the edit is refused; nothing where it does. The run asked for the functions that its edits change,
+        and for controls."""
         own, changed = self.of(edit.changed), self.of(changed)
         bad = [name for name, it in self.verdicts.items() if it != "proved" and name not in changed]
         if not self.has_ended:
@@ -44,7 +45,7 @@ class Judgement:
         if all(it == "proved" for it in own.values()):
             return PROVED
         if any(map(self.fails_itself, own)):
-            return "NOT REFUSED by itself: %s, which is unchanged, isn't proved either: %s" % (bad[0], self.verdicts[bad[0]][:200]) if bad else ""
+            return "NOT REFUSED by itself: %s, which is unchanged, isn't proved: %s" % (bad[0], self.verdicts[bad[0]][:200]) if bad else ""
         gone = [text for folder, text in self.errors if folder in map(folder_of, own)]
         if gone:
             return "%s: change a value and keep the names: %s" % (GONE, gone[0][:300])

@@ -4,9 +4,9 @@
 //! anything.
 #![tactic(auto)]
 
-mod blocks;
 mod files;
 mod owners;
+mod shapes;
 
 use disk::Disk;
 use std::alloc::Global;
@@ -35,7 +35,7 @@ pub fn damage<D: Disk + Drop>(alloc: Global, disk: D) -> Option<String> {
 
 /// Checks the rule of blocks, and then the rule of files.
 fn look<D: Disk>(volume: &mut ReadVolume<D>) -> Result<(), ReadStop> {
-    blocks::look(volume)?;
+    shapes::look(volume)?;
     let names = owners::look(volume)?;
     files::look(volume, &names)
 }

@@ -1,6 +1,6 @@
 //! Checks the owners of the blocks, the bitmap and the names, once each inode is known to have its proper form.
 
-use crate::blocks::look_at_pointer;
+use crate::shapes::look_at_pointer;
 use disk::Disk;
 use fs_layout::bits::is_set;
 use fs_layout::marks::BLOCK_BITS;

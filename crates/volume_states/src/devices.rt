@@ -11,7 +11,7 @@ ghost use Rattle.opening.specs.Standing.{IsDamagedVolume, IsNoNewsVolume, open_e
 ghost use Rattle.volume_states.specs.State.{IsStatusOf};
 ghost use Rattle.volume_states.specs.Told.{IsStateIn, IsStateOf};
 
-use crate::blocks::volume_status;
+use crate::contents::volume_status;
 use blocks::Blocks;
 use disk::Disk;
 use journal::{Journal, JournalError};

@@ -2,8 +2,8 @@
 //! server, but no kernel is made of them.
 #![tactic(auto)]
 
-mod blocks;
+mod contents;
 mod devices;
 
-pub use blocks::volume_status;
+pub use contents::volume_status;
 pub use devices::state_on;

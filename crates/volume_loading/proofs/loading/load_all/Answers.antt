@@ -1,5 +1,5 @@
 use Rattle.std.proofs.Common.{refl, arith}
-use Rattle.volume_loading.proofs.Loading.{loads_none, loaded_more, loaded_all}
+use Rattle.volume_loading.proofs.Loads.{loads_none, loaded_more, loaded_all}
 use Rattle.volume_loading.proofs.loading.load_all.Goals as goal
 
 pub loop-number-init : goal.loop-number-init

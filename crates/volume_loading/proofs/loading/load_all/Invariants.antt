@@ -1,4 +1,4 @@
-use Rattle.volume_loading.proofs.Loading.{AreLoaded}
+use Rattle.volume_loading.proofs.Loads.{AreLoaded}
 use Rattle.volume_loading.proofs.loading.load_all.Given as goal
 
 abbrev pub invariant-loop-number : goal.invariant-loop-number

@@ -4,7 +4,7 @@ use Rattle.index.proofs.Callers.{overviews_end}
 use Rattle.model.specs.Spool.{groups}
 use Rattle.volume_states.proofs.Groups.{of_groups}
 use Rattle.volume_states.specs.State.{of_index}
-use Rattle.volume_states.proofs.blocks.volume_status.Goals as goal
+use Rattle.volume_states.proofs.contents.volume_status.Goals as goal
 
 pub statuses-requires : goal.statuses-requires
 statuses-requires g c =

@@ -1,5 +1,5 @@
 use Rattle.volume_states.proofs.Shares.{below, blocks_few, rest}
-use Rattle.volume_states.proofs.blocks.block_share.Goals as goal
+use Rattle.volume_states.proofs.contents.block_share.Goals as goal
 
 pub overflow_sub-used : goal.overflow_sub-used
 overflow_sub-used g c =

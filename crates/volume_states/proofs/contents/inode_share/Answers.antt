@@ -1,6 +1,6 @@
 use Rattle.std.proofs.Common.{refl}
 use Rattle.volume_states.proofs.Shares.{below, inodes_few, rest}
-use Rattle.volume_states.proofs.blocks.inode_share.Goals as goal
+use Rattle.volume_states.proofs.contents.inode_share.Goals as goal
 
 pub overflow_sub-used : goal.overflow_sub-used
 overflow_sub-used g c =
