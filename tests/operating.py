@@ -50,7 +50,7 @@ def place_of(volume):
 def install(volume, prefix, **given):
     """Runs bin/install with the built program."""
     words = [os.path.join(TOP, "bin", "install"), prefix]
-    given = dict(os.environ, NEWSD=volume.program, **given)
+    given = {**os.environ, "NEWSD": volume.program, **given}
     return subprocess.run(words, env=given, capture_output=True, text=True, stdin=subprocess.DEVNULL, timeout=SECONDS)
 
 
@@ -144,6 +144,17 @@ def a_refused_installation_changes_nothing(volume):
         assert (done.returncode, done.stdout) == (1, ""), (prefix, done)
         assert done.stderr.startswith("install: ") and why in done.stderr and done.stderr.endswith("; nothing was changed\n"), done
         assert found_in(place) == before, prefix
+
+
+def a_program_without_a_proof_is_not_installed(volume):
+    place = place_of(volume)
+    program = place + "/newsd.unproved"
+    shutil.copy(volume.program, program)
+    before = found_in(place)
+    done = install(volume, place + "/prefix", NEWSD=program)
+    assert (done.returncode, done.stdout) == (1, ""), done
+    assert done.stderr == "install: nothing is proved of %s; nothing was changed\n" % program, done
+    assert found_in(place) == before, done
 
 
 def systemd_takes_the_units(volume):
@@ -418,6 +429,7 @@ TESTS = [
     a_volume_is_moved_to_a_larger_one,
     an_installation_is_whole,
     a_refused_installation_changes_nothing,
+    a_program_without_a_proof_is_not_installed,
     systemd_takes_the_units,
     the_units_commands_serve_until_they_are_told_to_end,
     systemd_runs_the_units,
