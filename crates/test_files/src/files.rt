@@ -164,11 +164,26 @@ fn write(
         }
         ("write", [place, value, count]) => {
             let octets = filled(alloc, *value, *count)?;
-            let place = (*place).min(size(volume, INODES, name)?);
-            done(write_at(volume, INODES, format, name, place, &octets))
+            done(write_within(volume, format, name, *place, &octets))
         }
         _ => Ok(UNREADABLE),
     }
+}
+
+/// Writes at a place, or at the end of the file if that comes before it.
+fn write_within(
+    volume: &mut Volume,
+    format: u32,
+    name: &[u8],
+    place: u64,
+    octets: &[u8],
+) -> Result<(), FsError>
+    requires name { IsName name.now }
+    requires room { HasRoom 64 volume.old.seen }
+    requires rule { IsFileSystem 64 volume.old.seen }
+{
+    let end = size(volume, INODES, name)?;
+    write_at(volume, INODES, format, name, place.min(end), octets)
 }
 
 /// Octets of one value.
