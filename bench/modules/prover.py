@@ -1,12 +1,15 @@
 """Checks of crates over libraries that are built, and how many of them may run at once."""
 import functools
 import os
+import re
 import subprocess
 
 from toolchain import loaded, path_of_rt, remembered
 
 # what a check takes of memory, at most, in octets
 MEMORY = 2_500_000_000
+# of a function that may wait for ever a check says so behind its verdict
+MAY_WAIT = re.compile(r"^(fn \S+: proved), may .*$", re.M)
 
 
 class Missing(Exception):
@@ -51,7 +54,7 @@ def check(crate, folder, more):
     rt = toolchain()
     words = [*rt.rtlib.guarded(), rt.rtlib.RATTLE, "check", *crate.words(["--jobs", "1"], keeps=False), *more]
     with subprocess.Popen(words, cwd=folder, stdin=subprocess.DEVNULL, stdout=subprocess.PIPE, stderr=subprocess.STDOUT) as running:
-        said = running.stdout.read().decode(errors="replace")
+        said = MAY_WAIT.sub(r"\1", running.stdout.read().decode(errors="replace"))
         _, status, spent = os.wait4(running.pid, 0)
         running.returncode = os.waitstatus_to_exitcode(status)
     return Ran(running.returncode, said, spent.ru_utime + spent.ru_stime)
