@@ -19,7 +19,7 @@ SIZE_AT, POINTERS_AT, INDIRECT_AT, DOUBLE_AT, SPARE_AT = 4, 12, 52, 56, 60
 # the gate of the format in the superblock, and the first of the zeros after it
 FORMAT_AT, REST_AT = 148, 149
 # the largest files of the two formats
-MOST_OCTETS_1, MOST_OCTETS_2 = 4235264, 268435456
+MOST_OCTETS_1, MOST_OCTETS_2 = 4235264, 4294963200
 # in a descriptor
 COUNT_AT, ZEROS_AT, NUMBERS_AT = 16, 20, 24
 # the inodes of the files, the last of which is free
@@ -153,14 +153,14 @@ def what_is_no_volume_is_told(volume):
         (0, b"Y", "the superblock doesn't begin with XNNTPFS1"),
         (7, b"2", "the superblock doesn't begin with XNNTPFS1"),
         (8, b"\2", "the superblock is of version 2, where this program reads version 1"),
-        (12, u32(1023), "the superblock says 1,023 blocks, where a volume has 1,024 to 65,536"),
-        (12, u32(65537), "the superblock says 65,537 blocks, where a volume has 1,024 to 65,536"),
+        (12, u32(1023), "the superblock says 1,023 blocks, where a volume has 1,024 to 4,194,304"),
+        (12, u32(4194305), "the superblock says 4,194,305 blocks, where a volume has 1,024 to 4,194,304"),
         (16, b"\2", "the superblock says 2 segments, where a volume has 1 or 8"),
         (12, u32(1025), "the file has 21,041,152 octets, where its superblock asks for 21,045,248"),
         (16, b"\1", "the file has 21,041,152 octets, where its superblock asks for 6,303,744"),
-        (20, u32(65), "the label says 65 inodes, where a volume has a multiple of 64 from 64 to 32,768"),
-        (20, u32(0), "the label says 0 inodes, where a volume has a multiple of 64 from 64 to 32,768"),
-        (20, u32(32832), "the label says 32,832 inodes, where a volume has a multiple of 64 from 64 to 32,768"),
+        (20, u32(65), "the label says 65 inodes, where a volume has a multiple of 64 from 64 to 4,194,304"),
+        (20, u32(0), "the label says 0 inodes, where a volume has a multiple of 64 from 64 to 4,194,304"),
+        (20, u32(4194368), "the label says 4,194,368 inodes, where a volume has a multiple of 64 from 64 to 4,194,304"),
         (20, u32(32768), "the label says 32,768 inodes, for which 1,024 blocks are too few"),
         (24, b"\0", "the label's host has 0 octets, where a host has 1 to 64"),
         (24, b"\x41", "the label's host has 65 octets, where a host has 1 to 64"),
@@ -314,7 +314,7 @@ def damaged_large_files_are_told(volume):
     rows = [
         ([], "file z has a name of no known form"),
         ([(FORMAT_AT, b"\0")], too_large("z", 4239360, 1)),
-        ([(inode + SIZE_AT, u64(MOST_OCTETS_2))], "file z of 268,435,456 octets has no block of pointers 2"),
+        ([(inode + SIZE_AT, u64(MOST_OCTETS_2))], "file z of 4,294,963,200 octets has no block of pointers 2"),
         ([(inode + SIZE_AT, u64(MOST_OCTETS_1))], "file z of 4,235,264 octets has a double-indirect block"),
         ([(inode + DOUBLE_AT, u32(0))], of_size + "no double-indirect block"),
         ([(inode + DOUBLE_AT, u32(3))], none_of_data % 3),

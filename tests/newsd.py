@@ -72,13 +72,14 @@ class Volume:
         os.mkdir(directory)
         return Volume(self.program, directory, **given)
 
-    def run(self, *words, given=b"", most_memory=resource.RLIM_INFINITY, user=None):
-        """Runs the program on these words and this input to its end, with at most this much memory, and by the user of this number."""
+    def run(self, *words, given=b"", most_memory=resource.RLIM_INFINITY, user=None, seconds=SECONDS):
+        """Runs the program on these words and this input to its end, within these seconds, with at most this much memory, and by the
+        user of this number."""
         def limit():
             resource.setrlimit(resource.RLIMIT_AS, (most_memory, most_memory))
             if user is not None:
                 os.setuid(user)
-        return subprocess.run([self.program, *words], input=given, capture_output=True, timeout=SECONDS, preexec_fn=limit)
+        return subprocess.run([self.program, *words], input=given, capture_output=True, timeout=seconds, preexec_fn=limit)
 
     def export(self, *words):
         """The articles as a batch."""

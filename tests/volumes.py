@@ -34,7 +34,7 @@ def what_can_not_be_served_is_refused(volume):
         (["expire", volume.path, "x.a", "0"], 1, "E12 NotFound: the group isn't here"),
         (["expire", volume.path, "x.a"], 2, None),
         (["format", volume.path, "--host", "a..b"], 1, "E14 Bad: --host 'a..b' is no name of a server"),
-        (["format", volume.path, "--host", HOST, "--inodes", "96"], 1, "E14 Bad: --inodes '96' is no multiple of 64 from 64 to 32768"),
+        (["format", volume.path, "--host", HOST, "--inodes", "96"], 1, "E14 Bad: --inodes '96' is no multiple of 64 from 64 to 4194304"),
         (["serve", volume.path, "--port", "0"], 2, None),
         (["serve", volume.path, "--port", "65536"], 2, None),
         (["serve", volume.path], 2, None),

@@ -2,13 +2,8 @@
 
 use names::{is_description, is_group_name, is_host, number_of};
 use networks::{Network, read_endpoint};
-use new_volume::are_sizes;
+use new_volume::{FEWEST_INODES, MOST_BLOCKS, are_sizes};
 use script::{moment, number, status};
-
-/// The least number of inodes and the largest number of blocks: either goes with every permitted number of the other.
-const FEWEST_INODES: u64 = 64;
-
-const MOST_BLOCKS: u64 = 65_536;
 
 /// What a word may be.
 #[derive(Clone, Copy)]
@@ -46,6 +41,7 @@ impl Grammar {
         match self {
             Grammar::Any => true,
             Grammar::Host => is_host(octets),
+            // the fewest inodes and the most blocks go with every permitted number of the other
             Grammar::Blocks => number(octets).is_some_and(|n| are_sizes(n, FEWEST_INODES)),
             Grammar::Inodes => number(octets).is_some_and(|n| are_sizes(MOST_BLOCKS, n)),
             Grammar::Format => word == "1" || word == "2",
@@ -64,8 +60,8 @@ impl Grammar {
         match self {
             Grammar::Any => "is no text",
             Grammar::Host => "is no name of a server",
-            Grammar::Blocks => "is no number from 1024 to 65536",
-            Grammar::Inodes => "is no multiple of 64 from 64 to 32768",
+            Grammar::Blocks => "is no number from 1024 to 4194304",
+            Grammar::Inodes => "is no multiple of 64 from 64 to 4194304",
             Grammar::Format => "is neither 1 nor 2",
             Grammar::Group => "is no name of a group",
             Grammar::Status => "is neither y nor n",

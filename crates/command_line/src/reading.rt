@@ -11,7 +11,7 @@ use clap::ArgMatches;
 use clap::error::{Error, ErrorKind};
 use names::{GroupName, GroupRequest, is_host};
 use networks::{Network, read_endpoint};
-use new_volume::{FORMAT_1, FORMAT_2, VolumePlan, are_sizes};
+use new_volume::{FORMAT_1, FORMAT_2, SMALL_BLOCKS, SMALL_INODES, VolumePlan, are_sizes};
 use printing::{DONE, Failure, NOT_UNDERSTOOD};
 use script::{ParseError, number};
 use std::alloc::{AllocError, Global};
@@ -155,13 +155,37 @@ fn read_plan_of_memory<'a>(
     alloc: Global,
     words: &ArgMatches<'a>,
 ) -> Result<VolumePlan<'a>, Failure> {
-    read_plan(alloc, words, FORMAT_2)
+    let plan = read_plan(alloc, words, FORMAT_2)?;
+    refuse_large(alloc, words, &plan, "is too many for a volume in memory")?;
+    Ok(plan)
 }
 
 /// The volume in a file that the words describe.
 fn read_plan_of_file<'a>(alloc: Global, words: &ArgMatches<'a>) -> Result<VolumePlan<'a>, Failure> {
     let format = read_format(words)?;
-    read_plan(alloc, words, format)
+    let plan = read_plan(alloc, words, format)?;
+    if format == FORMAT_1 {
+        refuse_large(alloc, words, &plan, "is too many for format 1")?;
+    }
+    Ok(plan)
+}
+
+/// Refuses a volume that isn't small.
+fn refuse_large(
+    alloc: Global,
+    words: &ArgMatches<'_>,
+    plan: &VolumePlan<'_>,
+    why: &str,
+) -> Result<(), Failure> {
+    if SMALL_BLOCKS < plan.blocks {
+        let blocks = word(words, BLOCKS)?;
+        return Err(Failure::bad_word(alloc, "--blocks", blocks, why));
+    }
+    if SMALL_INODES < plan.inodes {
+        let inodes = word(words, INODES)?;
+        return Err(Failure::bad_word(alloc, "--inodes", inodes, why));
+    }
+    Ok(())
 }
 
 /// The format that the words name.

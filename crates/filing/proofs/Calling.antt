@@ -35,7 +35,7 @@ calls_then inodes calls more old mid new first second = record {
   files = λ files same. subst (λ (fs : List File). IsPermutation (files_in (table inodes new)) fs) (sym (calls_after files calls more))
       (second.files (after_calls files calls) (first.files files same));
   names = λ k name named. second.names k name (first.names k name named);
-  marks = λ b low is. second.marks b low (first.marks b low is);
+  marks = λ b low is. second.marks b (omega (arith, low, first.count)) (first.marks b low is);
   free = omega (arith, first.free, second.free, sum_by-append blocks_taken calls more);
 }
 

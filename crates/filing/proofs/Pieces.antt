@@ -27,7 +27,7 @@ pub none_yet : (inodes : ℕ) (pieces : List Piece) (blocks : List Octets) → H
 none_yet inodes pieces blocks room rule = record { calls = no_calls inodes blocks room rule; others = λ i other. refl }
 
 pub touches_none : (old : List Octets) → Touches 0 old old
-touches_none old = record { others = []; few = omega arith; same = λ b some lacks. refl }
+touches_none old = record { count = refl; others = []; few = omega arith; same = λ b some lacks. refl }
 
 -- ---- the blocks that they take
 

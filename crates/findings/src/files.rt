@@ -92,6 +92,7 @@ fn look_at_group<D: Disk>(
     let serial = serial_in(volume.alloc, entry, head.as_slice(), GROUP_HEADER)?;
     note_serial(volume, entry, serial, serials)?;
     look_at_moment(volume.alloc, entry, head.as_slice())?;
+    look_at_status(volume.alloc, entry, head.as_slice())?;
     look_at_description(volume.alloc, entry, head.as_slice())
 }
 
@@ -115,11 +116,16 @@ fn look_at_numbered<D: Disk>(
     wrong_unless!(alloc; serial == named, "{entry} has serial {serial}");
     note_serial(volume, entry, serial, serials)?;
     if is_article {
-        look_at_moment(alloc, entry, head.as_slice())?;
-        look_at_size(alloc, entry, article_size(head.as_slice()))
+        look_at_article(alloc, entry, head.as_slice())
     } else {
         look_at_size(alloc, entry, expiry_size(head.as_slice()))
     }
+}
+
+/// Checks the moment and the size of an article.
+fn look_at_article(alloc: Global, entry: &DirectoryEntry, octets: &[u8]) -> Result<(), ReadStop> {
+    look_at_moment(alloc, entry, octets)?;
+    look_at_size(alloc, entry, article_size(octets))
 }
 
 /// The serial in the first octets of a change's file, which must have room for its header.
@@ -184,17 +190,22 @@ fn look_at_moment(alloc: Global, entry: &DirectoryEntry, octets: &[u8]) -> Resul
     Ok(())
 }
 
-/// Checks the status and the description of a group.
-fn look_at_description(
-    alloc: Global,
-    entry: &DirectoryEntry,
-    octets: &[u8],
-) -> Result<(), ReadStop> {
+/// Checks the status of a group.
+fn look_at_status(alloc: Global, entry: &DirectoryEntry, octets: &[u8]) -> Result<(), ReadStop> {
     let status = match octets.get(STATUS_AT) {
         Some(octet) => Status::of(*octet),
         None => None,
     };
     wrong_unless!(alloc; status.is_some(), "{entry} has a status that is neither y nor n");
+    Ok(())
+}
+
+/// Checks the description of a group.
+fn look_at_description(
+    alloc: Global,
+    entry: &DirectoryEntry,
+    octets: &[u8],
+) -> Result<(), ReadStop> {
     let size = entry.size().saturating_sub(GROUP_HEADER as u64);
     wrong_unless!(alloc; size <= DESCRIPTION_LIMIT as u64,
         "{entry} has a description of {} octets, where {DESCRIPTION_LIMIT} are the most", Grouped(size));

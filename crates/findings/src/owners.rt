@@ -1,5 +1,7 @@
 //! Checks the owners of the blocks, the bitmap and the names, once each inode is known to have its proper form.
 
+ghost use Rattle.std.specs.Prelude.{◌<◌};
+
 use crate::shapes::look_at_pointer;
 use disk::Disk;
 use fs_layout::bits::is_set;
@@ -15,11 +17,17 @@ pub(crate) type Names = BTreeMap<Record, u32>;
 /// No inode has this number.
 pub(crate) const NOBODY: u32 = u32::MAX;
 
-/// The blocks of the bitmap.
-const BITMAP_BLOCKS: u32 = 2;
-
 /// Checks the owners, the bitmap and the names, and answers the names.
 pub(crate) fn look<D: Disk>(volume: &mut ReadVolume<D>) -> Result<Names, ReadStop> {
+    let owners = owners_of(volume)?;
+    for table in 0..volume.inodes_at() {
+        look_at_bitmap(volume, owners.as_slice(), table)?;
+    }
+    look_at_names(volume)
+}
+
+/// The owner of each block, of which there may be one at most.
+fn owners_of<D: Disk>(volume: &mut ReadVolume<D>) -> Result<Vec<u32>, ReadStop> {
     let mut owners = vec![in volume.alloc; NOBODY; volume.sizes.blocks as usize]?;
     for number in 0..volume.sizes.inodes {
         let entry = volume.entry(number)?;
@@ -27,14 +35,22 @@ pub(crate) fn look<D: Disk>(volume: &mut ReadVolume<D>) -> Result<Names, ReadSto
             claim_all(volume, owners.as_mut_slice(), &entry)?;
         }
     }
-    for table in 0..BITMAP_BLOCKS {
-        let bitmap = volume.block(table)?;
-        for bit in 0..BLOCK_BITS {
-            let block = table * BLOCK_BITS as u32 + bit as u32;
-            look_at_mark(volume, owners.as_slice(), block, is_set(&bitmap, bit))?;
-        }
+    Ok(owners)
+}
+
+/// Checks the marks in a block of the bitmap.
+fn look_at_bitmap<D: Disk>(
+    volume: &mut ReadVolume<D>,
+    owners: &[u32],
+    table: u32,
+) -> Result<(), ReadStop> {
+    let bitmap = volume.block(table)?;
+    let first = table.saturating_mul(BLOCK_BITS as u32);
+    for bit in 0..BLOCK_BITS {
+        let block = first.saturating_add(bit as u32);
+        look_at_mark(volume, owners, block, is_set(&bitmap, bit))?;
     }
-    look_at_names(volume)
+    Ok(())
 }
 
 /// Notes the owner of a file's blocks: its double-indirect block, its blocks of pointers, and those of its content.

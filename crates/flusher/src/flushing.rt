@@ -321,7 +321,7 @@ fn flush_to_end<R: Wait, D: Disk, K: Kern, G: Gate>(
         ) {
             Ok(Some(raised)) => {
                 work.marks = work.marks.after(&work.batch);
-                follow(rt, around, work.marks, released(last, raised));
+                follow(rt, around, work.marks.all(), released(last, raised));
                 last = Some(raised);
             }
             Ok(None) if ends(rt, around) => {
@@ -339,7 +339,7 @@ fn flush_to_end<R: Wait, D: Disk, K: Kern, G: Gate>(
 fn follow<R: Wait, K: Kern, G: Gate>(
     rt: &R,
     around: &Around<'_, K, G>,
-    marks: BitmapMarks,
+    used_blocks: u64,
     released: u64,
 ) {
     let Around {
@@ -348,7 +348,7 @@ fn follow<R: Wait, K: Kern, G: Gate>(
         tally,
         ..
     } = around;
-    tally.note_batch(marks);
+    tally.note_batch(used_blocks);
     gate.after_batch();
     if !bells.is_stopping() {
         bells.arrivals.gather(rt, &bells.flusher, released);

@@ -31,15 +31,16 @@ grown_then inodes k octets content old mid new low first second =
     (grown inodes k octets first.name content mid new (there_now inodes k content old mid low first) second)
 
 -- the lowest are taken
-pub lowest_after : (old mid new : List Octets) → length new ≤ 65536 → SameMarks old mid → TakesLowest mid new → TakesLowest old new
-lowest_after old mid new few same lowest b c inside inside' was is free =
-    lowest b c inside inside' (same.marks b (omega arith) ∙ was) is free
+pub lowest_after : (old mid new : List Octets) → length new ≡ length mid → SameMarks old mid → TakesLowest mid new → TakesLowest old new
+lowest_after old mid new count same lowest b c inside inside' was is free =
+    lowest b c inside inside' (same.marks b (omega (arith, inside, count, same.count)) ∙ was) is free
 
-pub lowest_none : (old new : List Octets) → length new ≤ 65536 → TakesNone old new → TakesLowest old new
-lowest_none old new few none b c inside inside' was is free = absurd (false≢true (sym was ∙ none b (omega arith) is))
+pub lowest_none : (old new : List Octets) → length new ≡ length old → TakesNone old new → TakesLowest old new
+lowest_none old new count none b c inside inside' was is free =
+    absurd (false≢true (sym was ∙ none b (omega (arith, inside, count)) is))
 
-pub lowest_same : (old new : List Octets) → length new ≤ 65536 → SameMarks old new → TakesLowest old new
-lowest_same old new few same = lowest_none old new few (λ b small marked. sym (same.marks b small) ∙ marked)
+pub lowest_same : (old new : List Octets) → SameMarks old new → TakesLowest old new
+lowest_same old new same = lowest_none old new same.count (λ b small marked. sym (same.marks b small) ∙ marked)
 
 -- ---- octets over those of a file, and after them
 

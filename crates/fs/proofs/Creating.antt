@@ -9,6 +9,7 @@ use Rattle.disk.proofs.Images.{length-part}
 use Rattle.model.specs.Stream.{Octets}
 use Rattle.model.specs.Volume.{number_at}
 use Rattle.model.specs.Files.{FileEntry, HasRoom, IsFile, IsFree, size, block_count, entry_of, indirect_count, indirect_for}
+use Rattle.model.specs.Files.{bitmap_blocks}
 use Rattle.model.specs.Files.{indirect_number}
 use Rattle.model.specs.Files.{indirect_pointer, pointer, owned, name_in, slot_octets, content_of, entry, inode_of, slot_of, indirect_of}
 use Rattle.model.specs.Files.{IsFileSystem, file_at}
@@ -33,7 +34,7 @@ module _ (inodes : ℕ) (blocks : List Octets) (room : HasRoom inodes blocks) (f
   free_slot_is k low free =
       let there : 2 + inodes / 64 + k / 64 < length blocks = omega (arith, room.room, room.whole) in
       let whole = room.blocks_whole (2 + inodes / 64 + k / 64) [] there in
-      zeros_are (slot_of inodes blocks k) 64 (length-part (k % 64 * 64) 64 (get_or blocks (2 + inodes / 64 + k / 64) []) (omega arith))
+      zeros_are (slot_of inodes blocks k) 64 (length-part (k % 64 * 64) 64 (get_or blocks (bitmap_blocks (length blocks) + inodes / 64 + k / 64) []) (omega arith))
       free.slot_zeros
 
   pub no_free_inode : ((k : ℕ) → k < inodes → slot_of inodes blocks k ≢ replicate 64 0) → HasNoFreeInode inodes blocks
@@ -111,8 +112,8 @@ new_is_file name is =
 
 module _ (inodes at : ℕ) (name : Octets) (a b c : List Octets) (room : HasRoom inodes a) (is_name : IsName name)
     (fs : IsFileSystem inodes a) (none : (k : ℕ) → k < inodes → slot_of inodes a k ≢ slot_octets name)
-    (found : IsFound inodes a (replicate 64 0) at) (first : PutsRecord (2 + inodes / 64) at (slot_octets name) a b)
-    (second : PutsRecord 2 at new_inode b c) where
+    (found : IsFound inodes a (replicate 64 0) at) (first : PutsRecord (bitmap_blocks (length a) + inodes / 64) at (slot_octets name) a b)
+    (second : PutsRecord (bitmap_blocks (length b)) at new_inode b c) where
   puts : PutsEntry inodes at new_inode (slot_octets name) (λ n. ⊥) a c
   puts =
       let then = puts_inode inodes at new_inode b c room.whole found.below second in
@@ -123,7 +124,7 @@ module _ (inodes at : ℕ) (name : Octets) (a b c : List Octets) (room : HasRoom
         slot_is = then.slot_is ∙ slotted.slot_is;
         inodes_other = λ l below other. then.inodes_other l below other ∙ slotted.inodes_other l below other;
         slots_other = λ l below other. then.slots_other l below other ∙ slotted.slots_other l below other;
-        data_same = λ n high untouched. then.data_same n high untouched ∙ slotted.data_same n high untouched;
+        data_same = λ n high untouched. then.data_same n (omega (arith, high, slotted.count)) untouched ∙ slotted.data_same n high untouched;
       }
 
   untouched : (l b : ℕ) → l < inodes → l ≢ at → Contains (owned (entry inodes a l)) b → ¬ ⊥
@@ -169,7 +170,7 @@ module _ (inodes at : ℕ) (name : Octets) (a b c : List Octets) (room : HasRoom
             ∙ sym (ap (λ (l : ℕ). owned (entry inodes a l)) same ∙ free_owns (entry inodes a at) was_free)
         | inr other ↦ ap owned (others k low other)
       ])
-      (λ bit small. inode_keeps_marks inodes at new_inode b c room.whole found.below second bit small
+      (λ bit small. inode_keeps_marks inodes at new_inode b c room.whole found.below second bit (omega (arith, small, first.count))
       ∙ slot_keeps_marks inodes at (slot_octets name) a b room.whole found.below first bit small)
       (λ k l low below kf lf same. elim (cases_eq k at) [
         | inl k_is ↦ elim (cases_eq l at) [

@@ -3,13 +3,13 @@ use Rattle.std.proofs.Common.{◌≡◌, ◌≤◌, ℕ, ◌+◌, ◌*◌, ◌/�
 use Rattle.std.specs.List.{All}
 use Rattle.std.proofs.lemmas.List.Elements.{All-take, All-drop, All-replicate, All-from_get_or}
 use Rattle.model.specs.Volume.{blocks_from}
-use Rattle.model.specs.Files.{HasRoom}
+use Rattle.model.specs.Files.{HasRoom, first_data}
 use Rattle.model.proofs.Blocks.{get_or-blocks_from}
 use Rattle.blocks.proofs.Octets.{length-blocks_from, blocks_whole}
 
 -- there is room for so many inodes
 pub has_room : (inodes count : ℕ) (octets : List ℕ) (blocks : List (List ℕ)) → blocks ≡ blocks_from 0 count octets → 64 ≤ inodes
-    → inodes ≤ 32768 → inodes % 64 ≡ 0 → 2 + 2 * (inodes / 64) + 256 ≤ count → count ≤ 65536 → length octets ≡ 4096 * count
+    → inodes ≤ 4194304 → inodes % 64 ≡ 0 → first_data count inodes + 256 ≤ count → count ≤ 4194304 → length octets ≡ 4096 * count
     → HasRoom inodes blocks
 has_room inodes count octets blocks is some few whole room small size =
     let many : length blocks ≡ count = ap (λ (l : List (List ℕ)). length l) is ∙ length-blocks_from count octets in

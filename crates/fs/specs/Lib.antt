@@ -1,4 +1,5 @@
 pub mod Calls
+pub mod Emptying
 pub use Rattle.fs_layout.specs.Table
 pub use Rattle.fs_layout.specs.Touches
 pub use Rattle.fs_inodes.specs.Changes

@@ -9,8 +9,8 @@ ghost use Rattle.fs.specs.Calls.{IsName, IsThere, IsFileAt, Creates, HasNoFreeIn
 use blocks::Blocks;
 use fs_inodes::{remove_empty, shrink_to};
 use fs_layout::FsError;
-use fs_layout::inodes::{FILE_KIND, INODES_AT, size_of};
-use fs_layout::records::{RECORD_SIZE, find, find_from, get_record, put_record};
+use fs_layout::inodes::{FILE_KIND, size_of};
+use fs_layout::records::{RECORD_SIZE, find, find_from, get_slot, put_inode, put_slot};
 use fs_layout::slots::{name_of, slot_for};
 use std::alloc::{AllocError, Global};
 
@@ -79,8 +79,8 @@ pub fn create_absent<B: Blocks>(
     let slot = slot_for(name);
     let mut inode = [0; RECORD_SIZE];
     inode[0] = FILE_KIND;
-    put_record(blocks, INODES_AT + inodes / 64, at, &slot)?;
-    put_record(blocks, INODES_AT, at, &inode)?;
+    put_slot(blocks, inodes, at, &slot)?;
+    put_inode(blocks, at, &inode)?;
     Ok(at)
 }
 
@@ -115,7 +115,7 @@ pub fn names<B: Blocks>(alloc: Global, blocks: &B, inodes: u32) -> Result<Vec<Ve
     let mut names = Vec::new(alloc);
     let mut slot = [0; RECORD_SIZE];
     for at in 0..inodes {
-        get_record(blocks, INODES_AT + inodes / 64, at, &mut slot);
+        get_slot(blocks, inodes, at, &mut slot);
         if slot[0] > 0 {
             names.push(name_of(alloc, &slot)?)?;
         }

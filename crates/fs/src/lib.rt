@@ -14,4 +14,4 @@ pub use fs_layout::FsError;
 pub use fs_layout::inodes::free_inode_count;
 pub use fs_layout::marks::free_block_count;
 pub use octets::{append, read_at, truncate, write_at};
-pub use whole::make_empty;
+pub use whole::{bitmap_block, make_empty};

@@ -84,8 +84,8 @@ module _ (at inodes : ℕ) (blocks : List Octets) (old : Octets) (owners : HasOw
       unused : (b : ℕ) → owns at b → ¬ (IsUsedBelow at inodes blocks b)
       unused b has now = false≢true (sym (marks.can.clear b has) ∙ (used b).1 now)
 
-      within_last : (b : ℕ) → owns at b → (first_data inodes ≤ b) × (b < length blocks)
-      within_last b has = elim (cases_lt b (first_data inodes)) [
+      within_last : (b : ℕ) → owns at b → (first_data (length blocks) inodes ≤ b) × (b < length blocks)
+      within_last b has = elim (cases_lt b (first_data (length blocks) inodes)) [
         | inl reserved ↦ absurd (unused b has (inl reserved))
         | inr behind ↦ (behind, marks.can.within b has)
       ]

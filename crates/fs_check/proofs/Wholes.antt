@@ -11,7 +11,7 @@ use Rattle.fs_check.proofs.MarkedLists.{cannot_left, cannot_right, marks_append}
 use Rattle.fs_check.proofs.Owning.{entry_double, entry_small, entry_table}
 
 module _ (inodes at : ℕ) (blocks : List Octets) (inode : Octets) (is : inode ≡ inode_of blocks at)
-    (has : IsEntry (first_data inodes) (length blocks) (entry inodes blocks at)) (count tables number : ℕ)
+    (has : IsEntry (first_data (length blocks) inodes) (length blocks) (entry inodes blocks at)) (count tables number : ℕ)
     (count_is : count ≡ (number_at 4 8 inode + 4095) / 4096) (tables_is : tables ≡ indirect_for count)
     (number_is : number ≡ number_at 56 4 inode) where
   abbrev e : FileEntry
@@ -26,23 +26,23 @@ module _ (inodes at : ℕ) (blocks : List Octets) (inode : Octets) (is : inode �
   tables_e : tables ≡ indirect_count e
   tables_e = tables_is ∙ ap indirect_for count_e
 
-  pub count_few : count ≤ 65536
-  count_few = let small = entry_small (first_data inodes) (length blocks) (entry inodes blocks at) has in omega (arith, small, count_e)
+  pub count_few : count ≤ 1048575
+  count_few = let small = entry_small (first_data (length blocks) inodes) (length blocks) (entry inodes blocks at) has in omega (arith, small, count_e)
 
-  pub tables_few : tables ≤ 64
+  pub tables_few : tables ≤ 1024
   tables_few = omega (arith, count_few, tables_is)
 
   pub double_there : 1 < tables → (number_at 56 4 inode ≢ 0) × (number_at 56 4 inode < length blocks)
   double_there more =
       subst (λ (o : Octets). (number_at 56 4 o ≢ 0) × (number_at 56 4 o < length blocks)) (sym is)
-      (entry_double (first_data inodes) (length blocks) (entry inodes blocks at) (omega arith) has (omega (arith, more, tables_e)))
+      (entry_double (first_data (length blocks) inodes) (length blocks) (entry inodes blocks at) (omega arith) has (omega (arith, more, tables_e)))
 
   pub table_there : (p : ℕ) → p < tables
       → (indirect_pointer (entry_of blocks inode []) p ≢ 0) × (indirect_pointer (entry_of blocks inode []) p < length blocks)
   table_there p less =
       subst (λ (o : Octets). (indirect_pointer (entry_of blocks o []) p ≢ 0) × (indirect_pointer (entry_of blocks o []) p < length blocks))
       (sym is)
-      (entry_table (first_data inodes) (length blocks) (entry inodes blocks at) (omega arith) has p (omega (arith, less, tables_e)))
+      (entry_table (first_data (length blocks) inodes) (length blocks) (entry inodes blocks at) (omega arith) has p (omega (arith, less, tables_e)))
 
   abbrev doubles : List ℕ
   doubles = cond (eqb number 0) [] (number ∷ [])

@@ -39,7 +39,7 @@ abbrev pub IsEntry : ℕ → ℕ → FileEntry → Type 0
 IsEntry first count e = IsFree e ⊎ (IsFile e × CanRead first count e)
 
 abbrev pub HasEntry : ℕ → List Octets → ℕ → Type 0
-HasEntry inodes blocks k = IsEntry (first_data inodes) (length blocks) (entry inodes blocks k)
+HasEntry inodes blocks k = IsEntry (first_data (length blocks) inodes) (length blocks) (entry inodes blocks k)
 
 -- such an entry, of a file of at most `most` octets if it is not free
 abbrev pub HasSmallEntry : ℕ → ℕ → List Octets → ℕ → Type 0
@@ -60,14 +60,14 @@ pub record Marks (count : ℕ) (numbers : List ℕ) (old new : Octets) : Type 0 
 
 -- what the rule of blocks says of the owners, for the first entries
 pub record HasOwners (at inodes : ℕ) (blocks : List Octets) : Type 0 where
-  pub within : (k b : ℕ) → k < at → Contains (owned (entry inodes blocks k)) b → (first_data inodes ≤ b) × (b < length blocks)
+  pub within : (k b : ℕ) → k < at → Contains (owned (entry inodes blocks k)) b → (first_data (length blocks) inodes ≤ b) × (b < length blocks)
   pub distinct : (k : ℕ) → k < at → AreDistinct (owned (entry inodes blocks k))
   pub one_owner : (k l b : ℕ) → k < at → l < at → Contains (owned (entry inodes blocks k)) b → Contains (owned (entry inodes blocks l)) b
       → k ≡ l
 
 -- a block before the data, or one that one of the first entries owns
 abbrev pub IsUsedBelow : ℕ → ℕ → List Octets → ℕ → Type 0
-IsUsedBelow at inodes blocks b = (b < first_data inodes) ⊎ ((k : ℕ) × (k < at) × Contains (owned (entry inodes blocks k)) b)
+IsUsedBelow at inodes blocks b = (b < first_data (length blocks) inodes) ⊎ ((k : ℕ) × (k < at) × Contains (owned (entry inodes blocks k)) b)
 
 -- these bits are those of the blocks in use
 abbrev pub MarksUsed : ℕ → ℕ → List Octets → Octets → Type 0

@@ -3,16 +3,16 @@
 ghost use Rattle.std.specs.Prelude.{◌≡◌, ◌⊎◌, ℕ, ◌-◌, ◌/◌, ◌<◌, ◌≤◌, ◌↔◌, [], length, IsTrue};
 ghost use Rattle.std.specs.List.{All};
 ghost use Rattle.model.specs.Volume.{number_at};
-ghost use Rattle.model.specs.Files.{HasRoom, entry_of, indirect_for, indirect_pointer, pointer, first_data, most_octets};
+ghost use Rattle.model.specs.Files.{HasRoom, entry_of, indirect_for, indirect_pointer, pointer, first_data, most_blocks, most_inodes, most_octets};
 ghost use Rattle.fs_layout.specs.Blocks.{IsThere};
 ghost use Rattle.fs_check.specs.Checking.{IsSlot, HasNumber, HasTables, HasPointers, HasSmallEntry};
 
 use blocks::Blocks;
 use fs_layout::inodes::{
-    BLOCK_POINTERS, DIRECT_POINTERS, DOUBLE_AT, INODES_AT, SIZE_AT, SPARE_AT, content_blocks,
+    BLOCK_POINTERS, DIRECT_POINTERS, DOUBLE_AT, SIZE_AT, SPARE_AT, content_blocks, first_data,
     indirect_at, most_octets, pointer_at,
 };
-use fs_layout::records::{RECORD_SIZE, get_record};
+use fs_layout::records::{RECORD_SIZE, get_inode, get_slot};
 use fs_layout::slots::{NAME_MAX, slot_for};
 use octet_numbers::{number32, number64};
 
@@ -29,21 +29,13 @@ pub fn is_entry<B: Blocks>(blocks: &B, inodes: u32, format: u32, at: u32) -> boo
 {
     let mut inode = [0; RECORD_SIZE];
     let mut slot = [0; RECORD_SIZE];
-    get_record(blocks, INODES_AT, at, &mut inode);
-    get_record(blocks, INODES_AT + inodes / 64, at, &mut slot);
+    get_inode(blocks, at, &mut inode);
+    get_slot(blocks, inodes, at, &mut slot);
     match number32(&inode, 0) {
         FREE_KIND => are_zeros(&inode) && are_zeros(&slot),
         FILE_KIND => is_slot(&slot) && has_pointers(blocks, inodes, format, &inode),
         _ => false,
     }
-}
-
-// The first block after the directory.
-pub fn data_start(inodes: u32) -> u32
-    requires { inodes ≤ 32768 }
-    ensures { result ≡ first_data inodes }
-{
-    INODES_AT + 2 * (inodes / 64)
 }
 
 // Whether all octets are zero.
@@ -72,7 +64,7 @@ fn is_slot(slot: &[u8]) -> bool
 fn has_pointers<B: Blocks>(blocks: &B, inodes: u32, format: u32, inode: &[u8]) -> bool
     requires room { HasRoom inodes (B.blocks blocks.now) }
     requires whole { length inode.now ≡ 64 }
-    ensures { IsTrue result ↔ HasPointers (most_octets format) (first_data inodes) (length (B.blocks blocks.now))
+    ensures { IsTrue result ↔ HasPointers (most_octets format) (first_data (length (B.blocks blocks.now)) inodes) (length (B.blocks blocks.now))
         (entry_of (B.blocks blocks.now) inode.now []) }
 {
     let size = number64(inode, SIZE_AT);
@@ -89,7 +81,7 @@ fn has_pointers<B: Blocks>(blocks: &B, inodes: u32, format: u32, inode: &[u8]) -
 
 // The number of blocks of pointers of a file whose octets take this many blocks.
 pub fn tables_for(count: u32) -> u32
-    requires { count ≤ 65536 }
+    requires { count ≤ 1048575 }
     ensures { result ≡ indirect_for count }
 {
     (count + BLOCK_POINTERS - 1 - DIRECT_POINTERS) / BLOCK_POINTERS
@@ -98,16 +90,16 @@ pub fn tables_for(count: u32) -> u32
 // Whether a block lies within the data.
 fn is_within<B: Blocks>(blocks: &B, inodes: u32, number: u32) -> bool
     requires room { HasRoom inodes (B.blocks blocks.now) }
-    ensures { IsTrue result ↔ ((first_data inodes ≤ number) × (number < length (B.blocks blocks.now))) }
+    ensures { IsTrue result ↔ ((first_data (length (B.blocks blocks.now)) inodes ≤ number) × (number < length (B.blocks blocks.now))) }
 {
-    data_start(inodes) <= number && number < blocks.len()
+    first_data(blocks.len(), inodes) <= number && number < blocks.len()
 }
 
 // Whether an inode has a double-indirect block within the data if it has more than one block of pointers, or else none.
 fn has_double<B: Blocks>(blocks: &B, inodes: u32, inode: &[u8], tables: u32) -> bool
     requires room { HasRoom inodes (B.blocks blocks.now) }
     requires whole { length inode.now ≡ 64 }
-    ensures { IsTrue result ↔ HasNumber (first_data inodes) (length (B.blocks blocks.now)) 1 tables (number_at 56 4 inode.now) }
+    ensures { IsTrue result ↔ HasNumber (first_data (length (B.blocks blocks.now)) inodes) (length (B.blocks blocks.now)) 1 tables (number_at 56 4 inode.now) }
 {
     let double = number32(inode, DOUBLE_AT);
     if 1 < tables {
@@ -128,9 +120,9 @@ fn table_places(tables: u32) -> u32
 fn has_tables<B: Blocks>(blocks: &B, inodes: u32, inode: &[u8], tables: u32) -> bool
     requires room { HasRoom inodes (B.blocks blocks.now) }
     requires whole { length inode.now ≡ 64 }
-    requires few { tables ≤ 64 }
-    requires double { HasNumber (first_data inodes) (length (B.blocks blocks.now)) 1 tables (number_at 56 4 inode.now) }
-    ensures { IsTrue result ↔ HasTables (first_data inodes) (length (B.blocks blocks.now)) tables
+    requires few { tables ≤ 1024 }
+    requires double { HasNumber (first_data (length (B.blocks blocks.now)) inodes) (length (B.blocks blocks.now)) 1 tables (number_at 56 4 inode.now) }
+    ensures { IsTrue result ↔ HasTables (first_data (length (B.blocks blocks.now)) inodes) (length (B.blocks blocks.now)) tables
         (entry_of (B.blocks blocks.now) inode.now []) }
 {
     for p in 0..table_places(tables) {
@@ -147,7 +139,7 @@ fn has_table<B: Blocks>(blocks: &B, inodes: u32, inode: &[u8], tables: u32, p: u
     requires whole { length inode.now ≡ 64 }
     requires few { p < 1025 }
     requires double { 0 < p → IsThere (number_at 56 4 inode.now) (B.blocks blocks.now) }
-    ensures { IsTrue result ↔ HasNumber (first_data inodes) (length (B.blocks blocks.now)) p tables
+    ensures { IsTrue result ↔ HasNumber (first_data (length (B.blocks blocks.now)) inodes) (length (B.blocks blocks.now)) p tables
         (indirect_pointer (entry_of (B.blocks blocks.now) inode.now []) p) }
 {
     let number = indirect_at(blocks, inode, p);
@@ -161,9 +153,9 @@ fn has_table<B: Blocks>(blocks: &B, inodes: u32, inode: &[u8], tables: u32, p: u
 fn ends_at<B: Blocks>(blocks: &B, inodes: u32, inode: &[u8], from: u32) -> bool
     requires room { HasRoom inodes (B.blocks blocks.now) }
     requires whole { length inode.now ≡ 64 }
-    requires few { from ≤ 65536 }
-    requires double { HasNumber (first_data inodes) (length (B.blocks blocks.now)) 1 (indirect_for from) (number_at 56 4 inode.now) }
-    requires tables { HasTables (first_data inodes) (length (B.blocks blocks.now)) (indirect_for from)
+    requires few { from ≤ 1048575 }
+    requires double { HasNumber (first_data (length (B.blocks blocks.now)) inodes) (length (B.blocks blocks.now)) 1 (indirect_for from) (number_at 56 4 inode.now) }
+    requires tables { HasTables (first_data (length (B.blocks blocks.now)) inodes) (length (B.blocks blocks.now)) (indirect_for from)
         (entry_of (B.blocks blocks.now) inode.now []) }
     ensures { IsTrue result ↔ ((i : ℕ) → from ≤ i → pointer (entry_of (B.blocks blocks.now) inode.now []) i ≡ 0) }
 {

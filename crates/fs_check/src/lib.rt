@@ -1,25 +1,26 @@
 //! Checks whether blocks with any content keep the rule of blocks.
 #![tactic(auto)]
 
-ghost use Rattle.std.specs.Prelude.{◌≡◌, ◌⊎◌, ℕ, ◌<◌, ◌↔◌, IfErr, IfOk, IsTrue};
-ghost use Rattle.model.specs.Files.{AreWithin, HasRoom, IsFileSystem, most_octets};
-ghost use Rattle.fs_check.specs.Checking.{HasEntry, HasSmallEntry, HasDistinctNames};
+ghost use Rattle.std.specs.Prelude.{◌≡◌, ◌⊎◌, ℕ, ◌<◌, ◌*◌, ◌↔◌, IfErr, IfOk, IsTrue, length};
+ghost use Rattle.std.specs.Bool.{OnTrue, OnFalse};
+ghost use Rattle.std.specs.List.{All};
+ghost use Rattle.model.specs.Files.{AreWithin, HasRoom, IsFileSystem, bitmap_bits, bitmap_blocks, is_marked_used, most_octets};
+ghost use Rattle.fs_layout.specs.Bits.{bit_of};
+ghost use Rattle.fs_check.specs.Checking.{HasEntry, HasOwners, HasSmallEntry, HasDistinctNames, MarksUsed};
 
-use crate::entry::{data_start, is_entry};
+use crate::entry::is_entry;
 use crate::marks::{is_bitmap, mark_owners};
-use blocks::Blocks;
+use blocks::{BLOCK_SIZE, Blocks};
 use fs_layout::FsError;
 use fs_layout::bits::set_front;
-use fs_layout::inodes::INODES_AT;
-use fs_layout::records::{RECORD_SIZE, get_record};
+use fs_layout::inodes::{bitmap_blocks, first_data};
+use fs_layout::records::{RECORD_SIZE, get_slot};
+use octet_numbers::zeros;
 use std::alloc::{AllocError, Global};
 use std::collections::BTreeSet;
 
 mod entry;
 mod marks;
-
-/// The number of octets in the bitmap.
-const BITMAP_SIZE: usize = 8192;
 
 /// Checks the rule of blocks, whatever the blocks contain, and that no file is too large for the format. Changes
 /// nothing. `Damaged` exactly if the rule is broken or a file is too large. `Memory` if there is no room to gather the
@@ -35,15 +36,32 @@ pub fn check<B: Blocks>(alloc: Global, blocks: &B, inodes: u32, format: u32) -> 
     if !are_entries(blocks, inodes, format) {
         return Err(FsError::Damaged);
     }
-    let mut marks = [0; BITMAP_SIZE];
-    set_front(&mut marks, data_start(inodes) as usize);
-    if !mark_owners(blocks, inodes, &mut marks) || !is_bitmap(blocks, &marks) {
+    let mut marks = zeros(alloc, BLOCK_SIZE * bitmap_blocks(blocks.len()) as usize)?;
+    if !are_marked(blocks, inodes, marks.as_mut_slice()) {
         return Err(FsError::Damaged);
     }
     if !are_names_distinct(alloc, blocks, inodes)? {
         return Err(FsError::Damaged);
     }
     Ok(())
+}
+
+// Whether no block has two owners, and the bitmap marks exactly the blocks that are used. The marks begin as zeros.
+fn are_marked<B: Blocks>(blocks: &B, inodes: u32, marks: &mut [u8]) -> bool
+    requires room { HasRoom inodes (B.blocks blocks.now) }
+    requires entries { (k : ℕ) → k < inodes → HasEntry inodes (B.blocks blocks.now) k }
+    requires whole { length marks.old ≡ 4096 * bitmap_blocks (length (B.blocks blocks.now)) }
+    requires clear { All (λ octet. octet ≡ 0) marks.old }
+    ensures owners { OnTrue result (HasOwners inodes inodes (B.blocks blocks.now) × MarksUsed inodes inodes (B.blocks blocks.now) marks.new) }
+    ensures bits { OnTrue result ((b : ℕ) → b < bitmap_bits (length (B.blocks blocks.now))
+        → is_marked_used (B.blocks blocks.now) b ≡ bit_of marks.new b) }
+    ensures refused { OnFalse result (¬ (IsFileSystem inodes (B.blocks blocks.now))) }
+{
+    set_front(marks, first_data(blocks.len(), inodes) as usize);
+    if !mark_owners(blocks, inodes, marks) || !is_bitmap(blocks, marks) {
+        return false;
+    }
+    true
 }
 
 // Whether each entry is free or a file.
@@ -68,7 +86,7 @@ fn are_names_distinct<B: Blocks>(alloc: Global, blocks: &B, inodes: u32) -> Resu
     let mut slots = BTreeSet::new(alloc);
     let mut slot = [0; RECORD_SIZE];
     for at in 0..inodes {
-        get_record(blocks, INODES_AT + inodes / 64, at, &mut slot);
+        get_slot(blocks, inodes, at, &mut slot);
         if slot[0] > 0 && !slots.insert(slot)? {
             return Ok(false);
         }

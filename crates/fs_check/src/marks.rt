@@ -1,27 +1,29 @@
 //! The blocks in use, marked one after the other in a bitmap.
 
-ghost use Rattle.std.specs.Prelude.{◌≡◌, ℕ, ◌<◌, ◌≤◌, ◌↔◌, ◌==◌, if◌then◌else◌, true, false, [], ◌∷◌, length, map, IsTrue};
+ghost use Rattle.std.specs.Prelude.{◌≡◌, ℕ, ◌<◌, ◌≤◌, ◌↔◌, ◌==◌, ◌+◌, ◌*◌, if◌then◌else◌, true, false, [], ◌∷◌, length, map, IsTrue};
 ghost use Rattle.std.specs.List.{range_with_len};
 ghost use Rattle.std.specs.Bool.{OnTrue, OnFalse};
 ghost use Rattle.model.specs.Volume.{number_at};
-ghost use Rattle.model.specs.Files.{HasRoom, entry, entry_of, indirect_for, indirect_pointer, owned, pointer, first_data, is_marked_used};
+ghost use Rattle.model.specs.Files.{HasRoom, entry, entry_of, indirect_for, indirect_pointer, owned, pointer, first_data, is_marked_used, bitmap_bits, bitmap_blocks, most_blocks};
 ghost use Rattle.fs_layout.specs.Blocks.{IsThere};
 ghost use Rattle.fs_layout.specs.Bits.{bit_of, SetsBit, IsFront};
 ghost use Rattle.fs_check.specs.Checking.{HasEntry, CanMark, Marks, HasOwners, MarksUsed};
 
 use crate::entry::tables_for;
-use blocks::{BLOCK_SIZE, Blocks};
+use blocks::{BLOCK_SIZE, Blocks, block_of};
 use fs_layout::bits::{is_set, set};
-use fs_layout::inodes::{DOUBLE_AT, INODES_AT, SIZE_AT, content_blocks, indirect_at, pointer_at};
-use fs_layout::records::{RECORD_SIZE, get_record};
+use fs_layout::inodes::{
+    DOUBLE_AT, SIZE_AT, bitmap_blocks, content_blocks, indirect_at, pointer_at,
+};
+use fs_layout::records::{RECORD_SIZE, get_inode};
 use octet_numbers::{number32, number64};
 
 // Marks the blocks that entries own. False if one lies outside the data, or is owned twice.
 pub fn mark_owners<B: Blocks>(blocks: &B, inodes: u32, marks: &mut [u8]) -> bool
     requires room { HasRoom inodes (B.blocks blocks.now) }
     requires entries { (k : ℕ) → k < inodes → HasEntry inodes (B.blocks blocks.now) k }
-    requires whole { length marks.old ≡ 8192 }
-    requires front { IsFront (first_data inodes) marks.old }
+    requires whole { length (B.blocks blocks.now) ≤ 8 * length marks.old }
+    requires front { IsFront (first_data (length (B.blocks blocks.now)) inodes) marks.old }
     ensures marked { OnTrue result (HasOwners inodes inodes (B.blocks blocks.now)
         × MarksUsed inodes inodes (B.blocks blocks.now) marks.new) }
     ensures refused { OnFalse result (¬ (HasOwners inodes inodes (B.blocks blocks.now))) }
@@ -39,14 +41,14 @@ fn mark_owned<B: Blocks>(blocks: &B, inodes: u32, at: u32, marks: &mut [u8]) -> 
     requires room { HasRoom inodes (B.blocks blocks.now) }
     requires below { at < inodes }
     requires entry { HasEntry inodes (B.blocks blocks.now) at }
-    requires whole { length marks.old ≡ 8192 }
+    requires whole { length (B.blocks blocks.now) ≤ 8 * length marks.old }
     ensures marked { OnTrue result
         (Marks (length (B.blocks blocks.now)) (owned (entry inodes (B.blocks blocks.now) at)) marks.old marks.new) }
     ensures refused { OnFalse result
         (¬ (CanMark (length (B.blocks blocks.now)) (owned (entry inodes (B.blocks blocks.now) at)) marks.old)) }
 {
     let mut inode = [0; RECORD_SIZE];
-    get_record(blocks, INODES_AT, at, &mut inode);
+    get_inode(blocks, at, &mut inode);
     let count = content_blocks(number64(&inode, SIZE_AT));
     if !mark_double(marks, blocks.len(), number32(&inode, DOUBLE_AT)) {
         return false;
@@ -59,8 +61,7 @@ fn mark_owned<B: Blocks>(blocks: &B, inodes: u32, at: u32, marks: &mut [u8]) -> 
 
 // Marks a double-indirect block, if there is one.
 fn mark_double(marks: &mut [u8], count: u32, double: u32) -> bool
-    requires whole { length marks.old ≡ 8192 }
-    requires few { count ≤ 65536 }
+    requires whole { count ≤ 8 * length marks.old }
     ensures marked { OnTrue result (Marks count (if double == 0 then [] else double ∷ []) marks.old marks.new) }
     ensures refused { OnFalse result (¬ (CanMark count (if double == 0 then [] else double ∷ []) marks.old)) }
 {
@@ -72,11 +73,10 @@ fn mark_double(marks: &mut [u8], count: u32, double: u32) -> bool
 
 // Marks the first `tables` blocks of pointers of an inode.
 fn mark_tables<B: Blocks>(blocks: &B, inode: &[u8], tables: u32, marks: &mut [u8]) -> bool
-    requires few_blocks { length (B.blocks blocks.now) ≤ 65536 }
     requires size { length inode.now ≡ 64 }
     requires few { tables ≤ 1025 }
     requires double { 1 < tables → IsThere (number_at 56 4 inode.now) (B.blocks blocks.now) }
-    requires whole { length marks.old ≡ 8192 }
+    requires whole { length (B.blocks blocks.now) ≤ 8 * length marks.old }
     ensures marked { OnTrue result (Marks (length (B.blocks blocks.now))
         (map (λ p. indirect_pointer (entry_of (B.blocks blocks.now) inode.now []) p) (range_with_len 0 tables)) marks.old marks.new) }
     ensures refused { OnFalse result
@@ -93,13 +93,12 @@ fn mark_tables<B: Blocks>(blocks: &B, inode: &[u8], tables: u32, marks: &mut [u8
 
 // Marks the first `count` blocks of a file's octets.
 fn mark_pointers<B: Blocks>(blocks: &B, inode: &[u8], count: u32, marks: &mut [u8]) -> bool
-    requires few_blocks { length (B.blocks blocks.now) ≤ 65536 }
     requires size { length inode.now ≡ 64 }
-    requires few { count ≤ 65536 }
+    requires few { count ≤ 1048575 }
     requires double { 1 < indirect_for count → IsThere (number_at 56 4 inode.now) (B.blocks blocks.now) }
     requires tables { (p : ℕ) → p < indirect_for count
         → IsThere (indirect_pointer (entry_of (B.blocks blocks.now) inode.now []) p) (B.blocks blocks.now) }
-    requires whole { length marks.old ≡ 8192 }
+    requires whole { length (B.blocks blocks.now) ≤ 8 * length marks.old }
     ensures marked { OnTrue result (Marks (length (B.blocks blocks.now))
         (map (λ i. pointer (entry_of (B.blocks blocks.now) inode.now []) i) (range_with_len 0 count)) marks.old marks.new) }
     ensures refused { OnFalse result
@@ -116,8 +115,7 @@ fn mark_pointers<B: Blocks>(blocks: &B, inode: &[u8], count: u32, marks: &mut [u
 
 // Marks a block. False if it does not exist or is marked.
 fn mark(marks: &mut [u8], count: u32, number: u32) -> bool
-    requires whole { length marks.old ≡ 8192 }
-    requires few { count ≤ 65536 }
+    requires whole { count ≤ 8 * length marks.old }
     ensures marked { OnTrue result ((number < count) × (bit_of marks.old number ≡ false) × SetsBit number true marks.old marks.new) }
     ensures refused { OnFalse result (number < count → bit_of marks.old number ≡ true) }
 {
@@ -130,18 +128,27 @@ fn mark(marks: &mut [u8], count: u32, number: u32) -> bool
 
 // Whether the bitmap has these bits and no others.
 pub fn is_bitmap<B: Blocks>(blocks: &B, marks: &[u8]) -> bool
-    requires room { 2 ≤ length (B.blocks blocks.now) }
-    requires whole { length marks.now ≡ 8192 }
-    ensures { IsTrue result ↔ ((b : ℕ) → b < 65536 → is_marked_used (B.blocks blocks.now) b ≡ bit_of marks.now b) }
+    requires few { length (B.blocks blocks.now) ≤ most_blocks }
+    requires there { bitmap_blocks (length (B.blocks blocks.now)) ≤ length (B.blocks blocks.now) }
+    requires whole { length marks.now ≡ 4096 * bitmap_blocks (length (B.blocks blocks.now)) }
+    ensures { IsTrue result ↔ ((b : ℕ) → b < bitmap_bits (length (B.blocks blocks.now))
+        → is_marked_used (B.blocks blocks.now) b ≡ bit_of marks.now b) }
 {
-    let (low, high) = marks.split_at(BLOCK_SIZE);
-    let mut bitmap = [0; BLOCK_SIZE];
-    blocks.get(0, &mut bitmap);
-    if !has_bits(&bitmap, low) {
-        return false;
+    for table in 0..bitmap_blocks(blocks.len()) {
+        if !is_bitmap_block(blocks, marks, table) {
+            return false;
+        }
     }
-    blocks.get(1, &mut bitmap);
-    has_bits(&bitmap, high)
+    true
+}
+
+// Whether a block of the bitmap has its bits and no others.
+fn is_bitmap_block<B: Blocks>(blocks: &B, marks: &[u8], table: u32) -> bool
+    requires there { table < length (B.blocks blocks.now) }
+    requires whole { 4096 * table + 4096 ≤ length marks.now }
+    ensures { IsTrue result ↔ ((b : ℕ) → b < 32768 → is_marked_used (B.blocks blocks.now) (32768 * table + b) ≡ bit_of marks.now (32768 * table + b)) }
+{
+    has_bits(blocks.block(table), block_of(marks, table as usize))
 }
 
 // Whether a block has the same bits.

@@ -4,6 +4,8 @@ use Rattle.std.proofs.Common.{get_or, sym, ◌∙◌, ap, subst, arith, append_a
 use Rattle.model.specs.Stream.{Octets}
 use Rattle.model.specs.Volume.{number_at}
 use Rattle.model.specs.Files.{FileEntry, double_blocks, indirect_for, indirect_pointer, pointer, is_marked_used}
+use Rattle.model.specs.Files.{bitmap_blocks}
+use Rattle.model.specs.Files.{bitmap_bits, most_blocks}
 use Rattle.model.specs.Files.{free_blocks}
 use Rattle.fs_inodes.specs.Growing.{AddsBlock, AddsTable, IsApart, IsTaken, NamesBlocks, PutsPointer, TakesBlocks, inode_entry, tables_to}
 use Rattle.fs_inodes.specs.Growing.{with_double, with_indirect}
@@ -14,7 +16,7 @@ use Rattle.fs_layout.proofs.Marking.{one_less_free, same_free}
 use Rattle.fs_inodes.proofs.Tables.{entry_stays, is_apart, map_same_below, names_same, names_stay}
 use Rattle.fs_inodes.proofs.Taking.{taken_still, takes_both, takes_one, takes_then}
 
-module _ (i number : ℕ) (inode : Octets) (old mid : List Octets) (few : length old ≤ 65536) (first : TakesBlock number old mid)
+module _ (i number : ℕ) (inode : Octets) (old mid : List Octets) (few : length old ≤ most_blocks) (first : TakesBlock number old mid)
     (named : NamesBlocks (indirect_for i) (inode_entry old inode) old) where
   same : (b : ℕ) → IsTaken old b → get_or mid b [] ≡ get_or old b []
   same b taken = first.sets.blocks b taken.some
@@ -29,13 +31,13 @@ module _ (i number : ℕ) (inode : Octets) (old mid : List Octets) (few : length
   pub free_mid : with_indirect (i + 1) ≤ free_blocks old + with_indirect i
       → with_double (indirect_for (i + 1)) ≤ free_blocks mid + with_double (indirect_for i)
   free_mid enough = sums (free_blocks mid) (free_blocks old) (with_double (indirect_for (i + 1))) (with_double (indirect_for i)) i
-      (one_less_free number old mid few first) enough
+      (one_less_free number old mid first) enough
     where
       sums : (a b x y i : ℕ) → a + 1 ≡ b → i + 1 + x ≤ b + (i + y) → x ≤ a + y
       sums a b x y i less fits = omega (arith, less, fits)
 
   pub free_some : with_indirect (i + 1) ≤ free_blocks old + with_indirect i → 0 < free_blocks old
-  free_some enough = omega (arith, one_less_free number old mid few first)
+  free_some enough = omega (arith, one_less_free number old mid first)
 
   module _ (inode1 : Octets) (then : List Octets) (table : AddsTable i inode inode1 mid then) where
     -- what the place of the pointer requires
@@ -43,7 +45,7 @@ module _ (i number : ℕ) (inode : Octets) (old mid : List Octets) (few : length
     double_there many = let taken = table.names.double (omega (arith, many)) in
         ((λ none. absurd (let some = taken.some in omega (arith, some, none))), taken.there)
 
-    pub table_there : 10 ≤ i → (2 ≤ indirect_pointer (inode_entry then inode1) ((i - 10) / 1024))
+    pub table_there : 10 ≤ i → (bitmap_blocks (length then) ≤ indirect_pointer (inode_entry then inode1) ((i - 10) / 1024))
         × (indirect_pointer (inode_entry then inode1) ((i - 10) / 1024) < length then)
     table_there high = let taken = table.names.there ((i - 10) / 1024) (omega (arith, high)) in (taken.some, taken.there)
 
@@ -60,15 +62,15 @@ module _ (i number : ℕ) (inode : Octets) (old mid : List Octets) (few : length
       double_is : number_at 56 4 inode2 ≡ number_at 56 4 inode1
       double_is = puts.tail 56 4 (omega arith)
 
-      mark_new : (b : ℕ) → b < 65536 → is_marked_used new b ≡ is_marked_used then b
-      mark_new = marks_same then new (puts.marks 0 (omega arith)) (puts.marks 1 (omega arith))
-
       count_then : length then ≡ length old
       count_then = table.count ∙ first.sets.count
 
+      mark_new : (b : ℕ) → b < bitmap_bits (length old) → is_marked_used new b ≡ is_marked_used then b
+      mark_new = marks_same then new (bitmap_blocks (length old)) (λ t few_t. puts.marks t (omega (arith, few_t, count_then)))
+
       from_then : (b : ℕ) → IsTaken then b → IsTaken new b
       from_then b taken = record {
-        some = taken.some;
+        some = omega (arith, taken.some, puts.count);
         there = omega (arith, taken.there, puts.count);
         marked = mark_new b (omega (arith, taken.there, few, count_then)) ∙ taken.marked;
       }
@@ -84,7 +86,7 @@ module _ (i number : ℕ) (inode : Octets) (old mid : List Octets) (few : length
           sums (free_blocks new) (free_blocks then) (free_blocks mid) (free_blocks old) (with_double (indirect_for (i + 1)))
           (with_double (indirect_for i)) i
           (same_free then new puts.count (λ b inside. mark_new b (omega (arith, inside, few, count_then))))
-          table.fewer (one_less_free number old mid few first)
+          table.fewer (one_less_free number old mid first)
         where
           sums : (n t m o x y i : ℕ) → n ≡ t → t + x ≡ m + y → m + 1 ≡ o → n + (i + 1 + x) ≡ o + (i + y)
           sums n t m o x y i one two three = omega (arith, one, two, three)
@@ -116,6 +118,6 @@ module _ (i number : ℕ) (inode : Octets) (old mid : List Octets) (few : length
         fewer = fewer_new;
         blocks = λ b some apart second.
             puts.blocks b (λ is. second (is ∙ sym (puts.indirect ((i - 10) / 1024))))
-            ∙ table.blocks b some (λ is. apart (is ∙ sym double_is)) (λ is. second (is ∙ sym (puts.indirect ((i - 10) / 1024))))
+            ∙ table.blocks b (omega (arith, some, first.sets.count)) (λ is. apart (is ∙ sym double_is)) (λ is. second (is ∙ sym (puts.indirect ((i - 10) / 1024))))
             ∙ first.sets.blocks b some;
       }

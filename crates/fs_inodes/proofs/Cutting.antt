@@ -8,6 +8,7 @@ use Rattle.octet_numbers.proofs.Numbers.{number_at_apart, number_at_written}
 use Rattle.model.specs.Stream.{Octets}
 use Rattle.model.specs.Volume.{number_at}
 use Rattle.model.specs.Files.{FileEntry, HasRoom, IsFile, size, block_count, pointer, owned, double_blocks, double_pointer, indirect_count}
+use Rattle.model.specs.Files.{bitmap_blocks}
 use Rattle.model.specs.Files.{indirect_for, indirect_pointer, content_of, entry, entry_of, inode_of, slot_of, indirect_of, IsFileSystem}
 use Rattle.model.proofs.Owning.{owns_pointer}
 use Rattle.fs_layout.specs.Blocks.{PutsRecord}
@@ -23,7 +24,7 @@ use Rattle.fs_inodes.proofs.Replacing.{rule_keeps, replaces}
 module _ (inodes k end : ℕ) (old new : List Octets) (room : HasRoom inodes old) (fs : IsFileSystem inodes old) (low : k < inodes)
     (file : IsFile (entry inodes old k)) (shorter : end ≤ size (entry inodes old k))
     (same_count : (end + 4095) / 4096 ≡ block_count (entry inodes old k))
-    (put : PutsRecord 2 k (overwritten 4 (little_bytes 8 end) (inode_of old k)) old new) where
+    (put : PutsRecord (bitmap_blocks (length old)) k (overwritten 4 (little_bytes 8 end) (inode_of old k)) old new) where
   abbrev e : FileEntry
   e = entry inodes old k
 
@@ -146,6 +147,7 @@ module _ (inodes k end : ℕ) (old new : List Octets) (room : HasRoom inodes old
   -- only the inode is touched
   pub cuts_touches : TouchesInode k ((end + 4095) / 4096) ((end + 4095) / 4096) old new
   cuts_touches = record {
+    count = put.count;
     same = λ b some other named. put.blocks b other;
     double = inl (ap (λ (g : FileEntry). double_pointer g) here ∙ same_double);
     tables = λ p. inl (ap (λ (g : FileEntry). indirect_pointer g p) here ∙ same_table p);

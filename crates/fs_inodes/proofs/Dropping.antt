@@ -11,6 +11,7 @@ use Rattle.octet_numbers.proofs.Numbers.{number_at_apart, number_at_written}
 use Rattle.model.specs.Stream.{Octets}
 use Rattle.model.specs.Volume.{number_at, AreDistinct}
 use Rattle.model.specs.Files.{FileEntry, HasRoom, IsFile, IsFileSystem, size, block_count, content_of, double_blocks, double_pointer, entry}
+use Rattle.model.specs.Files.{bitmap_bits, bitmap_blocks}
 use Rattle.model.specs.Files.{entry_of, first_data, indirect_count, indirect_for, indirect_of, indirect_pointer, inode_of, is_marked_used}
 use Rattle.model.specs.Files.{owned, pointer, slot_of}
 use Rattle.model.proofs.Owning.{owns_pointer}
@@ -18,7 +19,7 @@ use Rattle.fs_layout.specs.Blocks.{PutsRecord}
 use Rattle.fs_layout.specs.Marks.{SetsMark}
 use Rattle.fs_layout.specs.Touches.{TouchesInode, double_of, table_of}
 use Rattle.fs_layout.proofs.Entries.{owns_double, owns_indirect}
-use Rattle.fs_layout.proofs.Keeps.{PutsEntry, indirect_same, marks_same, same_entry}
+use Rattle.fs_layout.proofs.Keeps.{PutsEntry, indirect_same, marks_same, same_entry, same_inode, same_slot}
 use Rattle.fs_inodes.specs.Changes.{ReplacesContent, TakesNone}
 use Rattle.fs_inodes.specs.Growing.{NamesBlocks, inode_entry, tables_to}
 use Rattle.fs_inodes.specs.Shrinking.{DropsPointer}
@@ -35,7 +36,14 @@ module _ (inodes k last number : ℕ) (inode1 : Octets) (old mid later new : Lis
     (fs : IsFileSystem inodes old) (low : k < inodes) (file : IsFile (entry inodes old k))
     (counted : last + 1 ≡ block_count (entry inodes old k)) (number_is : number ≡ pointer (entry inodes old k) last)
     (drop : DropsPointer last (inode_of old k) inode1 old mid) (unmarks : SetsMark number false mid later)
-    (put : PutsRecord 2 k (overwritten 4 (little_bytes 8 (4096 * last)) inode1) later new) where
+    (put_now : PutsRecord (bitmap_blocks (length later)) k (overwritten 4 (little_bytes 8 (4096 * last)) inode1) later new) where
+  put : PutsRecord (bitmap_blocks (length old)) k (overwritten 4 (little_bytes 8 (4096 * last)) inode1) later new
+  put = subst (λ (n : ℕ). PutsRecord (bitmap_blocks n) k (overwritten 4 (little_bytes 8 (4096 * last)) inode1) later new)
+      (unmarks.count ∙ drop.count) put_now
+
+  count_new : length new ≡ length old
+  count_new = put.count ∙ unmarks.count ∙ drop.count
+
   abbrev e : FileEntry
   e = entry inodes old k
 
@@ -57,13 +65,13 @@ module _ (inodes k last number : ℕ) (inode1 : Octets) (old mid later new : Lis
 
   -- ---- blocks
 
-  owned_within : (b : ℕ) → Contains (owned (entry inodes old k)) b → (first_data inodes ≤ b) × (b < length old)
+  owned_within : (b : ℕ) → Contains (owned (entry inodes old k)) b → (first_data (length old) inodes ≤ b) × (b < length old)
   owned_within b has = fs.within k b low has
 
-  elsewhere : (b : ℕ) → 2 ≤ b → b ≢ 2 + k / 64 → get_or new b [] ≡ get_or mid b []
-  elsewhere b some other = put.blocks b other ∙ unmarks.blocks b some
+  elsewhere : (b : ℕ) → bitmap_blocks (length old) ≤ b → b ≢ bitmap_blocks (length old) + k / 64 → get_or new b [] ≡ get_or mid b []
+  elsewhere b some other = put.blocks b other ∙ unmarks.blocks b (omega (arith, some, drop.count))
 
-  data_new : (b : ℕ) → first_data inodes ≤ b → get_or new b [] ≡ get_or mid b []
+  data_new : (b : ℕ) → first_data (length old) inodes ≤ b → get_or new b [] ≡ get_or mid b []
   data_new b high = elsewhere b (omega (arith, high)) (omega (arith, high, room.whole, low))
 
   -- each block that names blocks is 0, or the file owns it
@@ -74,7 +82,7 @@ module _ (inodes k last number : ℕ) (inode1 : Octets) (old mid later new : Lis
   table_cases p = elim (cases_lt p (indirect_count e)) [ inl less ↦ inr (owns_indirect e p less) | inr past ↦ inl (named.none p past) ]
 
   -- a block that the file does not own
-  mid_other : (b : ℕ) → 2 ≤ b → (Contains (owned (entry inodes old k)) b → ⊥) → get_or mid b [] ≡ get_or old b []
+  mid_other : (b : ℕ) → bitmap_blocks (length old) ≤ b → (Contains (owned (entry inodes old k)) b → ⊥) → get_or mid b [] ≡ get_or old b []
   mid_other b some lacks = drop.blocks b some (apart (double_pointer e) double_cases)
       (apart (indirect_pointer e ((last - 10) / 1024)) (table_cases ((last - 10) / 1024)))
     where
@@ -84,7 +92,7 @@ module _ (inodes k last number : ℕ) (inode1 : Octets) (old mid later new : Lis
         | inr has ↦ lacks (subst (λ (n : ℕ). Contains (owned (entry inodes old k)) n) (sym same) has)
       ]
 
-  mid_reserved : (b : ℕ) → 2 ≤ b → b < first_data inodes → get_or mid b [] ≡ get_or old b []
+  mid_reserved : (b : ℕ) → bitmap_blocks (length old) ≤ b → b < first_data (length old) inodes → get_or mid b [] ≡ get_or old b []
   mid_reserved b some high = mid_other b some (λ has. absurd (let inside = (owned_within b has).0 in omega (arith, inside, high)))
 
   -- ---- the entry
@@ -110,7 +118,7 @@ module _ (inodes k last number : ℕ) (inode1 : Octets) (old mid later new : Lis
       (table_after ((i - 10) / 1024))
 
   -- the blocks that it still names
-  double_high : double_pointer f ≢ 0 → first_data inodes ≤ double_pointer f
+  double_high : double_pointer f ≢ 0 → first_data (length old) inodes ≤ double_pointer f
   double_high some = elim (cases_lt 1 (indirect_for last)) [
     | inl more ↦
         let same : double_pointer f ≡ double_pointer e = drop.double more in
@@ -119,7 +127,7 @@ module _ (inodes k last number : ℕ) (inode1 : Octets) (old mid later new : Lis
     | inr less ↦ absurd (some (drop.no_double less))
   ]
 
-  table_high : (p : ℕ) → indirect_pointer f p ≢ 0 → first_data inodes ≤ indirect_pointer f p
+  table_high : (p : ℕ) → indirect_pointer f p ≢ 0 → first_data (length old) inodes ≤ indirect_pointer f p
   table_high p some = elim (cases_lt p (indirect_for last)) [
     | inl less ↦
         let same : indirect_pointer f p ≡ indirect_pointer e p = drop.table p less in
@@ -141,18 +149,20 @@ module _ (inodes k last number : ℕ) (inode1 : Octets) (old mid later new : Lis
 
   slot_same : (l : ℕ) → l < inodes → slot_of inodes new l ≡ slot_of inodes old l
   slot_same l below =
-      ap (λ (b : Octets). part (l % 64 * 64) 64 b) (
-      elsewhere (2 + inodes / 64 + l / 64) (omega arith) (omega (arith, room.whole, low))
-      ∙ mid_reserved (2 + inodes / 64 + l / 64) (omega arith) (omega (arith, room.whole, below)))
+      same_slot inodes old new l count_new ∙ ap (λ (b : Octets). part (l % 64 * 64) 64 b) (
+      elsewhere (bitmap_blocks (length old) + inodes / 64 + l / 64) (omega arith) (omega (arith, room.whole, low))
+      ∙ mid_reserved (bitmap_blocks (length old) + inodes / 64 + l / 64) (omega arith) (omega (arith, room.whole, below)))
 
   inode_other : (l : ℕ) → l < inodes → l ≢ k → inode_of new l ≡ inode_of old l
   inode_other l below other =
-      put.other l other
+      same_inode old new l count_new ∙ put.other l other
       ∙ ap (λ (b : Octets). part (l % 64 * 64) 64 b) (
-      unmarks.blocks (2 + l / 64) (omega arith) ∙ mid_reserved (2 + l / 64) (omega arith) (omega (arith, room.whole, below)))
+      unmarks.blocks (bitmap_blocks (length old) + l / 64) (omega (arith, drop.count))
+      ∙ mid_reserved (bitmap_blocks (length old) + l / 64) (omega arith) (omega (arith, room.whole, below)))
 
   entry_is : entry inodes new k ≡ after
-  entry_is = same_entry mid new (inode_of new k) inode (slot_of inodes new k) (slot_of inodes old k) put.here
+  entry_is = same_entry mid new (inode_of new k) inode (slot_of inodes new k) (slot_of inodes old k)
+      (same_inode old new k count_new ∙ put.here)
       (slot_same k low) double_octets table_octets
 
   sized : size after ≡ 4096 * last
@@ -252,10 +262,10 @@ module _ (inodes k last number : ℕ) (inode1 : Octets) (old mid later new : Lis
 
   -- ---- marks
 
-  mark_new : (b : ℕ) → b < 65536 → is_marked_used new b ≡ is_marked_used later b
-  mark_new = marks_same later new (put.blocks 0 (omega arith)) (put.blocks 1 (omega arith))
+  mark_new : (b : ℕ) → b < bitmap_bits (length old) → is_marked_used new b ≡ is_marked_used later b
+  mark_new = marks_same later new (bitmap_blocks (length old)) (λ t few_t. put.blocks t (omega (arith, few_t)))
 
-  small : (b : ℕ) → Contains (owned (entry inodes old k)) b → b < 65536
+  small : (b : ℕ) → Contains (owned (entry inodes old k)) b → b < bitmap_bits (length old)
   small b has = omega (arith, (owned_within b has).1, room.count_few)
 
   -- the freed blocks that named blocks, among all that are freed
@@ -269,10 +279,10 @@ module _ (inodes k last number : ℕ) (inode1 : Octets) (old mid later new : Lis
   number_gone = Contains-append_right drop.doubles (drop.tables ++ number ∷ []) number
       (Contains-append_right drop.tables (number ∷ []) number (0, omega arith, refl))
 
-  later_free : (b : ℕ) → b < 65536 → Contains (drop.doubles ++ drop.tables) b → is_marked_used later b ≡ false
+  later_free : (b : ℕ) → b < bitmap_bits (length old) → Contains (drop.doubles ++ drop.tables) b → is_marked_used later b ≡ false
   later_free b few naming = elim (cases_eq b number) [
     | inl is ↦ ap (λ (n : ℕ). is_marked_used later n) is ∙ unmarks.here
-    | inr other ↦ unmarks.other b few other ∙ drop.gives_up.free b naming
+    | inr other ↦ unmarks.other b (omega (arith, few, drop.count)) other ∙ drop.gives_up.free b naming
   ]
 
   gone_free : (b : ℕ) → Contains gone b → is_marked_used new b ≡ false
@@ -289,10 +299,10 @@ module _ (inodes k last number : ℕ) (inode1 : Octets) (old mid later new : Lis
         ]
       ]
 
-  same_marks : (b : ℕ) → b < 65536 → (Contains gone b → ⊥) → is_marked_used new b ≡ is_marked_used old b
+  same_marks : (b : ℕ) → b < bitmap_bits (length old) → (Contains gone b → ⊥) → is_marked_used new b ≡ is_marked_used old b
   same_marks b few lacks =
       mark_new b few
-      ∙ unmarks.other b few (λ is. lacks (subst (λ (n : ℕ). Contains gone n) (sym is) number_gone))
+      ∙ unmarks.other b (omega (arith, few, drop.count)) (λ is. lacks (subst (λ (n : ℕ). Contains gone n) (sym is) number_gone))
       ∙ drop.gives_up.other b few (λ naming. lacks (naming_gone b naming))
 
   pub drops_takes_none : TakesNone old new
@@ -309,7 +319,7 @@ module _ (inodes k last number : ℕ) (inode1 : Octets) (old mid later new : Lis
   puts : PutsEntry inodes k inode (slot_of inodes old k) touched old new
   puts = record {
     count = put.count ∙ unmarks.count ∙ drop.count;
-    inode_is = put.here;
+    inode_is = same_inode old new k count_new ∙ put.here;
     slot_is = slot_same k low;
     inodes_other = inode_other;
     slots_other = λ l below other. slot_same l below;
@@ -386,13 +396,14 @@ module _ (inodes k last number : ℕ) (inode1 : Octets) (old mid later new : Lis
   -- ---- the blocks that it touches
 
   double_new : double_of new k ≡ double_pointer f
-  double_new = ap (λ (o : Octets). number_at 56 4 o) put.here ∙ same_double
+  double_new = ap (λ (o : Octets). number_at 56 4 o) (same_inode old new k count_new ∙ put.here) ∙ same_double
 
   table_new : (p : ℕ) → table_of new k p ≡ indirect_pointer f p
   table_new p = ap (λ (g : FileEntry). indirect_pointer g p) entry_is ∙ table_after p
 
   pub drops_touches : TouchesInode k last (last + 1) old new
   drops_touches = record {
+    count = count_new;
     same = λ b some other naming. elsewhere b some other
         ∙ drop.blocks b some (naming last (omega arith) (omega arith)).0 (naming last (omega arith) (omega arith)).1;
     double = elim (cases_lt 1 (indirect_for last)) [

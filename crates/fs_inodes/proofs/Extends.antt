@@ -8,6 +8,7 @@ use Rattle.disk.proofs.Images.{length-part}
 use Rattle.model.specs.Stream.{Octets}
 use Rattle.model.specs.Volume.{AreDistinct}
 use Rattle.model.specs.Files.{FileEntry, HasRoom, IsFile, size, block_count, double_blocks, indirect_for, pointer, owned, entry, inode_of}
+use Rattle.model.specs.Files.{bitmap_blocks}
 use Rattle.model.specs.Files.{first_data, is_marked_used, free_blocks, IsFileSystem}
 use Rattle.fs_inodes.specs.Growing.{AddsBlock, NamesBlocks, inode_entry, tables_to, with_indirect}
 use Rattle.fs_layout.proofs.Distinct.{three_cases, three_distinct, three_new, three_were}
@@ -17,18 +18,18 @@ use Rattle.fs_inodes.proofs.Owned.{owned_to}
 use Rattle.fs_inodes.proofs.Tables.{map_same_below}
 
 module _ (inodes k n : ℕ) (old : List Octets) (room : HasRoom inodes old) (fs : IsFileSystem inodes old) (low : k < inodes)
-    (file : IsFile (entry inodes old k)) (few : n < 65536) where
+    (file : IsFile (entry inodes old k)) (few : n < 1048576) where
   abbrev e : FileEntry
   e = entry inodes old k
 
   inode_size : length (inode_of old k) ≡ 64
   inode_size =
-      let there : 2 + k / 64 < length old = omega (arith, room.room, room.whole) in
-      let whole = room.blocks_whole (2 + k / 64) [] there in
-      length-part (k % 64 * 64) 64 (get_or old (2 + k / 64) []) (omega arith)
+      let there : bitmap_blocks (length old) + k / 64 < length old = omega (arith, room.room, room.whole) in
+      let whole = room.blocks_whole (bitmap_blocks (length old) + k / 64) [] there in
+      length-part (k % 64 * 64) 64 (get_or old (bitmap_blocks (length old) + k / 64) []) (omega arith)
 
-  free_is_data : (b : ℕ) → b < length old → is_marked_used old b ≡ false → first_data inodes ≤ b
-  free_is_data b inside free = elim (cases_lt b (first_data inodes)) [
+  free_is_data : (b : ℕ) → b < length old → is_marked_used old b ≡ false → first_data (length old) inodes ≤ b
+  free_is_data b inside free = elim (cases_lt b (first_data (length old) inodes)) [
     | inr data_block ↦ data_block
     | inl reserved ↦ absurd (false≢true (sym free ∙ (fs.bits b (omega (arith, room.count_few))).1 (inl reserved)))
   ]
@@ -42,7 +43,7 @@ module _ (inodes k n : ℕ) (old : List Octets) (room : HasRoom inodes old) (fs 
     owned_is : owned_to (inode_entry old (inode_of old k)) (n + 1) ≡ owned (entry inodes old k)
     owned_is = ap (λ (m : ℕ). owned_to (entry inodes old k) m) (sym count_is)
 
-    pub extends_last : Extends (first_data inodes) n number (entry inodes old k) (inode_entry old (inode_of old k)) old old
+    pub extends_last : Extends (first_data (length old) inodes) n number (entry inodes old k) (inode_entry old (inode_of old k)) old old
     extends_last = record {
       count = refl;
       whole = room.blocks_whole;
@@ -106,7 +107,7 @@ module _ (inodes k n : ℕ) (old : List Octets) (room : HasRoom inodes old) (fs 
     not_owned : (b : ℕ) → Contains (owned (entry inodes old k)) b → ¬ (Contains (adds.doubles ++ (adds.tables ++ number ∷ [])) b)
     not_owned b was fresh = false≢true (sym (adds.takes.free b fresh).1 ∙ owned_marked inodes k old room fs low b was)
 
-    pub extends_new : Extends (first_data inodes) n number (entry inodes old k) (inode_entry mid inode) old mid
+    pub extends_new : Extends (first_data (length old) inodes) n number (entry inodes old k) (inode_entry mid inode) old mid
     extends_new = record {
       count = adds.count;
       whole = adds.whole room.blocks_whole;

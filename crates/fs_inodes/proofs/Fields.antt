@@ -6,14 +6,15 @@ use Rattle.std.proofs.lemmas.List.FromFn.{length-map-range_with_len, get_or-map-
 use Rattle.disk.proofs.Images.{length-part}
 use Rattle.model.specs.Stream.{Octets}
 use Rattle.model.specs.Files.{FileEntry, HasRoom, size, block_count, pointer, owned, content_of, inode_of}
+use Rattle.model.specs.Files.{bitmap_blocks}
 use Rattle.model.proofs.Owning.{content_size}
 use Rattle.fs_inodes.proofs.Places.{get_or-content}
 
 pub length-inode : (inodes k : ℕ) (blocks : List Octets) → HasRoom inodes blocks → k < inodes → length (inode_of blocks k) ≡ 64
 length-inode inodes k blocks room low =
-    let there : 2 + k / 64 < length blocks = omega (arith, room.room, room.whole) in
-    let whole = room.blocks_whole (2 + k / 64) [] there in
-    length-part (k % 64 * 64) 64 (get_or blocks (2 + k / 64) []) (omega arith)
+    let there : bitmap_blocks (length blocks) + k / 64 < length blocks = omega (arith, room.room, room.whole) in
+    let whole = room.blocks_whole (bitmap_blocks (length blocks) + k / 64) [] there in
+    length-part (k % 64 * 64) 64 (get_or blocks (bitmap_blocks (length blocks) + k / 64) []) (omega arith)
 
 pub map_same : (f g : ℕ → ℕ) (n m : ℕ) → n ≡ m → ((i : ℕ) → i < n → f i ≡ g i) → map f (range_with_len 0 n) ≡ map g (range_with_len 0 m)
 map_same f g n m is same =

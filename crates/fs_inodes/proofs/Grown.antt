@@ -5,6 +5,7 @@ use Rattle.std.proofs.lemmas.List.{append-nil, get_or_past, get_or-set_same, set
 use Rattle.std.proofs.lemmas.Bool.{cases_lt, cases_Bool, false≢true}
 use Rattle.model.specs.Stream.{Octets}
 use Rattle.model.specs.Files.{File, HasRoom, IsFile, IsFileSystem, size, entry, content_of, name_in, slot_of, table, is_marked_used}
+use Rattle.model.specs.Files.{most_blocks}
 use Rattle.model.specs.Files.{free_blocks}
 use Rattle.fs_layout.specs.Table.{IsFileAt}
 use Rattle.fs_inodes.specs.Growing.{blocks_for}
@@ -57,7 +58,7 @@ module _ (inodes k : ℕ) (p q : Octets) (a b c : List Octets) (first : GrowsBy 
       ∙ ap (λ (w : Octets). set (table inodes a) k (Some (record { name = first.name; content = w }))) (ap (λ (w : Octets). w ++ q) same_was
       ∙ append_assoc first.was p q)
 
-  pub grows_then : length a ≤ 65536 → GrowsBy inodes k (p ++ q) a c
+  pub grows_then : length a ≤ most_blocks → GrowsBy inodes k (p ++ q) a c
   grows_then few = record {
     count = second.count ∙ first.count;
     name = first.name;
@@ -73,7 +74,7 @@ module _ (inodes k : ℕ) (p q : Octets) (a b c : List Octets) (first : GrowsBy 
           | inl marked ↦ first.lowest x y (omega (arith, second.count)) (omega (arith, second.count)) was marked y_free
           | inr clear ↦ second.lowest x y low_x low_y clear now free
         ];
-    kept = λ x small marked. second.kept x small (first.kept x small marked);
+    kept = λ x small marked. second.kept x (omega (arith, small, first.count)) (first.kept x small marked);
     free =
         ap (λ (n : ℕ). free_blocks c + blocks_for n) (total ∙ ap (λ (m : ℕ). m + length q) (sym was_size))
         ∙ second.free ∙ ap (λ (n : ℕ). free_blocks b + blocks_for n) was_size ∙ first.free;

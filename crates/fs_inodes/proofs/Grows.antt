@@ -13,6 +13,7 @@ use Rattle.octet_numbers.proofs.Numbers.{number_at_apart, number_at_written}
 use Rattle.model.specs.Stream.{Octets}
 use Rattle.model.specs.Volume.{number_at, AreDistinct}
 use Rattle.model.specs.Files.{FileEntry, HasRoom, IsFile, kind, size, block_count, double_blocks, double_pointer, entry_of, indirect_count}
+use Rattle.model.specs.Files.{bitmap_bits, bitmap_blocks}
 use Rattle.model.specs.Files.{indirect_for, indirect_pointer, pointer, owned, name_in, content_of, entry, inode_of, slot_of, indirect_of}
 use Rattle.model.specs.Files.{first_data, is_marked_used, free_blocks, IsFileSystem, file_at, largest_file}
 use Rattle.model.specs.Room.{content_blocks}
@@ -26,7 +27,7 @@ use Rattle.fs_inodes.specs.Growing.{NamesBlocks, inode_entry, tables_to, with_in
 use Rattle.fs_inodes.proofs.Owned.{owned_to, has_pointer, has_table, has_double, pointers_differ, table_not_pointer, double_not_pointer}
 use Rattle.fs_inodes.proofs.Tables.{map_same_below}
 use Rattle.fs_inodes.proofs.Extending.{blocks_octets, content_front, take_overwritten}
-use Rattle.fs_layout.proofs.Keeps.{PutsEntry, indirect_same, same_entry, marks_same}
+use Rattle.fs_layout.proofs.Keeps.{PutsEntry, indirect_same, same_entry, same_inode, same_slot, marks_same}
 use Rattle.fs_layout.proofs.Marking.{same_free}
 use Rattle.fs_inodes.proofs.Owners.{Reowns, contained, names_kept, reowned_makes}
 use Rattle.fs_layout.proofs.Tables.{get_or-table, file_at_file}
@@ -43,12 +44,12 @@ pub record Extends (first n number : ℕ) (e f : FileEntry) (old mid : List Octe
   pub names : NamesBlocks (indirect_for (n + 1)) f mid
   pub double_stays : (double_pointer e ≡ 0) ⊎ (double_pointer f ≡ double_pointer e)
   pub tables_stay : (p : ℕ) → (indirect_pointer e p ≡ 0) ⊎ (indirect_pointer f p ≡ indirect_pointer e p)
-  pub blocks : (b : ℕ) → 2 ≤ b → ((i : ℕ) → block_count e ≤ i → i < n + 1
+  pub blocks : (b : ℕ) → bitmap_blocks (length old) ≤ b → ((i : ℕ) → block_count e ≤ i → i < n + 1
       → (b ≢ double_pointer f) × (b ≢ indirect_pointer f ((i - 10) / 1024))) → get_or mid b [] ≡ get_or old b []
   pub fresh : List ℕ
   pub fresh_free : (b : ℕ) → Contains fresh b → (first ≤ b) × (b < length old) × (is_marked_used old b ≡ false)
   pub fresh_marked : (b : ℕ) → Contains fresh b → is_marked_used mid b ≡ true
-  pub other_marks : (b : ℕ) → b < 65536 → ¬ (Contains fresh b) → is_marked_used mid b ≡ is_marked_used old b
+  pub other_marks : (b : ℕ) → b < bitmap_bits (length old) → ¬ (Contains fresh b) → is_marked_used mid b ≡ is_marked_used old b
   pub lowest : TakesLowest old mid
   pub source : (b : ℕ) → Contains (owned_to f (n + 1)) b → Contains (owned e) b ⊎ Contains fresh b
   pub fresh_owned : (b : ℕ) → Contains fresh b → Contains (owned_to f (n + 1)) b
@@ -60,10 +61,16 @@ module _ (inodes k n r number : ℕ) (piece block inode : Octets) (old mid new :
     (fs : IsFileSystem inodes old) (low : k < inodes) (file : IsFile (entry inodes old k))
     (sized : size (entry inodes old k) ≡ 4096 * n + r) (inside : r + length piece ≤ 4096) (some : 0 < length piece)
     (small : size (entry inodes old k) + length piece ≤ largest_file)
-    (ext : Extends (first_data inodes) n number (entry inodes old k) (inode_entry mid inode) old mid) (block_size : length block ≡ 4096)
+    (ext : Extends (first_data (length old) inodes) n number (entry inodes old k) (inode_entry mid inode) old mid) (block_size : length block ≡ 4096)
     (front : take r block ≡ take r (get_or old (pointer (entry inodes old k) n) []))
-    (put : PutsRecord 2 k (overwritten 4 (little_bytes 8 (size (entry inodes old k) + length piece)) inode)
+    (put_now : PutsRecord (bitmap_blocks (length (set mid number (overwritten r piece block)))) k
+    (overwritten 4 (little_bytes 8 (size (entry inodes old k) + length piece)) inode)
     (set mid number (overwritten r piece block)) new) where
+  put : PutsRecord (bitmap_blocks (length old)) k (overwritten 4 (little_bytes 8 (size (entry inodes old k) + length piece)) inode)
+      (set mid number (overwritten r piece block)) new
+  put = subst (λ (n : ℕ). PutsRecord (bitmap_blocks n) k (overwritten 4 (little_bytes 8 (size (entry inodes old k) + length piece)) inode)
+      (set mid number (overwritten r piece block)) new) (length-set mid number (overwritten r piece block) ∙ ext.count) put_now
+
   e : FileEntry
   e = entry inodes old k
 
@@ -77,19 +84,19 @@ module _ (inodes k n r number : ℕ) (piece block inode : Octets) (old mid new :
   abbrev after : FileEntry
   after = entry_of mid inode_after (slot_of inodes old k)
 
-  n_few : n < 65536
+  n_few : n < 1048576
   n_few = omega (arith, sized, small, some)
 
   -- ---- blocks
 
-  owned_within : (b : ℕ) → Contains (owned_to f (n + 1)) b → (first_data inodes ≤ b) × (b < length old)
+  owned_within : (b : ℕ) → Contains (owned_to f (n + 1)) b → (first_data (length old) inodes ≤ b) × (b < length old)
   owned_within b has = elim (ext.source b has) [
     | inl was ↦ let within = fs.within k b low was in (within.0, within.1)
     | inr fresh ↦ let free = ext.fresh_free b fresh in (free.0, free.1)
   ]
 
-  number_within : (first_data inodes ≤ number) × (number < length old)
-  number_within = subst (λ (b : ℕ). (first_data inodes ≤ b) × (b < length old)) ext.here
+  number_within : (first_data (length old) inodes ≤ number) × (number < length old)
+  number_within = subst (λ (b : ℕ). (first_data (length old) inodes ≤ b) × (b < length old)) ext.here
       (owned_within (pointer f n) (has_pointer f (n + 1) n (omega arith)))
 
   -- each block that names blocks is 0, or the file owns it
@@ -114,10 +121,10 @@ module _ (inodes k n r number : ℕ) (piece block inode : Octets) (old mid new :
     | inr past ↦ absurd (let none = ext.names.none p past in omega (arith, number_within.0, same, none))
   ]
 
-  elsewhere : (b : ℕ) → b ≢ 2 + k / 64 → b ≢ number → get_or new b [] ≡ get_or mid b []
+  elsewhere : (b : ℕ) → b ≢ bitmap_blocks (length old) + k / 64 → b ≢ number → get_or new b [] ≡ get_or mid b []
   elsewhere b other apart = put.blocks b other ∙ get_or-set_other mid number b (overwritten r piece block) [] apart
 
-  data_new : (b : ℕ) → first_data inodes ≤ b → b ≢ number → get_or new b [] ≡ get_or mid b []
+  data_new : (b : ℕ) → first_data (length old) inodes ≤ b → b ≢ number → get_or new b [] ≡ get_or mid b []
   data_new b high apart = elsewhere b (omega (arith, room.whole)) apart
 
   at_number : get_or new number [] ≡ overwritten r piece block
@@ -125,11 +132,11 @@ module _ (inodes k n r number : ℕ) (piece block inode : Octets) (old mid new :
       put.blocks number (omega (arith, room.whole, number_within.0))
       ∙ get_or-set_same mid number (overwritten r piece block) [] (omega (arith, ext.count, number_within.1))
 
-  named_high : (m : ℕ) → m ≢ 0 → (m ≡ 0) ⊎ Contains (owned_to f (n + 1)) m → first_data inodes ≤ m
+  named_high : (m : ℕ) → m ≢ 0 → (m ≡ 0) ⊎ Contains (owned_to f (n + 1)) m → first_data (length old) inodes ≤ m
   named_high m some cases = elim cases [ inl none ↦ absurd (some none) | inr has ↦ (owned_within m has).0 ]
 
   -- a block that the file does not own
-  mid_other : (b : ℕ) → 2 ≤ b → (b ≡ 0) ⊎ (Contains (owned_to f (n + 1)) b → ⊥) → get_or mid b [] ≡ get_or old b []
+  mid_other : (b : ℕ) → bitmap_blocks (length old) ≤ b → (b ≡ 0) ⊎ (Contains (owned_to f (n + 1)) b → ⊥) → get_or mid b [] ≡ get_or old b []
   mid_other b some_b cases = ext.blocks b some_b
       (λ i above below. (
         apart (double_pointer f) double_cases,
@@ -145,7 +152,7 @@ module _ (inodes k n r number : ℕ) (piece block inode : Octets) (old mid new :
         ]
       ]
 
-  mid_reserved : (b : ℕ) → 2 ≤ b → b < first_data inodes → get_or mid b [] ≡ get_or old b []
+  mid_reserved : (b : ℕ) → bitmap_blocks (length old) ≤ b → b < first_data (length old) inodes → get_or mid b [] ≡ get_or old b []
   mid_reserved b some_b high = mid_other b some_b (inr (λ has. absurd (let inside = (owned_within b has).0 in omega (arith, inside, high))))
 
   -- ---- the entry
@@ -180,19 +187,22 @@ module _ (inodes k n r number : ℕ) (piece block inode : Octets) (old mid new :
 
   slot_same : (l : ℕ) → l < inodes → slot_of inodes new l ≡ slot_of inodes old l
   slot_same l below =
-      ap (λ (b : Octets). part (l % 64 * 64) 64 b) (
-      elsewhere (2 + inodes / 64 + l / 64) (omega (arith, room.whole)) (omega (arith, number_within.0, room.whole))
-      ∙ mid_reserved (2 + inodes / 64 + l / 64) (omega arith) (omega (arith, room.whole)))
+      same_slot inodes old new l (put.count ∙ length-set mid number (overwritten r piece block) ∙ ext.count)
+      ∙ ap (λ (b : Octets). part (l % 64 * 64) 64 b) (
+      elsewhere (bitmap_blocks (length old) + inodes / 64 + l / 64) (omega (arith, room.whole)) (omega (arith, number_within.0, room.whole))
+      ∙ mid_reserved (bitmap_blocks (length old) + inodes / 64 + l / 64) (omega arith) (omega (arith, room.whole)))
 
   inode_other : (l : ℕ) → l < inodes → l ≢ k → inode_of new l ≡ inode_of old l
   inode_other l below other =
-      put.other l other
+      same_inode old new l (put.count ∙ length-set mid number (overwritten r piece block) ∙ ext.count)
+      ∙ put.other l other
       ∙ ap (λ (b : Octets). part (l % 64 * 64) 64 b) (
-      get_or-set_other mid number (2 + l / 64) (overwritten r piece block) [] (omega (arith, number_within.0, room.whole))
-      ∙ mid_reserved (2 + l / 64) (omega arith) (omega (arith, room.whole)))
+      get_or-set_other mid number (bitmap_blocks (length old) + l / 64) (overwritten r piece block) [] (omega (arith, number_within.0, room.whole))
+      ∙ mid_reserved (bitmap_blocks (length old) + l / 64) (omega arith) (omega (arith, room.whole)))
 
   entry_is : entry inodes new k ≡ after
-  entry_is = same_entry mid new (inode_of new k) inode_after (slot_of inodes new k) (slot_of inodes old k) put.here
+  entry_is = same_entry mid new (inode_of new k) inode_after (slot_of inodes new k) (slot_of inodes old k)
+      (same_inode old new k (put.count ∙ length-set mid number (overwritten r piece block) ∙ ext.count) ∙ put.here)
       (slot_same k low) double_octets table_octets
 
   size_after : size after ≡ size (entry inodes old k) + length piece
@@ -305,9 +315,8 @@ module _ (inodes k n r number : ℕ) (piece block inode : Octets) (old mid new :
 
   -- ---- the rule of blocks
 
-  mark_new : (b : ℕ) → b < 65536 → is_marked_used new b ≡ is_marked_used mid b
-  mark_new = marks_same mid new (elsewhere 0 (omega arith) (omega (arith, number_within.0)))
-      (elsewhere 1 (omega arith) (omega (arith, number_within.0)))
+  mark_new : (b : ℕ) → b < bitmap_bits (length old) → is_marked_used new b ≡ is_marked_used mid b
+  mark_new = marks_same mid new (bitmap_blocks (length old)) (λ t few_t. elsewhere t (omega (arith, few_t)) (omega (arith, number_within.0, few_t)))
 
   abbrev touched : ℕ → Type 0
   touched b = Contains (owned_to f (n + 1)) b
@@ -315,7 +324,7 @@ module _ (inodes k n r number : ℕ) (piece block inode : Octets) (old mid new :
   puts : PutsEntry inodes k inode_after (slot_of inodes old k) touched old new
   puts = record {
     count = count_is;
-    inode_is = put.here;
+    inode_is = same_inode old new k count_is ∙ put.here;
     slot_is = slot_same k low;
     inodes_other = inode_other;
     slots_other = λ l below other. slot_same l below;
@@ -361,7 +370,7 @@ module _ (inodes k n r number : ℕ) (piece block inode : Octets) (old mid new :
       | inr fresh ↦ inr ((ext.fresh_free b fresh).2)
     ];
     taken = λ b has.
-        let small_b : b < 65536 = omega (arith, (owned_within b (to_f b has)).1, room.count_few) in
+        let small_b : b < bitmap_bits (length old) = omega (arith, (owned_within b (to_f b has)).1, room.count_few) in
         elim (ext.source b (to_f b has)) [
           | inl was ↦ marks_kept b small_b (was_marked k b low was)
           | inr fresh ↦ mark_new b small_b ∙ ext.fresh_marked b fresh
@@ -414,7 +423,7 @@ module _ (inodes k n r number : ℕ) (piece block inode : Octets) (old mid new :
   -- ---- the blocks that it touches
 
   double_new : double_of new k ≡ double_pointer f
-  double_new = ap (λ (o : Octets). number_at 56 4 o) put.here ∙ same_double
+  double_new = ap (λ (o : Octets). number_at 56 4 o) (same_inode old new k count_is ∙ put.here) ∙ same_double
 
   table_new : (p : ℕ) → table_of new k p ≡ indirect_pointer f p
   table_new p = ap (λ (g : FileEntry). indirect_pointer g p) entry_is ∙ table_after p
@@ -424,6 +433,7 @@ module _ (inodes k n r number : ℕ) (piece block inode : Octets) (old mid new :
   touches =
       let end : n + 1 ≡ content_blocks (size (entry inodes old k) + length piece) = omega (arith, sized, inside, some) in
       subst (λ (m : ℕ). TouchesData k (number ∷ []) (content_blocks (size (entry inodes old k))) m old new) end record {
+        count = count_is;
         same = λ b some_b other named lacks.
             elsewhere b other (λ is. lacks (is_first number [] b is))
             ∙ ext.blocks b some_b (λ i above below. (

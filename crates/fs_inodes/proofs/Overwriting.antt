@@ -9,11 +9,12 @@ use Rattle.disk.specs.Image.{part, overwritten}
 use Rattle.disk.proofs.Images.{length-overwritten, overwritten_below, overwritten_inside, overwritten_above}
 use Rattle.model.specs.Stream.{Octets}
 use Rattle.model.specs.Files.{FileEntry, HasRoom, IsFile, size, block_count, double_pointer, indirect_count, indirect_pointer, pointer}
+use Rattle.model.specs.Files.{bitmap_blocks}
 use Rattle.model.specs.Files.{owned}
 use Rattle.model.specs.Files.{content_of, entry, inode_of, slot_of, indirect_of, first_data, IsFileSystem}
 use Rattle.model.proofs.Owning.{content_size, owns_pointer}
 use Rattle.fs_inodes.specs.Changes.{ReplacesContent, SameMarks}
-use Rattle.fs_layout.proofs.Keeps.{indirect_same, PutsEntry, same_entry, marks_same}
+use Rattle.fs_layout.proofs.Keeps.{indirect_same, PutsEntry, same_entry, same_inode, same_slot, marks_same}
 use Rattle.fs_inodes.proofs.Named.{file_names}
 use Rattle.fs_inodes.proofs.Owned.{double_not_pointer, pointers_differ, table_not_pointer}
 use Rattle.fs_inodes.proofs.Places.{get_or-content}
@@ -22,25 +23,34 @@ use Rattle.fs_inodes.proofs.Replacing.{rule_keeps, replaces}
 -- ---- a data block of a file
 
 module _ (inodes k n : ℕ) (octets : Octets) (old : List Octets) (whole : inodes % 64 ≡ 0) (low : k < inodes)
-    (behind : first_data inodes ≤ n) where
+    (behind : first_data (length old) inodes ≤ n) where
+  count : length (set old n octets) ≡ length old
+  count = length-set old n octets
+
+  inode_stays : (l : ℕ) → l < inodes → inode_of (set old n octets) l ≡ inode_of old l
+  inode_stays l below = same_inode old (set old n octets) l count ∙ ap (λ (b : Octets). part (l % 64 * 64) 64 b)
+      (get_or-set_other old n (bitmap_blocks (length old) + l / 64) octets [] (omega arith))
+
+  slot_stays : (l : ℕ) → l < inodes → slot_of inodes (set old n octets) l ≡ slot_of inodes old l
+  slot_stays l below = same_slot inodes old (set old n octets) l count ∙ ap (λ (b : Octets). part (l % 64 * 64) 64 b)
+      (get_or-set_other old n (bitmap_blocks (length old) + inodes / 64 + l / 64) octets [] (omega arith))
+
   -- that block alone
   pub puts_data : PutsEntry inodes k (inode_of old k) (slot_of inodes old k) (λ m. m ≡ n) old (set old n octets)
   puts_data = record {
     count = length-set old n octets;
-    inode_is = ap (λ (b : Octets). part (k % 64 * 64) 64 b) (get_or-set_other old n (2 + k / 64) octets [] (omega arith));
-    slot_is = ap (λ (b : Octets). part (k % 64 * 64) 64 b) (get_or-set_other old n (2 + inodes / 64 + k / 64) octets [] (omega arith));
-    inodes_other = λ l below other. ap (λ (b : Octets). part (l % 64 * 64) 64 b)
-        (get_or-set_other old n (2 + l / 64) octets [] (omega arith));
-    slots_other = λ l below other. ap (λ (b : Octets). part (l % 64 * 64) 64 b)
-        (get_or-set_other old n (2 + inodes / 64 + l / 64) octets [] (omega arith));
+    inode_is = inode_stays k low;
+    slot_is = slot_stays k low;
+    inodes_other = λ l below other. inode_stays l below;
+    slots_other = λ l below other. slot_stays l below;
     data_same = λ m high untouched. get_or-set_other old n m octets [] untouched;
   }
 
   pub data_keeps_marks : SameMarks old (set old n octets)
   data_keeps_marks = record {
     count = length-set old n octets;
-    marks = marks_same old (set old n octets) (get_or-set_other old n 0 octets [] (omega arith))
-        (get_or-set_other old n 1 octets [] (omega arith));
+    marks = marks_same old (set old n octets) (bitmap_blocks (length old))
+        (λ t few. get_or-set_other old n t octets [] (omega (arith, few)));
   }
 
 -- ---- octets in it

@@ -6,6 +6,7 @@ use Rattle.std.proofs.lemmas.Bool.{cases_eq, false≢true}
 use Rattle.model.specs.Stream.{Octets}
 use Rattle.model.specs.Volume.{AreDistinct}
 use Rattle.model.specs.Files.{FileEntry, File, HasRoom, IsFile, IsFree, owned, name_in, entry, slot_of, first_data, is_marked_used, IsUsed}
+use Rattle.model.specs.Files.{bitmap_bits, most_blocks}
 use Rattle.model.specs.Files.{IsFileSystem, file_at, table}
 use Rattle.model.proofs.Owning.{free_kind}
 use Rattle.fs_layout.specs.Table.{Makes}
@@ -33,12 +34,12 @@ pub record Reowns (inodes k : ℕ) (touched : ℕ → Type 0) (old new : List Oc
   pub here : IsFree (entry inodes new k) ⊎ IsFile (entry inodes new k)
   pub untouched : (l b : ℕ) → l < inodes → l ≢ k → Contains (owned (entry inodes old l)) b → ¬ (touched b)
   pub distinct : AreDistinct (owned (entry inodes new k))
-  pub within : (b : ℕ) → Contains (owned (entry inodes new k)) b → (first_data inodes ≤ b) × (b < length old)
+  pub within : (b : ℕ) → Contains (owned (entry inodes new k)) b → (first_data (length old) inodes ≤ b) × (b < length old)
   pub source : (b : ℕ) → Contains (owned (entry inodes new k)) b → Contains (owned (entry inodes old k)) b ⊎ (is_marked_used old b ≡ false)
   pub taken : (b : ℕ) → Contains (owned (entry inodes new k)) b → is_marked_used new b ≡ true
-  pub left : (b : ℕ) → b < 65536 → Contains (owned (entry inodes old k)) b → ¬ (Contains (owned (entry inodes new k)) b)
+  pub left : (b : ℕ) → b < bitmap_bits (length old) → Contains (owned (entry inodes old k)) b → ¬ (Contains (owned (entry inodes new k)) b)
       → is_marked_used new b ≡ false
-  pub same : (b : ℕ) → b < 65536 → ¬ (Contains (owned (entry inodes old k)) b) → ¬ (Contains (owned (entry inodes new k)) b)
+  pub same : (b : ℕ) → b < bitmap_bits (length old) → ¬ (Contains (owned (entry inodes old k)) b) → ¬ (Contains (owned (entry inodes new k)) b)
       → is_marked_used new b ≡ is_marked_used old b
 
 abbrev pub HasDistinctNames : ℕ → List Octets → Type 0
@@ -59,21 +60,21 @@ module _ (inodes k : ℕ) (inode slot : Octets) (touched : ℕ → Type 0) (old 
   still_owned l b below other = subst (λ (e : FileEntry). Contains (owned e) b) (sym (others l below other))
 
   -- a mark in the old blocks
-  was_marked : (b : ℕ) → b < 65536 → IsUsed inodes old b → is_marked_used old b ≡ true
+  was_marked : (b : ℕ) → b < bitmap_bits (length old) → IsUsed inodes old b → is_marked_used old b ≡ true
   was_marked b small used = (fs.bits b small).1 used
 
-  few : (l b : ℕ) → l < inodes → Contains (owned (entry inodes old l)) b → length old ≤ 65536 → b < 65536
+  few : (l b : ℕ) → l < inodes → Contains (owned (entry inodes old l)) b → length old ≤ most_blocks → b < bitmap_bits (length old)
   few l b below has room = omega (arith, (fs.within l b below has).1)
 
   -- k owns no block of another
-  apart : length old ≤ 65536 → (l b : ℕ) → l < inodes → l ≢ k → Contains (owned (entry inodes old l)) b
+  apart : length old ≤ most_blocks → (l b : ℕ) → l < inodes → l ≢ k → Contains (owned (entry inodes old l)) b
       → ¬ (Contains (owned (entry inodes new k)) b)
   apart room l b below other has here = elim (owns.source b here) [
     | inl before ↦ other (fs.one_owner l k b below low has before)
     | inr free ↦ false≢true (sym free ∙ was_marked b (few l b below has room) (inr (l, below, has)))
   ]
 
-  module _ (room : length old ≤ 65536) where
+  module _ (room : length old ≤ most_blocks) where
     one_owner : (l m b : ℕ) → l < inodes → m < inodes → Contains (owned (entry inodes new l)) b → Contains (owned (entry inodes new m)) b
         → l ≡ m
     one_owner l m b below under first second = elim (cases_eq l k) [
@@ -89,13 +90,13 @@ module _ (inodes k : ℕ) (inode slot : Octets) (touched : ℕ → Type 0) (old 
       ]
     ]
 
-    used_if_marked : (b : ℕ) → b < 65536 → is_marked_used new b ≡ true → IsUsed inodes new b
+    used_if_marked : (b : ℕ) → b < bitmap_bits (length old) → is_marked_used new b ≡ true → IsUsed inodes new b
     used_if_marked b small marked = elim (contained (owned (entry inodes new k)) b) [
       | inl has ↦ inr (k, low, has)
       | inr lacks ↦ elim (contained (owned (entry inodes old k)) b) [
         | inl had ↦ absurd (false≢true (sym (owns.left b small had lacks) ∙ marked))
         | inr never ↦ elim ((fs.bits b small).0 (sym (owns.same b small never lacks) ∙ marked)) [
-          | inl reserved ↦ inl reserved
+          | inl reserved ↦ inl (omega (arith, reserved, puts.count))
           | inr owner ↦ elim (cases_eq owner.0 k) [
             | inl is ↦ absurd (never (subst (λ (n : ℕ). Contains (owned (entry inodes old n)) b) is owner.2))
             | inr other ↦ inr (owner.0, owner.1, still_owned owner.0 b owner.1 other owner.2)
@@ -104,19 +105,19 @@ module _ (inodes k : ℕ) (inode slot : Octets) (touched : ℕ → Type 0) (old 
       ]
     ]
 
-    reserved_marked : (b : ℕ) → b < 65536 → b < first_data inodes → is_marked_used new b ≡ true
+    reserved_marked : (b : ℕ) → b < bitmap_bits (length old) → b < first_data (length old) inodes → is_marked_used new b ≡ true
     reserved_marked b small reserved =
         owns.same b small (λ had. absurd (omega (arith, (fs.within k b low had).0))) (λ has. absurd (omega (arith, (owns.within b has).0)))
         ∙ was_marked b small (inl reserved)
 
-    other_marked : (l b : ℕ) → b < 65536 → l < inodes → l ≢ k → Contains (owned (entry inodes old l)) b → is_marked_used new b ≡ true
+    other_marked : (l b : ℕ) → b < bitmap_bits (length old) → l < inodes → l ≢ k → Contains (owned (entry inodes old l)) b → is_marked_used new b ≡ true
     other_marked l b small below other has =
         owns.same b small (λ had. other (fs.one_owner l k b below low has had)) (apart room l b below other has)
         ∙ was_marked b small (inr (l, below, has))
 
-    marked_if_used : (b : ℕ) → b < 65536 → IsUsed inodes new b → is_marked_used new b ≡ true
+    marked_if_used : (b : ℕ) → b < bitmap_bits (length old) → IsUsed inodes new b → is_marked_used new b ≡ true
     marked_if_used b small used = elim used [
-      | inl reserved ↦ reserved_marked b small reserved
+      | inl reserved ↦ reserved_marked b small (omega (arith, reserved, puts.count))
       | inr owner ↦ elim (cases_eq owner.0 k) [
         | inl is ↦ owns.taken b (subst (λ (n : ℕ). Contains (owned (entry inodes new n)) b) is owner.2)
         | inr other ↦ other_marked owner.0 b small owner.1 other (was_owned owner.0 b owner.1 other owner.2)
@@ -131,15 +132,18 @@ module _ (inodes k : ℕ) (inode slot : Octets) (touched : ℕ → Type 0) (old 
       ];
       within = λ l b below has. elim (cases_eq l k) [
         | inl is ↦ let inside = owns.within b (subst (λ (n : ℕ). Contains (owned (entry inodes new n)) b) is has) in
-            (inside.0, omega (arith, inside.1, puts.count))
-        | inr other ↦ let inside = fs.within l b below (was_owned l b below other has) in (inside.0, omega (arith, inside.1, puts.count))
+            (omega (arith, inside.0, puts.count), omega (arith, inside.1, puts.count))
+        | inr other ↦ let inside = fs.within l b below (was_owned l b below other has) in (
+          omega (arith, inside.0, puts.count),
+          omega (arith, inside.1, puts.count),
+        )
       ];
       distinct = λ l below. elim (cases_eq l k) [
         | inl is ↦ subst (λ (n : ℕ). AreDistinct (owned (entry inodes new n))) (sym is) owns.distinct
         | inr other ↦ subst (λ (e : FileEntry). AreDistinct (owned e)) (sym (others l below other)) (fs.distinct l below)
       ];
       one_owner = one_owner;
-      bits = λ b small. (used_if_marked b small, marked_if_used b small);
+      bits = λ b small. (used_if_marked b (omega (arith, small, puts.count)), marked_if_used b (omega (arith, small, puts.count)));
       names_distinct = names;
     }
 

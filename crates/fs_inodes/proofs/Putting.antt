@@ -11,6 +11,7 @@ use Rattle.octet_numbers.proofs.Numbers.{number_at_apart, number_at_written}
 use Rattle.model.specs.Stream.{Octets}
 use Rattle.model.specs.Volume.{number_at}
 use Rattle.model.specs.Files.{indirect_of, indirect_pointer, pointer}
+use Rattle.model.specs.Files.{bitmap_blocks}
 use Rattle.fs_inodes.specs.Growing.{IsApart, PutsIndirect, PutsPointer, inode_entry}
 use Rattle.fs_layout.proofs.Keeps.{indirect_same}
 
@@ -79,7 +80,7 @@ module _ (i number : ℕ) (inode : Octets) (size : length inode ≡ 64) (fits : 
     }
 
   module _ (blocks : List Octets) (block : Octets) (high : 10 ≤ i) (at : ℕ)
-      (at_is : at ≡ indirect_pointer (inode_entry blocks inode) ((i - 10) / 1024)) (some : 2 ≤ at) (there : at < length blocks)
+      (at_is : at ≡ indirect_pointer (inode_entry blocks inode) ((i - 10) / 1024)) (some : bitmap_blocks (length blocks) ≤ at) (there : at < length blocks)
       (apart_from : IsApart ((i - 10) / 1024) (inode_entry blocks inode)) (is : block ≡ get_or blocks at [])
       (whole : length block ≡ 4096) where
     abbrev place : ℕ
@@ -192,7 +193,7 @@ module _ (number : ℕ) (inode : Octets) (size : length inode ≡ 64) (fits : nu
     }
 
   module _ (p : ℕ) (blocks : List Octets) (block : Octets) (some_p : 0 < p) (few : p < 1025) (at : ℕ) (at_is : at ≡ number_at 56 4 inode)
-      (some : 2 ≤ at) (there : at < length blocks)
+      (some : bitmap_blocks (length blocks) ≤ at) (there : at < length blocks)
       (apart_from : (q : ℕ) → q ≢ p → indirect_pointer (inode_entry blocks inode) q ≢ number_at 56 4 inode)
       (is : block ≡ get_or blocks at []) (whole : length block ≡ 4096) where
     abbrev put : Octets

@@ -6,6 +6,7 @@ use Rattle.std.proofs.lemmas.List.Elements.{All-replicate}
 use Rattle.std.proofs.lemmas.Bool.{cases_eq}
 use Rattle.model.specs.Stream.{Octets}
 use Rattle.model.specs.Files.{FileEntry, HasRoom, IsFile, IsFree, size, owned, double_pointer, entry, IsFileSystem, table}
+use Rattle.model.specs.Files.{bitmap_blocks}
 use Rattle.model.proofs.Owning.{free_owns}
 use Rattle.fs_layout.specs.Blocks.{PutsRecord}
 use Rattle.fs_layout.specs.Table.{Makes}
@@ -26,8 +27,8 @@ zeros_all : All (λ (o : ℕ). o ≡ 0) (replicate 64 0)
 zeros_all = All-replicate (λ o. o ≡ 0) 64 0 refl
 
 module _ (inodes k : ℕ) (a b c : List Octets) (room : HasRoom inodes a) (fs : IsFileSystem inodes a) (low : k < inodes)
-    (file : IsFile (entry inodes a k)) (empty : size (entry inodes a k) ≡ 0) (first : PutsRecord 2 k (replicate 64 0) a b)
-    (second : PutsRecord (2 + inodes / 64) k (replicate 64 0) b c) where
+    (file : IsFile (entry inodes a k)) (empty : size (entry inodes a k) ≡ 0) (first : PutsRecord (bitmap_blocks (length a)) k (replicate 64 0) a b)
+    (second : PutsRecord (bitmap_blocks (length b) + inodes / 64) k (replicate 64 0) b c) where
   puts : PutsEntry inodes k (replicate 64 0) (replicate 64 0) (λ n. ⊥) a c
   puts =
       let inode = puts_inode inodes k (replicate 64 0) a b room.whole low first in
@@ -38,7 +39,7 @@ module _ (inodes k : ℕ) (a b c : List Octets) (room : HasRoom inodes a) (fs : 
         slot_is = slot.slot_is;
         inodes_other = λ l below other. slot.inodes_other l below other ∙ inode.inodes_other l below other;
         slots_other = λ l below other. slot.slots_other l below other ∙ inode.slots_other l below other;
-        data_same = λ n high untouched. slot.data_same n high untouched ∙ inode.data_same n high untouched;
+        data_same = λ n high untouched. slot.data_same n (omega (arith, high, inode.count)) untouched ∙ inode.data_same n high untouched;
       }
 
   free : IsFree (entry inodes c k)
@@ -63,7 +64,7 @@ module _ (inodes k : ℕ) (a b c : List Octets) (room : HasRoom inodes a) (fs : 
     source = λ n has. absurd (none_now n has);
     taken = λ n has. absurd (none_now n has);
     left = λ n small had lacks. absurd (none_before n had);
-    same = λ n small had has. slot_keeps_marks inodes k (replicate 64 0) b c room.whole low second n small
+    same = λ n small had has. slot_keeps_marks inodes k (replicate 64 0) b c room.whole low second n (omega (arith, small, first.count))
         ∙ inode_keeps_marks inodes k (replicate 64 0) a b room.whole low first n small;
   }
 

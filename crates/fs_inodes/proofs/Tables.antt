@@ -14,6 +14,7 @@ use Rattle.octet_numbers.proofs.Numbers.{number_at_apart, number_at_written}
 use Rattle.model.specs.Stream.{Octets}
 use Rattle.model.specs.Volume.{number_at}
 use Rattle.model.specs.Files.{FileEntry, double_blocks, double_pointer, indirect_for, indirect_of, indirect_pointer, pointer}
+use Rattle.model.specs.Files.{bitmap_bits, bitmap_blocks, most_blocks}
 use Rattle.model.specs.Files.{is_marked_used}
 use Rattle.model.specs.Files.{free_blocks}
 use Rattle.model.proofs.Owning.{zero_number}
@@ -83,7 +84,7 @@ names_stay tables inode old mid names same keep =
     (λ p. ap (λ (e : FileEntry). indirect_pointer e p) (entry_stays tables inode old mid names same)) refl keep
 
 -- a block that the inode does not name gets zeros
-module _ (tables number : ℕ) (inode : Octets) (old mid : List Octets) (few : length old ≤ 65536)
+module _ (tables number : ℕ) (inode : Octets) (old mid : List Octets) (few : length old ≤ most_blocks)
     (names : NamesBlocks tables (inode_entry old inode) old) (zeros : TakesZeros number old mid) where
   zeros_same : (b : ℕ) → IsTaken old b → get_or mid b [] ≡ get_or old b []
   zeros_same b taken = zeros.blocks b taken.some (fresh_apart (number ∷ []) old mid zeros.takes number b (0, omega arith, refl) taken)
@@ -111,8 +112,8 @@ adds_no_double p inode old other = record {
   blocks = λ b some apart. refl;
 }
 
-module _ (number : ℕ) (inode : Octets) (old mid : List Octets) (size : length inode ≡ 64) (few : length old ≤ 65536) (reserved : (b : ℕ)
-    → b < 2 → is_marked_used old b ≡ true) (names : NamesBlocks 1 (inode_entry old inode) old) (zeros : TakesZeros number old mid) where
+module _ (number : ℕ) (inode : Octets) (old mid : List Octets) (size : length inode ≡ 64) (few : length old ≤ most_blocks) (reserved : (b : ℕ)
+    → b < bitmap_blocks (length old) → is_marked_used old b ≡ true) (names : NamesBlocks 1 (inode_entry old inode) old) (zeros : TakesZeros number old mid) where
   abbrev with_number : Octets
   with_number = overwritten 56 (little_bytes 4 number) inode
 
@@ -189,7 +190,7 @@ module _ (i : ℕ) (inode : Octets) (old : List Octets) (other : i % 1024 ≢ 10
     blocks = λ b some apart second. refl;
   }
 
-module _ (i p table : ℕ) (inode inode1 : Octets) (old mid then : List Octets) (few : length old ≤ 65536) (reserved : (b : ℕ) → b < 2
+module _ (i p table : ℕ) (inode inode1 : Octets) (old mid then : List Octets) (few : length old ≤ most_blocks) (reserved : (b : ℕ) → b < bitmap_blocks (length old)
     → is_marked_used old b ≡ true) (is : i ≡ 1024 * p + 10) (named : NamesBlocks (indirect_for i) (inode_entry old inode) old)
     (zeros : TakesZeros table old mid) (double : AddsDouble p inode inode1 mid then) where
   count_is : indirect_for i ≡ p
@@ -201,7 +202,7 @@ module _ (i p table : ℕ) (inode inode1 : Octets) (old mid then : List Octets) 
   names : NamesBlocks p (inode_entry old inode) old
   names = subst (λ (n : ℕ). NamesBlocks n (inode_entry old inode) old) count_is named
 
-  few_mid : length mid ≤ 65536
+  few_mid : length mid ≤ most_blocks
   few_mid = omega (arith, few, zeros.count)
 
   mid_is : inode_entry mid inode ≡ inode_entry old inode
@@ -243,7 +244,7 @@ module _ (i p table : ℕ) (inode inode1 : Octets) (old mid then : List Octets) 
   ]
 
   -- what the next call requires
-  pub double_there : 0 < p → (2 ≤ number_at 56 4 inode1) × (number_at 56 4 inode1 < length then)
+  pub double_there : 0 < p → (bitmap_blocks (length then) ≤ number_at 56 4 inode1) × (number_at 56 4 inode1 < length then)
   double_there some = elim double.double [
     | inl stays ↦
         let taken = subst (IsTaken then) (sym stays.2)
@@ -305,8 +306,8 @@ module _ (i p table : ℕ) (inode inode1 : Octets) (old mid then : List Octets) 
     ]
 
     -- marks
-    mark_new : (b : ℕ) → b < 65536 → is_marked_used new b ≡ is_marked_used then b
-    mark_new = marks_same then new (puts.marks 0 (omega arith)) (puts.marks 1 (omega arith))
+    mark_new : (b : ℕ) → b < bitmap_bits (length old) → is_marked_used new b ≡ is_marked_used then b
+    mark_new = marks_same then new (bitmap_blocks (length old)) (λ t few_t. puts.marks t (omega (arith, few_t, double.count, zeros.count)))
 
     all_taken : TakesBlocks (double.doubles ++ table ∷ []) old new
     all_taken =
@@ -318,7 +319,7 @@ module _ (i p table : ℕ) (inode inode1 : Octets) (old mid then : List Octets) 
 
     from_then : (b : ℕ) → IsTaken then b → IsTaken new b
     from_then b taken = record {
-      some = taken.some;
+      some = omega (arith, taken.some, puts.count);
       there = omega (arith, taken.there, puts.count);
       marked = mark_new b (omega (arith, taken.there, few, zeros.count, double.count)) ∙ taken.marked;
     }
@@ -444,6 +445,6 @@ module _ (i p table : ℕ) (inode inode1 : Octets) (old mid then : List Octets) 
           ∙ ap (λ (n : ℕ). free_blocks old + with_double n) (sym count_is);
       blocks = λ b some apart second.
           let place : (i - 10) / 1024 ≡ p = omega (arith, is) in
-          puts.blocks b (λ same. apart (same ∙ sym double_is)) ∙ double.blocks b some (λ same. apart (same ∙ sym double_is))
+          puts.blocks b (λ same. apart (same ∙ sym double_is)) ∙ double.blocks b (omega (arith, some, zeros.count)) (λ same. apart (same ∙ sym double_is))
           ∙ zeros.blocks b some (λ same. second (same ∙ sym (ap (indirect_pointer f) place ∙ puts.here)));
     }

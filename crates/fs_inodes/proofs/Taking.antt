@@ -7,6 +7,7 @@ use Rattle.std.proofs.lemmas.List.Elements.{Contains-append_left, Contains-appen
 use Rattle.std.proofs.lemmas.Bool.{cases_Bool, cases_eq, cases_lt, false≢true}
 use Rattle.model.specs.Stream.{Octets}
 use Rattle.model.specs.Files.{is_marked_used}
+use Rattle.model.specs.Files.{bitmap_bits, bitmap_blocks, most_blocks}
 use Rattle.fs_inodes.specs.Growing.{IsTaken, TakesBlocks, TakesZeros}
 use Rattle.fs_layout.specs.Marks.{NoneFreeBelow, TakesBlock}
 use Rattle.fs_layout.proofs.Keeps.{marks_same}
@@ -15,7 +16,7 @@ use Rattle.model.proofs.Distinct.{distinct_append, distinct_none, distinct_one}
 use Rattle.fs_layout.proofs.Touching.{one_number}
 use Rattle.fs_inodes.proofs.Owners.{contained}
 
-pub takes_one : (number : ℕ) (old mid : List Octets) → length old ≤ 65536 → TakesBlock number old mid → TakesBlocks (number ∷ []) old mid
+pub takes_one : (number : ℕ) (old mid : List Octets) → length old ≤ most_blocks → TakesBlock number old mid → TakesBlocks (number ∷ []) old mid
 takes_one number old mid few first = record {
   free = λ b has. let is = one_number number b has in
       (omega (arith, first.lowest.below), ap (λ (n : ℕ). is_marked_used old n) is ∙ first.lowest.free);
@@ -33,7 +34,7 @@ takes_one number old mid few first = record {
     ]
   ];
   distinct = distinct_one number;
-  fewer = one_less_free number old mid few first;
+  fewer = one_less_free number old mid first;
 }
 
 -- no block is taken
@@ -48,7 +49,7 @@ takes_none old = record {
 }
 
 -- what was marked stays marked
-pub takes_keep : (fresh : List ℕ) (old new : List Octets) → TakesBlocks fresh old new → (b : ℕ) → b < 65536 → is_marked_used old b ≡ true
+pub takes_keep : (fresh : List ℕ) (old new : List Octets) → TakesBlocks fresh old new → (b : ℕ) → b < bitmap_bits (length old) → is_marked_used old b ≡ true
     → is_marked_used new b ≡ true
 takes_keep fresh old new takes b small marked = elim (contained fresh b) [
   | inl has ↦ takes.marked b has
@@ -56,7 +57,7 @@ takes_keep fresh old new takes b small marked = elim (contained fresh b) [
 ]
 
 -- some blocks, and then others
-pub takes_both : (xs ys : List ℕ) (old mid new : List Octets) → length old ≤ 65536 → length mid ≡ length old → length new ≡ length mid
+pub takes_both : (xs ys : List ℕ) (old mid new : List Octets) → length old ≤ most_blocks → length mid ≡ length old → length new ≡ length mid
     → TakesBlocks xs old mid → TakesBlocks ys mid new → TakesBlocks (ys ++ xs) old new
 takes_both xs ys old mid new few count_mid count first second = record {
   free = λ b has. elim (Contains-append_cases ys xs b has) [
@@ -69,9 +70,9 @@ takes_both xs ys old mid new few count_mid count first second = record {
   ];
   marked = λ b has. elim (Contains-append_cases ys xs b has) [
     | inl later ↦ second.marked b later
-    | inr before ↦ takes_keep ys mid new second b (omega (arith, few, (first.free b before).0)) (first.marked b before)
+    | inr before ↦ takes_keep ys mid new second b (omega (arith, count_mid, (first.free b before).0)) (first.marked b before)
   ];
-  other = λ b small_b lacks. second.other b small_b (λ has. lacks (Contains-append_left ys xs b has))
+  other = λ b small_b lacks. second.other b (omega (arith, small_b, count_mid)) (λ has. lacks (Contains-append_left ys xs b has))
       ∙ first.other b small_b (λ has. lacks (Contains-append_right ys xs b has));
   lowest = λ b c low_b low_c was now free.
       let c_free : is_marked_used mid c ≡ false = (elim (cases_Bool (is_marked_used mid c)) [
@@ -86,15 +87,15 @@ takes_both xs ys old mid new few count_mid count first second = record {
   fewer = omega (arith, length-append ys xs, first.fewer, second.fewer);
 }
   where
-    small : (b : ℕ) → Contains ys b → b < 65536
+    small : (b : ℕ) → Contains ys b → b < bitmap_bits (length old)
     small b later = omega (arith, few, count_mid, (second.free b later).0)
 
     not_first : (b : ℕ) → Contains ys b → ¬ (Contains xs b)
     not_first b later before = false≢true (sym (second.free b later).1 ∙ first.marked b before)
 
 -- blocks after the bitmap change
-pub takes_then : (fresh : List ℕ) (old mid new : List Octets) → length old ≤ 65536 → length mid ≡ length old → length new ≡ length mid
-    → ((b : ℕ) → b < 65536 → is_marked_used new b ≡ is_marked_used mid b) → TakesBlocks fresh old mid → TakesBlocks fresh old new
+pub takes_then : (fresh : List ℕ) (old mid new : List Octets) → length old ≤ most_blocks → length mid ≡ length old → length new ≡ length mid
+    → ((b : ℕ) → b < bitmap_bits (length old) → is_marked_used new b ≡ is_marked_used mid b) → TakesBlocks fresh old mid → TakesBlocks fresh old new
 takes_then fresh old mid new few count_mid count same takes = record {
   free = takes.free;
   marked = λ b has. same b (omega (arith, few, (takes.free b has).0)) ∙ takes.marked b has;
@@ -108,31 +109,31 @@ takes_then fresh old mid new few count_mid count same takes = record {
 }
 
 -- still no block below this number is free
-pub none_still : (n : ℕ) (fresh : List ℕ) (old new : List Octets) → length old ≤ 65536 → length new ≡ length old → TakesBlocks fresh old new
+pub none_still : (n : ℕ) (fresh : List ℕ) (old new : List Octets) → length old ≤ most_blocks → length new ≡ length old → TakesBlocks fresh old new
     → NoneFreeBelow n old → NoneFreeBelow n new
 none_still n fresh old new few count takes none b less low =
     takes_keep fresh old new takes b (omega (arith, few, count, low)) (none b less (omega (arith, count, low)))
 
 -- no block of the bitmap is free
-pub taken_past : (fresh : List ℕ) (old new : List Octets) → TakesBlocks fresh old new → ((b : ℕ) → b < 2 → is_marked_used old b ≡ true)
-    → (b : ℕ) → Contains fresh b → 2 ≤ b
-taken_past fresh old new takes reserved b has = elim (cases_lt b 2) [
+pub taken_past : (fresh : List ℕ) (old new : List Octets) → TakesBlocks fresh old new → ((b : ℕ) → b < bitmap_blocks (length old) → is_marked_used old b ≡ true)
+    → (b : ℕ) → Contains fresh b → bitmap_blocks (length old) ≤ b
+taken_past fresh old new takes reserved b has = elim (cases_lt b (bitmap_blocks (length old))) [
   | inr past ↦ past
   | inl low ↦ absurd (false≢true (sym (takes.free b has).1 ∙ reserved b low))
 ]
 
 pub fresh_taken : (number : ℕ) (old new : List Octets) → length new ≡ length old → TakesBlocks (number ∷ []) old new
-    → ((b : ℕ) → b < 2 → is_marked_used old b ≡ true) → IsTaken new number
+    → ((b : ℕ) → b < bitmap_blocks (length old) → is_marked_used old b ≡ true) → IsTaken new number
 fresh_taken number old new count takes reserved = record {
-  some = taken_past (number ∷ []) old new takes reserved number (0, omega arith, refl);
+  some = omega (arith, count, taken_past (number ∷ []) old new takes reserved number (0, omega arith, refl));
   there = omega (arith, count, (takes.free number (0, omega arith, refl)).0);
   marked = takes.marked number (0, omega arith, refl);
 }
 
-pub taken_still : (fresh : List ℕ) (old new : List Octets) → length old ≤ 65536 → length new ≡ length old → TakesBlocks fresh old new
+pub taken_still : (fresh : List ℕ) (old new : List Octets) → length old ≤ most_blocks → length new ≡ length old → TakesBlocks fresh old new
     → (b : ℕ) → IsTaken old b → IsTaken new b
 taken_still fresh old new few count takes b taken = record {
-  some = taken.some;
+  some = omega (arith, taken.some, count);
   there = omega (arith, count, taken.there);
   marked = takes_keep fresh old new takes b (omega (arith, few, taken.there)) taken.marked;
 }
@@ -144,14 +145,14 @@ fresh_apart fresh old new takes b c has taken same =
     false≢true (sym (takes.free b has).1 ∙ ap (λ (n : ℕ). is_marked_used old n) (sym same) ∙ taken.marked)
 
 -- the block that is taken gets zeros
-pub takes_zeros : (number : ℕ) (old mid : List Octets) → length old ≤ 65536 → TakesBlock number old mid
-    → ((b : ℕ) → b < 2 → is_marked_used old b ≡ true) → TakesZeros number old (set mid number (replicate 4096 0))
+pub takes_zeros : (number : ℕ) (old mid : List Octets) → length old ≤ most_blocks → TakesBlock number old mid
+    → ((b : ℕ) → b < bitmap_blocks (length old) → is_marked_used old b ≡ true) → TakesZeros number old (set mid number (replicate 4096 0))
 takes_zeros number old mid few taken reserved = record {
   count = length-set mid number (replicate 4096 0) ∙ taken.sets.count;
   whole = λ all. All-set (λ b. length b ≡ 4096) mid number (replicate 4096 0) (length-replicate {A = ℕ} 4096 0) (taken.sets.whole all);
   takes = takes_then (number ∷ []) old mid (set mid number (replicate 4096 0)) few taken.sets.count
       (length-set mid number (replicate 4096 0))
-      (marks_same mid (set mid number (replicate 4096 0)) (untouched 0 (omega arith)) (untouched 1 (omega arith))) one;
+      (marks_same mid (set mid number (replicate 4096 0)) (bitmap_blocks (length old)) untouched) one;
   zeros = get_or-set_same mid number (replicate 4096 0) [] (omega (arith, taken.sets.count, taken.lowest.below));
   blocks = λ b some other. get_or-set_other mid number b (replicate 4096 0) [] other ∙ taken.sets.blocks b some;
 }
@@ -159,8 +160,8 @@ takes_zeros number old mid few taken reserved = record {
     one : TakesBlocks (number ∷ []) old mid
     one = takes_one number old mid few taken
 
-    past : 2 ≤ number
+    past : bitmap_blocks (length old) ≤ number
     past = taken_past (number ∷ []) old mid one reserved number (0, omega arith, refl)
 
-    untouched : (b : ℕ) → b < 2 → get_or (set mid number (replicate 4096 0)) b [] ≡ get_or mid b []
+    untouched : (b : ℕ) → b < bitmap_blocks (length old) → get_or (set mid number (replicate 4096 0)) b [] ≡ get_or mid b []
     untouched b low = get_or-set_other mid number b (replicate 4096 0) [] (λ same. absurd (omega (arith, past, low, same)))

@@ -12,6 +12,8 @@ use Rattle.octet_numbers.proofs.Numbers.{number_at_apart, number_at_written}
 use Rattle.model.specs.Stream.{Octets}
 use Rattle.model.specs.Volume.{number_at}
 use Rattle.model.specs.Files.{FileEntry, double_blocks, indirect_for, indirect_of, indirect_pointer, pointer, is_marked_used}
+use Rattle.model.specs.Files.{bitmap_blocks}
+use Rattle.model.specs.Files.{bitmap_bits, most_blocks}
 use Rattle.model.proofs.Formats.{none_number, no_block}
 use Rattle.fs_inodes.specs.Growing.{IsTaken, NamesBlocks, PutsIndirect, PutsPointer, inode_entry, tables_to}
 use Rattle.fs_inodes.specs.Shrinking.{DropsPointer, DropsTable}
@@ -23,7 +25,7 @@ use Rattle.fs_inodes.proofs.Tables.{entry_stays, map_same_below, table_taken}
 
 -- ---- a block of pointers is dropped
 
-module _ (p : ℕ) (inode : Octets) (old mid : List Octets) (few : length old ≤ 65536) (size : length inode ≡ 64)
+module _ (p : ℕ) (inode : Octets) (old mid : List Octets) (few : length old ≤ most_blocks) (size : length inode ≡ 64)
     (names : NamesBlocks (p + 1) (inode_entry old inode) old)
     (first : SetsMark (indirect_pointer (inode_entry old inode) p) false old mid) where
   abbrev e : FileEntry
@@ -35,8 +37,8 @@ module _ (p : ℕ) (inode : Octets) (old mid : List Octets) (few : length old �
   taken : IsTaken old (indirect_pointer e p)
   taken = names.there p (omega arith)
 
-  pub double_there : 0 < p → (2 ≤ number_at 56 4 inode) × (number_at 56 4 inode < length mid)
-  double_there some = let double = names.double (omega (arith, some)) in (double.some, omega (arith, double.there, first.count))
+  pub double_there : 0 < p → (bitmap_blocks (length mid) ≤ number_at 56 4 inode) × (number_at 56 4 inode < length mid)
+  double_there some = let double = names.double (omega (arith, some)) in (omega (arith, double.some, first.count), omega (arith, double.there, first.count))
 
   pub double_apart : 0 < p → (q : ℕ) → q ≢ p → indirect_pointer (inode_entry mid inode) q ≢ number_at 56 4 inode
   double_apart some q other same = elim (cases_lt q (p + 1)) [
@@ -50,8 +52,8 @@ module _ (p : ℕ) (inode : Octets) (old mid : List Octets) (few : length old �
 
   -- the double-indirect block is not dropped
   module _ (inode' : Octets) (new : List Octets) (not_one : p ≢ 1) (puts : PutsIndirect p 0 inode inode' mid new) where
-    mark_new : (b : ℕ) → b < 65536 → is_marked_used new b ≡ is_marked_used mid b
-    mark_new = marks_same mid new (puts.marks 0 (omega arith)) (puts.marks 1 (omega arith))
+    mark_new : (b : ℕ) → b < bitmap_bits (length old) → is_marked_used new b ≡ is_marked_used mid b
+    mark_new = marks_same mid new (bitmap_blocks (length old)) (λ t few_t. puts.marks t (omega (arith, few_t, first.count)))
 
     pub drops_table : DropsTable p inode inode' old new
     drops_table = record {
@@ -115,7 +117,7 @@ module _ (p : ℕ) (inode : Octets) (old mid : List Octets) (few : length old �
       octets = λ q other.
           ap (indirect_of then) (same_number q other)
           ∙ indirect_same old then (indirect_pointer e q) (λ named. let some = (table_taken (p + 1) e old names q named).some in
-          second.blocks (indirect_pointer e q) some ∙ first.blocks (indirect_pointer e q) some);
+          second.blocks (indirect_pointer e q) (omega (arith, some, first.count)) ∙ first.blocks (indirect_pointer e q) some);
       doubles = number_at 56 4 inode ∷ [];
       double = inr (one, refl, zeroed);
       gives_up = record {
@@ -123,14 +125,14 @@ module _ (p : ℕ) (inode : Octets) (old mid : List Octets) (few : length old �
           | inl double ↦ ap (λ (n : ℕ). is_marked_used then n) (one_number (number_at 56 4 inode) b double) ∙ second.here
           | inr table ↦
               let is = one_number (indirect_pointer e p) b table in
-              second.other b (omega (arith, is, taken.there, few)) (λ same. names.apart p (omega arith) (sym is ∙ same))
+              second.other b (omega (arith, is, taken.there, few, first.count)) (λ same. names.apart p (omega arith) (sym is ∙ same))
               ∙ ap (λ (n : ℕ). is_marked_used mid n) is ∙ first.here
         ];
         other = λ b small lacks.
-            second.other b small (λ is. lacks (0, omega arith, sym is))
+            second.other b (omega (arith, small, first.count)) (λ is. lacks (0, omega arith, sym is))
             ∙ first.other b small (λ is. lacks (1, omega arith, sym is));
       };
-      blocks = λ b some apart. second.blocks b some ∙ first.blocks b some;
+      blocks = λ b some apart. second.blocks b (omega (arith, some, first.count)) ∙ first.blocks b some;
     }
 
 -- ---- the last pointer is dropped
@@ -173,7 +175,7 @@ module _ (i : ℕ) (inode inode' : Octets) (old new : List Octets)
           ∙ sym (append-nil (tables_to now (indirect_for i)));
       gives_up = record {
         free = λ b has. absurd (omega (arith, has.1));
-        other = λ b small lacks. marks_same old new (puts.marks 0 (omega arith)) (puts.marks 1 (omega arith)) b small;
+        other = λ b small lacks. marks_same old new (bitmap_blocks (length old)) (λ t few_t. puts.marks t few_t) b small;
       };
       blocks = λ b some apart second. puts.blocks b second;
     }

@@ -6,6 +6,7 @@ use Rattle.disk.specs.Image.{overwritten}
 use Rattle.model.specs.Stream.{Octets}
 use Rattle.model.specs.Volume.{number_at, AreDistinct}
 use Rattle.model.specs.Files.{FileEntry, double_blocks, double_pointer, entry_of, indirect_for, indirect_pointer, pointer, table}
+use Rattle.model.specs.Files.{bitmap_bits, bitmap_blocks}
 use Rattle.model.specs.Files.{is_marked_used, free_blocks, largest_file, most_octets}
 pub use Rattle.model.specs.Room.{blocks_for}
 use Rattle.fs_layout.specs.Table.{IsFileAt, Makes}
@@ -42,7 +43,7 @@ pub record PutsPointer (i number : ℕ) (inode inode' : Octets) (old new : List 
   pub indirect : (p : ℕ) → indirect_pointer (inode_entry new inode') p ≡ indirect_pointer (inode_entry old inode) p
   pub head : (a w : ℕ) → a + w ≤ 12 → number_at a w inode' ≡ number_at a w inode
   pub tail : (a w : ℕ) → 52 ≤ a → number_at a w inode' ≡ number_at a w inode
-  pub marks : (b : ℕ) → b < 2 → slice_index_or new b [] ≡ slice_index_or old b []
+  pub marks : (b : ℕ) → b < bitmap_blocks (length old) → slice_index_or new b [] ≡ slice_index_or old b []
   pub blocks : (b : ℕ) → b ≢ indirect_pointer (inode_entry old inode) ((i - 10) / 1024) → slice_index_or new b [] ≡ slice_index_or old b []
 
 -- the number of an inode's p-th block of pointers becomes this one, in the inode or in the double-indirect block, and
@@ -56,7 +57,7 @@ pub record PutsIndirect (p number : ℕ) (inode inode' : Octets) (old new : List
   pub octets : (q : ℕ) → q ≢ p → (inode_entry new inode').pointers q ≡ (inode_entry old inode).pointers q
   pub head : (a w : ℕ) → a + w ≤ 52 → number_at a w inode' ≡ number_at a w inode
   pub tail : (a w : ℕ) → 56 ≤ a → number_at a w inode' ≡ number_at a w inode
-  pub marks : (b : ℕ) → b < 2 → slice_index_or new b [] ≡ slice_index_or old b []
+  pub marks : (b : ℕ) → b < bitmap_blocks (length old) → slice_index_or new b [] ≡ slice_index_or old b []
   pub blocks : (b : ℕ) → b ≢ double_pointer (inode_entry old inode) → slice_index_or new b [] ≡ slice_index_or old b []
 
 -- the number of blocks that name blocks in a file with this many blocks of pointers
@@ -69,7 +70,7 @@ with_indirect count = count + with_double (indirect_for count)
 
 -- a marked block after those of the bitmap
 pub record IsTaken (blocks : List Octets) (b : ℕ) : Type 0 where
-  pub some : 2 ≤ b
+  pub some : bitmap_blocks (length blocks) ≤ b
   pub there : b < length blocks
   pub marked : is_marked_used blocks b ≡ true
 
@@ -97,7 +98,7 @@ TakesLowest old new =
 pub record TakesBlocks (fresh : List ℕ) (old new : List Octets) : Type 0 where
   pub free : (b : ℕ) → Contains fresh b → (b < length old) × (is_marked_used old b ≡ false)
   pub marked : (b : ℕ) → Contains fresh b → is_marked_used new b ≡ true
-  pub other : (b : ℕ) → b < 65536 → ¬ (Contains fresh b) → is_marked_used new b ≡ is_marked_used old b
+  pub other : (b : ℕ) → b < bitmap_bits (length old) → ¬ (Contains fresh b) → is_marked_used new b ≡ is_marked_used old b
   pub lowest : TakesLowest old new
   pub distinct : AreDistinct fresh
   pub fewer : free_blocks new + length fresh ≡ free_blocks old
@@ -108,7 +109,7 @@ pub record TakesZeros (number : ℕ) (old new : List Octets) : Type 0 where
   pub whole : All (λ b. length b ≡ 4096) old → All (λ b. length b ≡ 4096) new
   pub takes : TakesBlocks (number ∷ []) old new
   pub zeros : slice_index_or new number [] ≡ replicate 4096 0
-  pub blocks : (b : ℕ) → 2 ≤ b → b ≢ number → slice_index_or new b [] ≡ slice_index_or old b []
+  pub blocks : (b : ℕ) → bitmap_blocks (length old) ≤ b → b ≢ number → slice_index_or new b [] ≡ slice_index_or old b []
 
 -- before an inode gets its p-th block of pointers, it gets its double-indirect block if the p-th is the first to need
 -- that
@@ -124,7 +125,7 @@ pub record AddsDouble (p : ℕ) (inode inode' : Octets) (old new : List Octets) 
   pub double : ((p ≢ 1) × (doubles ≡ []) × (number_at 56 4 inode' ≡ number_at 56 4 inode))
       ⊎ ((p ≡ 1) × (doubles ≡ number_at 56 4 inode' ∷ []) × IsTaken new (number_at 56 4 inode'))
   pub takes : TakesBlocks doubles old new
-  pub blocks : (b : ℕ) → 2 ≤ b → b ≢ number_at 56 4 inode' → slice_index_or new b [] ≡ slice_index_or old b []
+  pub blocks : (b : ℕ) → bitmap_blocks (length old) ≤ b → b ≢ number_at 56 4 inode' → slice_index_or new b [] ≡ slice_index_or old b []
 
 -- an inode gets the blocks of pointers that its i-th block is the first to need, or none
 pub record AddsTable (i : ℕ) (inode inode' : Octets) (old new : List Octets) : Type 0 where
@@ -145,7 +146,7 @@ pub record AddsTable (i : ℕ) (inode inode' : Octets) (old new : List Octets) :
   pub tables_are : tables_to (inode_entry new inode') (indirect_for (i + 1)) ≡ tables_to (inode_entry old inode) (indirect_for i) ++ tables
   pub takes : TakesBlocks (doubles ++ tables) old new
   pub fewer : free_blocks new + with_double (indirect_for (i + 1)) ≡ free_blocks old + with_double (indirect_for i)
-  pub blocks : (b : ℕ) → 2 ≤ b → b ≢ double_pointer (inode_entry new inode')
+  pub blocks : (b : ℕ) → bitmap_blocks (length old) ≤ b → b ≢ double_pointer (inode_entry new inode')
       → b ≢ indirect_pointer (inode_entry new inode') ((i - 10) / 1024)
       → slice_index_or new b [] ≡ slice_index_or old b []
 
@@ -169,7 +170,7 @@ pub record AddsBlock (i number : ℕ) (inode inode' : Octets) (old new : List Oc
   pub tables_are : tables_to (inode_entry new inode') (indirect_for (i + 1)) ≡ tables_to (inode_entry old inode) (indirect_for i) ++ tables
   pub takes : TakesBlocks (doubles ++ (tables ++ number ∷ [])) old new
   pub fewer : free_blocks new + with_indirect (i + 1) ≡ free_blocks old + with_indirect i
-  pub blocks : (b : ℕ) → 2 ≤ b → b ≢ double_pointer (inode_entry new inode')
+  pub blocks : (b : ℕ) → bitmap_blocks (length old) ≤ b → b ≢ double_pointer (inode_entry new inode')
       → b ≢ indirect_pointer (inode_entry new inode') ((i - 10) / 1024)
       → slice_index_or new b [] ≡ slice_index_or old b []
 
@@ -184,7 +185,7 @@ pub record PutsPiece (number within : ℕ) (piece : Octets) (old new : List Octe
 
 -- no block is freed
 abbrev pub KeepsMarks : List Octets → List Octets → Type 0
-KeepsMarks old new = (b : ℕ) → b < 65536 → is_marked_used old b ≡ true → is_marked_used new b ≡ true
+KeepsMarks old new = (b : ℕ) → b < bitmap_bits (length old) → is_marked_used old b ≡ true → is_marked_used new b ≡ true
 
 -- these octets are appended to the file of inode k, and no other file changes
 pub record GrowsBy (inodes k : ℕ) (octets : Octets) (old new : List Octets) : Type 0 where

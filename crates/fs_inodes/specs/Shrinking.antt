@@ -4,12 +4,13 @@ use Rattle.std.specs.List.{All, Contains}
 use Rattle.model.specs.Stream.{Octets}
 use Rattle.model.specs.Volume.{number_at}
 use Rattle.model.specs.Files.{double_blocks, double_pointer, indirect_for, indirect_pointer, pointer, is_marked_used}
+use Rattle.model.specs.Files.{bitmap_bits, bitmap_blocks}
 use Rattle.fs_inodes.specs.Growing.{inode_entry, tables_to}
 
 -- these blocks are no longer marked, and no other mark changes
 pub record GivesUp (gone : List ℕ) (old new : List Octets) : Type 0 where
   pub free : (b : ℕ) → Contains gone b → is_marked_used new b ≡ false
-  pub other : (b : ℕ) → b < 65536 → ¬ (Contains gone b) → is_marked_used new b ≡ is_marked_used old b
+  pub other : (b : ℕ) → b < bitmap_bits (length old) → ¬ (Contains gone b) → is_marked_used new b ≡ is_marked_used old b
 
 -- an inode loses its p-th block of pointers, which is the last, and the double-indirect block if that names no other
 pub record DropsTable (p : ℕ) (inode inode' : Octets) (old new : List Octets) : Type 0 where
@@ -25,7 +26,7 @@ pub record DropsTable (p : ℕ) (inode inode' : Octets) (old new : List Octets) 
   pub double : ((p ≢ 1) × (doubles ≡ []) × (number_at 56 4 inode' ≡ number_at 56 4 inode))
       ⊎ ((p ≡ 1) × (doubles ≡ number_at 56 4 inode ∷ []) × (number_at 56 4 inode' ≡ 0))
   pub gives_up : GivesUp (doubles ++ indirect_pointer (inode_entry old inode) p ∷ []) old new
-  pub blocks : (b : ℕ) → 2 ≤ b → b ≢ number_at 56 4 inode → slice_index_or new b [] ≡ slice_index_or old b []
+  pub blocks : (b : ℕ) → bitmap_blocks (length old) ≤ b → b ≢ number_at 56 4 inode → slice_index_or new b [] ≡ slice_index_or old b []
 
 -- an inode loses its i-th pointer, which is the last, and the blocks of pointers that only that pointer needed
 pub record DropsPointer (i : ℕ) (inode inode' : Octets) (old new : List Octets) : Type 0 where
@@ -45,5 +46,5 @@ pub record DropsPointer (i : ℕ) (inode inode' : Octets) (old new : List Octets
   pub tables : List ℕ
   pub tables_are : tables_to (inode_entry old inode) (indirect_for (i + 1)) ≡ tables_to (inode_entry new inode') (indirect_for i) ++ tables
   pub gives_up : GivesUp (doubles ++ tables) old new
-  pub blocks : (b : ℕ) → 2 ≤ b → b ≢ double_pointer (inode_entry old inode) → b ≢ indirect_pointer (inode_entry old inode) ((i - 10) / 1024)
+  pub blocks : (b : ℕ) → bitmap_blocks (length old) ≤ b → b ≢ double_pointer (inode_entry old inode) → b ≢ indirect_pointer (inode_entry old inode) ((i - 10) / 1024)
       → slice_index_or new b [] ≡ slice_index_or old b []

@@ -4,6 +4,7 @@ ghost use Rattle.std.specs.Prelude.{◌≡◌, ◌≢◌, ℕ, ◌+◌, ◌-◌,
 ghost use Rattle.model.specs.Volume.{number_at};
 ghost use Rattle.fs_layout.specs.Blocks.{IsThere};
 ghost use Rattle.model.specs.Files.{HasRoom, IsFileSystem, IsFile, entry, indirect_for, indirect_pointer, size, is_marked_used};
+ghost use Rattle.model.specs.Files.{bitmap_blocks, most_blocks};
 ghost use Rattle.model.specs.Files.{free_blocks};
 ghost use Rattle.model.specs.Room.{content_blocks};
 ghost use Rattle.fs_layout.specs.Marks.{NoneFreeBelow};
@@ -15,11 +16,11 @@ use crate::pieces::{put_number, put_piece};
 use crate::room::blocks_more;
 use blocks::{BLOCK_SIZE, Blocks};
 use fs_layout::inodes::{
-    BLOCK_POINTERS, DIRECT_POINTERS, DOUBLE_AT, INDIRECT_AT, INODES_AT, POINTERS_AT, SIZE_AT,
-    indirect_at, pointer_at, size_of,
+    BLOCK_POINTERS, DIRECT_POINTERS, DOUBLE_AT, INDIRECT_AT, POINTERS_AT, SIZE_AT, indirect_at,
+    pointer_at, size_of,
 };
 use fs_layout::marks::take_block;
-use fs_layout::records::{RECORD_SIZE, get_record, put_record};
+use fs_layout::records::{RECORD_SIZE, get_inode, put_inode};
 use octet_numbers::{number32, number64, put32, put64};
 use std::alloc::AllocError;
 
@@ -31,9 +32,9 @@ pub(crate) fn put_pointer<B: Blocks>(
     number: u32,
 ) -> Result<(), AllocError>
     requires whole { length inode.old ≡ 64 }
-    requires few { i < 65536 }
+    requires few { i < 1048576 }
     requires double { 1034 ≤ i → IsThere (number_at 56 4 inode.old) (B.blocks blocks.old) }
-    requires indirect { 10 ≤ i → (2 ≤ indirect_pointer (inode_entry (B.blocks blocks.old) inode.old) ((i - 10) / 1024))
+    requires indirect { 10 ≤ i → (bitmap_blocks (length (B.blocks blocks.old)) ≤ indirect_pointer (inode_entry (B.blocks blocks.old) inode.old) ((i - 10) / 1024))
         × (indirect_pointer (inode_entry (B.blocks blocks.old) inode.old) ((i - 10) / 1024) < length (B.blocks blocks.old)) }
     requires apart { 10 ≤ i → IsApart ((i - 10) / 1024) (inode_entry (B.blocks blocks.old) inode.old) }
     ensures done { OnOk result (PutsPointer i number inode.old inode.new (B.blocks blocks.old) (B.blocks blocks.new)) }
@@ -58,7 +59,7 @@ pub(crate) fn put_indirect<B: Blocks>(
 ) -> Result<(), AllocError>
     requires whole { length inode.old ≡ 64 }
     requires few { p < 1025 }
-    requires double { 0 < p → (2 ≤ number_at 56 4 inode.old) × (number_at 56 4 inode.old < length (B.blocks blocks.old)) }
+    requires double { 0 < p → (bitmap_blocks (length (B.blocks blocks.old)) ≤ number_at 56 4 inode.old) × (number_at 56 4 inode.old < length (B.blocks blocks.old)) }
     requires apart { 0 < p → (q : ℕ) → q ≢ p → indirect_pointer (inode_entry (B.blocks blocks.old) inode.old) q ≢ number_at 56 4 inode.old }
     ensures done { OnOk result (PutsIndirect p number inode.old inode.new (B.blocks blocks.old) (B.blocks blocks.new)) }
     ensures kept { B.applied blocks.new ≡ B.applied blocks.old }
@@ -74,8 +75,8 @@ pub(crate) fn put_indirect<B: Blocks>(
 // Takes a free block, and fills it with zeros. No block below `from` is free.
 fn take_zeros<B: Blocks>(blocks: &mut B, from: u32) -> Result<u32, AllocError>
     requires some { 2 ≤ length (B.blocks blocks.old) }
-    requires count_few { length (B.blocks blocks.old) ≤ 65536 }
-    requires reserved { (b : ℕ) → b < 2 → is_marked_used (B.blocks blocks.old) b ≡ true }
+    requires count_few { length (B.blocks blocks.old) ≤ most_blocks }
+    requires reserved { (b : ℕ) → b < bitmap_blocks (length (B.blocks blocks.old)) → is_marked_used (B.blocks blocks.old) b ≡ true }
     requires free { 0 < free_blocks (B.blocks blocks.old) }
     requires none { NoneFreeBelow from (B.blocks blocks.old) }
     ensures done { IfOk result (λ number. TakesZeros number (B.blocks blocks.old) (B.blocks blocks.new)) }
@@ -96,8 +97,8 @@ fn add_double<B: Blocks>(
 ) -> Result<(), AllocError>
     requires whole { length inode.old ≡ 64 }
     requires some { 2 ≤ length (B.blocks blocks.old) }
-    requires count_few { length (B.blocks blocks.old) ≤ 65536 }
-    requires reserved { (b : ℕ) → b < 2 → is_marked_used (B.blocks blocks.old) b ≡ true }
+    requires count_few { length (B.blocks blocks.old) ≤ most_blocks }
+    requires reserved { (b : ℕ) → b < bitmap_blocks (length (B.blocks blocks.old)) → is_marked_used (B.blocks blocks.old) b ≡ true }
     requires names { NamesBlocks p (inode_entry (B.blocks blocks.old) inode.old) (B.blocks blocks.old) }
     requires free { p ≡ 1 → 0 < free_blocks (B.blocks blocks.old) }
     requires none { NoneFreeBelow from (B.blocks blocks.old) }
@@ -121,10 +122,10 @@ fn add_table<B: Blocks>(
     i: u32,
 ) -> Result<(), AllocError>
     requires whole { length inode.old ≡ 64 }
-    requires few { i < 65536 }
+    requires few { i < 1048576 }
     requires some { 2 ≤ length (B.blocks blocks.old) }
-    requires count_few { length (B.blocks blocks.old) ≤ 65536 }
-    requires reserved { (b : ℕ) → b < 2 → is_marked_used (B.blocks blocks.old) b ≡ true }
+    requires count_few { length (B.blocks blocks.old) ≤ most_blocks }
+    requires reserved { (b : ℕ) → b < bitmap_blocks (length (B.blocks blocks.old)) → is_marked_used (B.blocks blocks.old) b ≡ true }
     requires names { NamesBlocks (indirect_for i) (inode_entry (B.blocks blocks.old) inode.old) (B.blocks blocks.old) }
     requires free { with_double (indirect_for (i + 1)) ≤ free_blocks (B.blocks blocks.old) + with_double (indirect_for i) }
     requires none { NoneFreeBelow from (B.blocks blocks.old) }
@@ -149,10 +150,10 @@ fn add_block<B: Blocks>(
     i: u32,
 ) -> Result<u32, AllocError>
     requires whole { length inode.old ≡ 64 }
-    requires few { i < 65536 }
+    requires few { i < 1048576 }
     requires some { 2 ≤ length (B.blocks blocks.old) }
-    requires count_few { length (B.blocks blocks.old) ≤ 65536 }
-    requires reserved { (b : ℕ) → b < 2 → is_marked_used (B.blocks blocks.old) b ≡ true }
+    requires count_few { length (B.blocks blocks.old) ≤ most_blocks }
+    requires reserved { (b : ℕ) → b < bitmap_blocks (length (B.blocks blocks.old)) → is_marked_used (B.blocks blocks.old) b ≡ true }
     requires names { NamesBlocks (indirect_for i) (inode_entry (B.blocks blocks.old) inode.old) (B.blocks blocks.old) }
     requires free { with_indirect (i + 1) ≤ free_blocks (B.blocks blocks.old) + with_indirect i }
     requires none { NoneFreeBelow from (B.blocks blocks.old) }
@@ -190,7 +191,7 @@ fn add_piece<B: Blocks>(
     ensures kept { B.applied blocks.new ≡ B.applied blocks.old }
 {
     let mut inode = [0; RECORD_SIZE];
-    get_record(blocks, INODES_AT, at, &mut inode);
+    get_inode(blocks, at, &mut inode);
     let size = number64(&inode, SIZE_AT);
     let i = (size / BLOCK_SIZE as u64) as u32;
     let within = (size % BLOCK_SIZE as u64) as usize;
@@ -201,7 +202,7 @@ fn add_piece<B: Blocks>(
     };
     put_piece(blocks, number, within, piece)?;
     put64(&mut inode, SIZE_AT, size + piece.len() as u64);
-    put_record(blocks, INODES_AT, at, &inode)
+    put_inode(blocks, at, &inode)
 }
 
 /// Appends octets to the file of an inode, which must have room for them, and answers how many blocks that took. The

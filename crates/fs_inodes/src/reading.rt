@@ -4,8 +4,8 @@ ghost use Rattle.std.specs.Prelude.{◌≡◌, ◌-◌, ◌%◌, ◌<◌, ◌++�
 ghost use Rattle.model.specs.Files.{HasRoom, IsFileSystem, IsFile, entry, content_of};
 
 use blocks::{BLOCK_SIZE, Blocks};
-use fs_layout::inodes::{INODES_AT, SIZE_AT, pointer_at, size_of};
-use fs_layout::records::{RECORD_SIZE, get_record};
+use fs_layout::inodes::{SIZE_AT, pointer_at, size_of};
+use fs_layout::records::{RECORD_SIZE, get_inode};
 use octet_numbers::number64;
 use std::alloc::{AllocError, Global};
 
@@ -20,7 +20,7 @@ pub fn piece<B: Blocks>(blocks: &B, inodes: u32, at: u32, place: u64, count: u64
         (drop place (content_of (B.blocks blocks.now) (entry inodes (B.blocks blocks.now) at))) }
 {
     let mut inode = [0; RECORD_SIZE];
-    get_record(blocks, INODES_AT, at, &mut inode);
+    get_inode(blocks, at, &mut inode);
     let size = number64(&inode, SIZE_AT);
     if size <= place {
         return &[];

@@ -23,7 +23,7 @@ fn owned_blocks(size: u64) -> u64
 
 // The number of blocks of pointers of a file whose octets take this many blocks.
 fn indirect_blocks(count: u32) -> u32
-    requires { count ≤ 65536 }
+    requires { count ≤ 1048575 }
     ensures { result ≡ indirect_for count }
 {
     (count + BLOCK_POINTERS - 1 - DIRECT_POINTERS) / BLOCK_POINTERS

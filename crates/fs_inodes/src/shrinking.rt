@@ -2,6 +2,7 @@
 
 ghost use Rattle.std.specs.Prelude.{◌≡◌, ℕ, ◌+◌, ◌*◌, ◌/◌, ◌<◌, ◌≤◌, [], ◌∷◌, None, length, take, OnOk, slice_set};
 ghost use Rattle.model.specs.Files.{HasRoom, IsFileSystem, IsFile, entry, size, block_count, content_of, indirect_for, pointer, table};
+ghost use Rattle.model.specs.Files.{most_blocks};
 ghost use Rattle.fs_layout.specs.Table.{Makes};
 ghost use Rattle.fs_layout.specs.Touches.{SameBut, TouchesInode, inode_block, slot_block};
 ghost use Rattle.fs_inodes.specs.Changes.{ReplacesContent, SameMarks, TakesNone};
@@ -11,11 +12,10 @@ ghost use Rattle.fs_inodes.specs.Shrinking.{DropsPointer, DropsTable};
 use crate::growing::{put_indirect, put_pointer};
 use blocks::{BLOCK_SIZE, Blocks};
 use fs_layout::inodes::{
-    BLOCK_POINTERS, DIRECT_POINTERS, DOUBLE_AT, INODES_AT, SIZE_AT, content_blocks, indirect_at,
-    pointer_at,
+    BLOCK_POINTERS, DIRECT_POINTERS, DOUBLE_AT, SIZE_AT, content_blocks, indirect_at, pointer_at,
 };
 use fs_layout::marks::unmark;
-use fs_layout::records::{RECORD_SIZE, get_record, put_record};
+use fs_layout::records::{RECORD_SIZE, get_inode, put_inode, put_slot};
 use octet_numbers::{number32, number64, put32, put64};
 use std::alloc::AllocError;
 
@@ -41,7 +41,7 @@ pub fn shrink_to<B: Blocks>(
     ensures kept { B.applied blocks.new ≡ B.applied blocks.old }
 {
     let mut inode = [0; RECORD_SIZE];
-    get_record(blocks, INODES_AT, at, &mut inode);
+    get_inode(blocks, at, &mut inode);
     let keep = content_blocks(end);
     let mut left = content_blocks(number64(&inode, SIZE_AT));
     while left > keep {
@@ -66,20 +66,20 @@ fn drop_block<B: Blocks>(blocks: &mut B, inodes: u32, at: u32, last: u32) -> Res
     ensures kept { B.applied blocks.new ≡ B.applied blocks.old }
 {
     let mut inode = [0; RECORD_SIZE];
-    get_record(blocks, INODES_AT, at, &mut inode);
+    get_inode(blocks, at, &mut inode);
     let number = pointer_at(blocks, &inode, last);
     drop_pointer(blocks, &mut inode, last)?;
     unmark(blocks, number)?;
     put64(&mut inode, SIZE_AT, last as u64 * BLOCK_SIZE as u64);
-    put_record(blocks, INODES_AT, at, &inode)
+    put_inode(blocks, at, &inode)
 }
 
 // Drops the i-th pointer of an inode, which is the last, and its block of pointers if that has no other.
 fn drop_pointer<B: Blocks>(blocks: &mut B, inode: &mut [u8], i: u32) -> Result<(), AllocError>
     requires whole { length inode.old ≡ 64 }
-    requires few { i < 65536 }
+    requires few { i < 1048576 }
     requires some { 2 ≤ length (B.blocks blocks.old) }
-    requires count_few { length (B.blocks blocks.old) ≤ 65536 }
+    requires count_few { length (B.blocks blocks.old) ≤ most_blocks }
     requires names { NamesBlocks (indirect_for (i + 1)) (inode_entry (B.blocks blocks.old) inode.old) (B.blocks blocks.old) }
     requires last { (j : ℕ) → i < j → pointer (inode_entry (B.blocks blocks.old) inode.old) j ≡ 0 }
     ensures done { OnOk result (DropsPointer i inode.old inode.new (B.blocks blocks.old) (B.blocks blocks.new)) }
@@ -97,7 +97,7 @@ fn drop_table<B: Blocks>(blocks: &mut B, inode: &mut [u8], p: u32) -> Result<(),
     requires whole { length inode.old ≡ 64 }
     requires few { p < 1024 }
     requires some { 2 ≤ length (B.blocks blocks.old) }
-    requires count_few { length (B.blocks blocks.old) ≤ 65536 }
+    requires count_few { length (B.blocks blocks.old) ≤ most_blocks }
     requires names { NamesBlocks (p + 1) (inode_entry (B.blocks blocks.old) inode.old) (B.blocks blocks.old) }
     ensures done { OnOk result (DropsTable p inode.old inode.new (B.blocks blocks.old) (B.blocks blocks.new)) }
     ensures kept { B.applied blocks.new ≡ B.applied blocks.old }
@@ -129,9 +129,9 @@ fn cut<B: Blocks>(blocks: &mut B, inodes: u32, at: u32, end: u64) -> Result<(), 
     ensures kept { B.applied blocks.new ≡ B.applied blocks.old }
 {
     let mut inode = [0; RECORD_SIZE];
-    get_record(blocks, INODES_AT, at, &mut inode);
+    get_inode(blocks, at, &mut inode);
     put64(&mut inode, SIZE_AT, end);
-    put_record(blocks, INODES_AT, at, &inode)
+    put_inode(blocks, at, &inode)
 }
 
 /// Removes the file of an inode. The file must be empty. Refused only for want of memory; then the caller must drop the
@@ -143,10 +143,13 @@ pub fn remove_empty<B: Blocks>(blocks: &mut B, inodes: u32, at: u32) -> Result<(
     requires file { IsFile (entry inodes (B.blocks blocks.old) at) }
     requires empty { size (entry inodes (B.blocks blocks.old) at) ≡ 0 }
     ensures done { OnOk result (Makes inodes (slice_set (table inodes (B.blocks blocks.old)) at None) (B.blocks blocks.new)) }
-    ensures touches { OnOk result (SameBut (inode_block at ∷ slot_block inodes at ∷ []) (B.blocks blocks.old) (B.blocks blocks.new)) }
+    ensures count { OnOk result (length (B.blocks blocks.new) ≡ length (B.blocks blocks.old)) }
+    ensures touches { OnOk result
+        (SameBut (inode_block (length (B.blocks blocks.old)) at ∷ slot_block (length (B.blocks blocks.old)) inodes at ∷ [])
+        (B.blocks blocks.old) (B.blocks blocks.new)) }
     ensures kept { B.applied blocks.new ≡ B.applied blocks.old }
 {
     let zeros = [0; RECORD_SIZE];
-    put_record(blocks, INODES_AT, at, &zeros)?;
-    put_record(blocks, INODES_AT + inodes / 64, at, &zeros)
+    put_inode(blocks, at, &zeros)?;
+    put_slot(blocks, inodes, at, &zeros)
 }

@@ -7,8 +7,8 @@ ghost use Rattle.fs_layout.specs.Touches.{SameBut, Touches, blocks_reached};
 ghost use Rattle.fs_inodes.specs.Changes.{ReplacesContent, SameMarks};
 
 use blocks::{BLOCK_SIZE, Blocks};
-use fs_layout::inodes::{INODES_AT, pointer_at};
-use fs_layout::records::{RECORD_SIZE, get_record};
+use fs_layout::inodes::pointer_at;
+use fs_layout::records::{RECORD_SIZE, get_inode};
 use std::alloc::AllocError;
 
 /// Overwrites octets of the file of an inode, from a place on and within its size. Refused only for want of memory;
@@ -66,7 +66,7 @@ fn overwrite_part<B: Blocks>(
     ensures kept { B.applied blocks.new ≡ B.applied blocks.old }
 {
     let mut inode = [0; RECORD_SIZE];
-    get_record(blocks, INODES_AT, at, &mut inode);
+    get_inode(blocks, at, &mut inode);
     let number = pointer_at(blocks, &inode, (place / BLOCK_SIZE as u64) as u32);
     let within = (place % BLOCK_SIZE as u64) as usize;
     blocks.put_at(number, within, octets)

@@ -9,7 +9,7 @@ use Rattle.model.specs.Stream.{Octets}
 use Rattle.model.specs.Volume.{number_at, AreDistinct}
 use Rattle.model.specs.Files.{FileEntry, HasRoom, IsFile, IsFree, kind, size, block_count, double_pointer, entry_of}
 use Rattle.model.specs.Files.{indirect_number, indirect_pointer, pointer, owned, name_in, content_of, entry, inode_of, slot_of, indirect_of}
-use Rattle.model.specs.Files.{first_data, is_marked_used, IsUsed, IsFileSystem, file_at}
+use Rattle.model.specs.Files.{bitmap_bits, bitmap_blocks, first_data, is_marked_used, IsUsed, IsFileSystem, file_at}
 use Rattle.model.proofs.Owning.{zero_number, owns_pointer}
 use Rattle.model.proofs.Formats.{no_block, flat_map_same}
 use Rattle.fs_layout.specs.Blocks.{PutsRecord, record_at}
@@ -22,7 +22,7 @@ pub record PutsEntry (inodes k : ℕ) (inode slot : Octets) (touched : ℕ → T
   pub slot_is : slot_of inodes new k ≡ slot
   pub inodes_other : (l : ℕ) → l < inodes → l ≢ k → inode_of new l ≡ inode_of old l
   pub slots_other : (l : ℕ) → l < inodes → l ≢ k → slot_of inodes new l ≡ slot_of inodes old l
-  pub data_same : (n : ℕ) → first_data inodes ≤ n → ¬ (touched n) → get_or new n [] ≡ get_or old n []
+  pub data_same : (n : ℕ) → first_data (length old) inodes ≤ n → ¬ (touched n) → get_or new n [] ≡ get_or old n []
 
 -- a record in another block is the same
 elsewhere : (first k n : ℕ) (old new : List Octets) → get_or new n [] ≡ get_or old n [] → first + k / 64 ≡ n
@@ -30,48 +30,60 @@ elsewhere : (first k n : ℕ) (old new : List Octets) → get_or new n [] ≡ ge
 elsewhere first k n old new same is =
     ap (λ (b : Octets). part (k % 64 * 64) 64 b) (ap (λ (m : ℕ). get_or new m []) is ∙ same ∙ ap (λ (m : ℕ). get_or old m []) (sym is))
 
-pub marks_same : (old new : List Octets) → get_or new 0 [] ≡ get_or old 0 [] → get_or new 1 [] ≡ get_or old 1 [] → (b : ℕ) → b < 65536
-    → is_marked_used new b ≡ is_marked_used old b
-marks_same old new zeroth first b small =
-    ap (λ (bits : Octets). eqb (get_or bits (b / 8 % 4096) 0 / 2 ^ (b % 8) % 2) 1) (elim (cases_eq (b / 8 / 4096) 0) [
-      | inl is ↦ ap (λ (m : ℕ). get_or new m []) is ∙ zeroth ∙ ap (λ (m : ℕ). get_or old m []) (sym is)
-      | inr other ↦
-          let is : b / 8 / 4096 ≡ 1 = omega arith in
-          ap (λ (m : ℕ). get_or new m []) is ∙ first ∙ ap (λ (m : ℕ). get_or old m []) (sym is)
-    ])
+pub marks_same : (old new : List Octets) (tables : ℕ) → ((t : ℕ) → t < tables → get_or new t [] ≡ get_or old t []) → (b : ℕ)
+    → b < 32768 * tables → is_marked_used new b ≡ is_marked_used old b
+marks_same old new tables same b small =
+    ap (λ (bits : Octets). eqb (get_or bits (b / 8 % 4096) 0 / 2 ^ (b % 8) % 2) 1) (same (b / 8 / 4096) (omega arith))
+
+-- the places of inodes and slots in blocks of the same number
+pub same_inode : (old new : List Octets) (k : ℕ) → length new ≡ length old → inode_of new k ≡ record_at (bitmap_blocks (length old)) new k
+same_inode old new k count = ap (λ (n : ℕ). record_at (bitmap_blocks n) new k) count
+
+pub same_slot : (inodes : ℕ) (old new : List Octets) (k : ℕ) → length new ≡ length old
+    → slot_of inodes new k ≡ record_at (bitmap_blocks (length old) + inodes / 64) new k
+same_slot inodes old new k count = ap (λ (n : ℕ). record_at (bitmap_blocks n + inodes / 64) new k) count
 
 module _ (inodes k : ℕ) (inode : Octets) (old new : List Octets) (whole : inodes % 64 ≡ 0) (low : k < inodes)
-    (put : PutsRecord 2 k inode old new) where
+    (put : PutsRecord (bitmap_blocks (length old)) k inode old new) where
+  slot_stays : (l : ℕ) → l < inodes → record_at (bitmap_blocks (length old) + inodes / 64) new l ≡ slot_of inodes old l
+  slot_stays l below =
+      elsewhere (bitmap_blocks (length old) + inodes / 64) l (bitmap_blocks (length old) + inodes / 64 + l / 64) old new
+      (put.blocks (bitmap_blocks (length old) + inodes / 64 + l / 64) (omega arith)) refl
+
   -- the inode alone
   pub puts_inode : PutsEntry inodes k inode (slot_of inodes old k) (λ n. ⊥) old new
   puts_inode = record {
     count = put.count;
-    inode_is = put.here;
-    slot_is = elsewhere (2 + inodes / 64) k (2 + inodes / 64 + k / 64) old new (put.blocks (2 + inodes / 64 + k / 64) (omega arith)) refl;
-    inodes_other = λ l below other. put.other l other;
-    slots_other = λ l below other. elsewhere (2 + inodes / 64) l (2 + inodes / 64 + l / 64) old new
-        (put.blocks (2 + inodes / 64 + l / 64) (omega arith)) refl;
+    inode_is = same_inode old new k put.count ∙ put.here;
+    slot_is = same_slot inodes old new k put.count ∙ slot_stays k low;
+    inodes_other = λ l below other. same_inode old new l put.count ∙ put.other l other;
+    slots_other = λ l below other. same_slot inodes old new l put.count ∙ slot_stays l below;
     data_same = λ n high untouched. put.blocks n (omega arith);
   }
 
-  pub inode_keeps_marks : (b : ℕ) → b < 65536 → is_marked_used new b ≡ is_marked_used old b
-  inode_keeps_marks = marks_same old new (put.blocks 0 (omega arith)) (put.blocks 1 (omega arith))
+  pub inode_keeps_marks : (b : ℕ) → b < bitmap_bits (length old) → is_marked_used new b ≡ is_marked_used old b
+  inode_keeps_marks = marks_same old new (bitmap_blocks (length old)) (λ t few. put.blocks t (omega (arith, few)))
 
 module _ (inodes k : ℕ) (slot : Octets) (old new : List Octets) (whole : inodes % 64 ≡ 0) (low : k < inodes)
-    (put : PutsRecord (2 + inodes / 64) k slot old new) where
+    (put : PutsRecord (bitmap_blocks (length old) + inodes / 64) k slot old new) where
+  inode_stays : (l : ℕ) → l < inodes → record_at (bitmap_blocks (length old)) new l ≡ inode_of old l
+  inode_stays l below =
+      elsewhere (bitmap_blocks (length old)) l (bitmap_blocks (length old) + l / 64) old new
+      (put.blocks (bitmap_blocks (length old) + l / 64) (omega arith)) refl
+
   -- the slot alone
   pub puts_slot : PutsEntry inodes k (inode_of old k) slot (λ n. ⊥) old new
   puts_slot = record {
     count = put.count;
-    inode_is = elsewhere 2 k (2 + k / 64) old new (put.blocks (2 + k / 64) (omega arith)) refl;
-    slot_is = put.here;
-    inodes_other = λ l below other. elsewhere 2 l (2 + l / 64) old new (put.blocks (2 + l / 64) (omega arith)) refl;
-    slots_other = λ l below other. put.other l other;
+    inode_is = same_inode old new k put.count ∙ inode_stays k low;
+    slot_is = same_slot inodes old new k put.count ∙ put.here;
+    inodes_other = λ l below other. same_inode old new l put.count ∙ inode_stays l below;
+    slots_other = λ l below other. same_slot inodes old new l put.count ∙ put.other l other;
     data_same = λ n high untouched. put.blocks n (omega arith);
   }
 
-  pub slot_keeps_marks : (b : ℕ) → b < 65536 → is_marked_used new b ≡ is_marked_used old b
-  slot_keeps_marks = marks_same old new (put.blocks 0 (omega arith)) (put.blocks 1 (omega arith))
+  pub slot_keeps_marks : (b : ℕ) → b < bitmap_bits (length old) → is_marked_used new b ≡ is_marked_used old b
+  slot_keeps_marks = marks_same old new (bitmap_blocks (length old)) (λ t few. put.blocks t (omega (arith, few)))
 
 -- one change after the other
 pub puts_then : (inodes k : ℕ) (inode inode' slot slot' : Octets) (a b c : List Octets) → PutsEntry inodes k inode slot (λ n. ⊥) a b
@@ -82,7 +94,7 @@ puts_then inodes k inode inode' slot slot' a b c first second = record {
   slot_is = second.slot_is;
   inodes_other = λ l below other. second.inodes_other l below other ∙ first.inodes_other l below other;
   slots_other = λ l below other. second.slots_other l below other ∙ first.slots_other l below other;
-  data_same = λ n high untouched. second.data_same n high untouched ∙ first.data_same n high untouched;
+  data_same = λ n high untouched. second.data_same n (omega (arith, high, first.count)) untouched ∙ first.data_same n high untouched;
 }
 
 -- ---- what else stays
@@ -155,29 +167,32 @@ module _ (inodes k : ℕ) (inode slot : Octets) (touched : ℕ → Type 0) (old 
 pub keeps_rule : (inodes : ℕ) (old new : List Octets) → IsFileSystem inodes old → length new ≡ length old
     → ((k : ℕ) → k < inodes → IsFree (entry inodes new k) ⊎ IsFile (entry inodes new k))
     → ((k : ℕ) → k < inodes → owned (entry inodes new k) ≡ owned (entry inodes old k))
-    → ((b : ℕ) → b < 65536 → is_marked_used new b ≡ is_marked_used old b)
+    → ((b : ℕ) → b < bitmap_bits (length old) → is_marked_used new b ≡ is_marked_used old b)
     → ((k l : ℕ) → k < inodes → l < inodes → IsFile (entry inodes new k) → IsFile (entry inodes new l)
     → name_in (slot_of inodes new k) ≡ name_in (slot_of inodes new l) → k ≡ l) → IsFileSystem inodes new
 keeps_rule inodes old new fs count each owners marks names = record {
   each = each;
-  within = λ k b low owns. let was = fs.within k b low (to_old k b low owns) in (was.0, omega (arith, was.1));
+  within = λ k b low owns. let was = fs.within k b low (to_old k b low owns) in (omega (arith, was.0, count), omega (arith, was.1));
   distinct = λ k low. subst AreDistinct (sym (owners k low)) (fs.distinct k low);
   one_owner = λ k l b low below first second. fs.one_owner k l b low below (to_old k b low first) (to_old l b below second);
-  bits = λ b small. subst (λ (m : Bool). IsTrue m ↔ IsUsed inodes new b) (sym (marks b small)) (
-    (λ marked. elim ((fs.bits b small).0 marked) [
-      | inl reserved ↦ inl reserved
-      | inr owner ↦ inr (owner.0, owner.1, subst (λ (o : List ℕ). Contains o b) (sym (owners owner.0 owner.1)) owner.2)
-    ]),
-    (λ used. (fs.bits b small).1 (elim used [
-      | inl reserved ↦ inl reserved
-      | inr owner ↦ inr (owner.0, owner.1, to_old owner.0 b owner.1 owner.2)
-    ])),
-  );
+  bits = λ b small. bits_at b (omega (arith, small, count));
   names_distinct = names;
 }
   where
     to_old : (k b : ℕ) → k < inodes → Contains (owned (entry inodes new k)) b → Contains (owned (entry inodes old k)) b
     to_old k b low owns = subst (λ (o : List ℕ). Contains o b) (owners k low) owns
+
+    bits_at : (b : ℕ) → b < bitmap_bits (length old) → IsTrue (is_marked_used new b) ↔ IsUsed inodes new b
+    bits_at b small = subst (λ (m : Bool). IsTrue m ↔ IsUsed inodes new b) (sym (marks b small)) (
+      (λ marked. elim ((fs.bits b small).0 marked) [
+        | inl reserved ↦ inl (omega (arith, reserved, count))
+        | inr owner ↦ inr (owner.0, owner.1, subst (λ (o : List ℕ). Contains o b) (sym (owners owner.0 owner.1)) owner.2)
+      ]),
+      (λ used. (fs.bits b small).1 (elim used [
+        | inl reserved ↦ inl (omega (arith, reserved, count))
+        | inr owner ↦ inr (owner.0, owner.1, to_old owner.0 b owner.1 owner.2)
+      ])),
+    )
 
 pub keeps_room : (inodes : ℕ) (old new : List Octets) → HasRoom inodes old → length new ≡ length old → All (λ b. length b ≡ 4096) new
     → HasRoom inodes new

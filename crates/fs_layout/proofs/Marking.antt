@@ -8,7 +8,7 @@ use Rattle.std.proofs.lemmas.Bool.{cases_lt, cases_eq}
 use Rattle.disk.specs.Image.{overwritten}
 use Rattle.disk.proofs.Images.{length-overwritten, overwritten_above, overwritten_below, overwritten_inside}
 use Rattle.model.specs.Stream.{Octets}
-use Rattle.model.specs.Files.{is_marked_used, free_blocks}
+use Rattle.model.specs.Files.{bitmap_blocks, free_blocks, is_marked_used}
 use Rattle.fs_layout.specs.Bits.{bit_of, SetsBit}
 use Rattle.fs_layout.specs.Marks.{IsLowestClear, IsLowestFree, HasNoFreeBlock, NoneFreeBelow, SetsMark, TakesBlock}
 use Rattle.fs_layout.proofs.Counts.{count_same, count_split, count_more, mark_is_bit}
@@ -69,7 +69,8 @@ module _ (bit : ℕ) (value : Bool) (block octet : Octets) (low : bit / 8 < leng
   }
 
 -- a bit of a block of the bitmap is changed
-pub sets_mark : (block n : ℕ) (value : Bool) (bitmap : Octets) (old : List Octets) → block / 32768 ≡ n → n < 2 → n < length old
+pub sets_mark : (block n : ℕ) (value : Bool) (bitmap : Octets) (old : List Octets) → block / 32768 ≡ n → n < bitmap_blocks (length old)
+    → n < length old
     → SetsBit (block % 32768) value (get_or old n []) bitmap → SetsMark block value old (set old n bitmap)
 sets_mark block n value bitmap old is few there sets = record {
   count = length-set old n bitmap;
@@ -96,18 +97,6 @@ sets_mark block n value bitmap old is few there sets = record {
 -- ---- the lowest free block
 
 module _ (blocks : List Octets) where
-  pub lowest_in_first : (bitmap : Octets) (count bit : ℕ) → bitmap ≡ get_or blocks 0 [] → count ≤ length blocks → count ≤ 32768
-      → IsLowestClear bitmap count bit → IsLowestFree blocks bit
-  lowest_in_first bitmap count bit is within few found = record {
-    below = omega (arith, found.below);
-    free = low bit (omega (arith, found.below)) ∙ found.clear;
-    lower = λ b less. low b (omega (arith, found.below)) ∙ found.lower b less;
-  }
-    where
-      low : (b : ℕ) → b < 32768 → is_marked_used blocks b ≡ bit_of bitmap b
-      low b small = let none : b - 32768 * 0 ≡ b = omega arith in mark_in blocks 0 b bitmap is (omega arith) (omega arith)
-          ∙ ap (λ (k : ℕ). bit_of bitmap k) none
-
   -- below a number none is free, so these bits are set
   pub bits_set : (n from b : ℕ) (bitmap : Octets) → bitmap ≡ get_or blocks n [] → NoneFreeBelow from blocks → b < 32768
       → 32768 * n + b < from → 32768 * n + b < length blocks → bit_of bitmap b ≡ true
@@ -116,40 +105,59 @@ module _ (blocks : List Octets) where
       sym (mark_in blocks n (32768 * n + b) bitmap is (omega arith) (omega arith) ∙ ap (λ (k : ℕ). bit_of bitmap k) at)
       ∙ none (32768 * n + b) less within
 
-  -- the first block of the bitmap is full
-  pub first_full : (bitmap : Octets) (count : ℕ) → bitmap ≡ get_or blocks 0 [] → count ≤ 32768
-      → ((b : ℕ) → b < count → bit_of bitmap b ≡ true) → (b : ℕ) → b < count → is_marked_used blocks b ≡ true
-  first_full bitmap count is few full b low =
-      let none : b - 32768 * 0 ≡ b = omega arith in
-      mark_in blocks 0 b bitmap is (omega arith) (omega arith) ∙ ap (λ (k : ℕ). bit_of bitmap k) none ∙ full b low
+  -- the marks in one block of the bitmap, of its first bits
+  module _ (n count : ℕ) (bitmap : Octets) (is : bitmap ≡ get_or blocks n []) (few : count ≤ 32768) where
+    mark_of : (b : ℕ) → 32768 * n ≤ b → b < 32768 * n + count → is_marked_used blocks b ≡ bit_of bitmap (b - 32768 * n)
+    mark_of b low high = mark_in blocks n b bitmap is low (omega arith)
 
-  pub lowest_in_second : (bitmap : Octets) (bit : ℕ) → bitmap ≡ get_or blocks 1 [] → length blocks ≤ 65536
-      → ((b : ℕ) → b < 32768 → is_marked_used blocks b ≡ true) → IsLowestClear bitmap (length blocks - 32768) bit
-      → IsLowestFree blocks (32768 + bit)
-  lowest_in_second bitmap bit is few before found = record {
-    below = omega (arith, found.below);
-    free = high bit (omega (arith, found.below)) ∙ found.clear;
-    lower = λ b less. elim (cases_lt b 32768) [
-      | inl low ↦ before b low
-      | inr above ↦
-          let at : b ≡ 32768 + (b - 32768) = omega arith in
-          ap (λ (k : ℕ). is_marked_used blocks k) at ∙ high (b - 32768) (omega (arith, found.below)) ∙ found.lower (b - 32768) (omega arith)
-    ];
-  }
-    where
-      high : (b : ℕ) → b < 32768 → is_marked_used blocks (32768 + b) ≡ bit_of bitmap b
-      high b small = let at : 32768 + b - 32768 * 1 ≡ b = omega arith in mark_in blocks 1 (32768 + b) bitmap is (omega arith) (omega arith)
-          ∙ ap (λ (k : ℕ). bit_of bitmap k) at
+    pub lowest_is_marked : (bit : ℕ) → IsLowestClear bitmap count bit
+        → (is_marked_used blocks (32768 * n + bit) ≡ false)
+        × ((b : ℕ) → 32768 * n ≤ b → b < 32768 * n + bit → is_marked_used blocks b ≡ true)
+    lowest_is_marked bit found =
+        let at : 32768 * n + bit - 32768 * n ≡ bit = omega arith in (
+          mark_of (32768 * n + bit) (omega arith) (omega (arith, found.below)) ∙ ap (λ (k : ℕ). bit_of bitmap k) at ∙ found.clear,
+          λ b low high. mark_of b low (omega (arith, found.below)) ∙ found.lower (b - 32768 * n) (omega arith),
+        )
 
-  pub second_full : (bitmap : Octets) → bitmap ≡ get_or blocks 1 [] → length blocks ≤ 65536
-      → ((b : ℕ) → b < 32768 → is_marked_used blocks b ≡ true) → ((b : ℕ) → b < length blocks - 32768 → bit_of bitmap b ≡ true)
-      → HasNoFreeBlock blocks
-  second_full bitmap is few before full b low = elim (cases_lt b 32768) [
-    | inl first ↦ before b first
-    | inr second ↦ mark_in blocks 1 b bitmap is (omega arith) (omega arith) ∙ full (b - 32768 * 1) (omega arith)
-  ]
+    pub block_full : ((b : ℕ) → b < count → bit_of bitmap b ≡ true) → (b : ℕ) → 32768 * n ≤ b → b < 32768 * n + count
+        → is_marked_used blocks b ≡ true
+    block_full full b low high = mark_of b low high ∙ full (b - 32768 * n) (omega arith)
 
 -- ---- how many blocks are free
+
+-- the number of the blocks whose marks are in the first blocks of the bitmap, this many
+abbrev pub up_to : ℕ → ℕ → ℕ
+up_to tables count = count - (count - 32768 * tables)
+
+-- the clear bits of one block of the bitmap more
+pub free_in_more : (blocks : List Octets) (n some clear free : ℕ) (bitmap : Octets) → bitmap ≡ get_or blocks n []
+    → some + up_to n (length blocks) ≡ up_to (n + 1) (length blocks)
+    → clear ≡ count_by (λ bit. not (bit_of bitmap bit)) (range_with_len 0 some)
+    → free ≡ count_by (λ b. not (is_marked_used blocks b)) (range_with_len 0 (up_to n (length blocks)))
+    → free + clear ≡ count_by (λ b. not (is_marked_used blocks b)) (range_with_len 0 (up_to (n + 1) (length blocks)))
+free_in_more blocks n some clear free bitmap is more counted so_far = elim (cases_eq some 0) [
+  | inl none ↦
+      let same : up_to n (length blocks) ≡ up_to (n + 1) (length blocks) = omega arith in
+      let nothing : clear ≡ 0 = counted ∙ ap (λ (k : ℕ). count_by (λ bit. not (bit_of bitmap bit)) (range_with_len 0 k)) none in
+      let sum : free + clear ≡ free = omega arith in
+      sum ∙ so_far ∙ ap (λ (k : ℕ). count_by (λ b. not (is_marked_used blocks b)) (range_with_len 0 k)) same
+  | inr some_bits ↦
+      let start : up_to n (length blocks) ≡ 32768 * n = omega arith in
+      let few : some ≤ 32768 = omega arith in
+      let length_is : 32768 * n + some ≡ up_to (n + 1) (length blocks) = omega arith in
+      let here : clear ≡ count_by (λ b. not (is_marked_used blocks b)) (range_with_len (0 + 32768 * n) some) =
+      counted ∙ count_same (λ bit. not (bit_of bitmap bit)) (λ b. not (is_marked_used blocks b)) 0 (0 + 32768 * n) some
+      (λ i low.
+      let at : 0 + i ≡ i = omega arith in
+      let there : 32768 * n + i ≡ 0 + 32768 * n + i = omega arith in
+      ap not (ap (λ (k : ℕ). bit_of bitmap k) at ∙ ap (λ (o : Octets). bit_of o i) is
+      ∙ sym (mark_is_bit blocks n i (omega arith)) ∙ ap (λ (k : ℕ). is_marked_used blocks k) there)) in
+      ap (λ (m : ℕ). m + clear) so_far
+      ∙ ap (λ (k : ℕ). count_by (λ b. not (is_marked_used blocks b)) (range_with_len 0 k) + clear) start
+      ∙ ap (λ (m : ℕ). count_by (λ b. not (is_marked_used blocks b)) (range_with_len 0 (32768 * n)) + m) here
+      ∙ sym (count_split (λ b. not (is_marked_used blocks b)) 0 (32768 * n) some)
+      ∙ ap (λ (k : ℕ). count_by (λ b. not (is_marked_used blocks b)) (range_with_len 0 k)) length_is
+]
 
 pub count_none : (p : ℕ → Bool) (a n : ℕ) → ((i : ℕ) → i < n → p (a + i) ≡ false) → count_by p (range_with_len a n) ≡ 0
 count_none p a n none = count_same p (λ i. false) a 0 n none ∙ never n
@@ -187,21 +195,21 @@ count_one_less p q b n low was is same =
         → b' + 1 ≡ b
     sums h1 h2 h3 h4 h5 h6 h7 h8 = omega arith
 
-pub one_less_free : (block : ℕ) (old new : List Octets) → length old ≤ 65536 → TakesBlock block old new
+pub one_less_free : (block : ℕ) (old new : List Octets) → TakesBlock block old new
     → free_blocks new + 1 ≡ free_blocks old
-one_less_free block old new few takes =
+one_less_free block old new takes =
     ap (λ (n : ℕ). count_by (λ b. not (is_marked_used new b)) (range_with_len 0 n) + 1) takes.sets.count
     ∙ count_one_less (λ b. not (is_marked_used old b)) (λ b. not (is_marked_used new b)) block (length old) takes.lowest.below
     (ap not takes.lowest.free) (ap not takes.sets.here) (λ i low apart. ap not (takes.sets.other i (omega arith) apart))
 
 -- below a number none is free still
-pub none_after_taken : (n block : ℕ) (old new : List Octets) → length old ≤ 65536 → TakesBlock block old new → NoneFreeBelow n old
+pub none_after_taken : (n block : ℕ) (old new : List Octets) → TakesBlock block old new → NoneFreeBelow n old
     → NoneFreeBelow n new
-none_after_taken n block old new few takes none b less low = elim (cases_eq b block) [
+none_after_taken n block old new takes none b less low = elim (cases_eq b block) [
   | inl same ↦ ap (λ (k : ℕ). is_marked_used new k) same ∙ takes.sets.here
   | inr other ↦
       let there : b < length old = omega (arith, low, takes.sets.count) in
-      takes.sets.other b (omega (arith, there, few)) other ∙ none b less there
+      takes.sets.other b (omega (arith, there)) other ∙ none b less there
 ]
 
 -- the same marks

@@ -1,6 +1,6 @@
 -- Numbers in records.
 use Rattle.std.proofs.Common.{◌≡◌, ◌<◌, ◌≤◌, ℕ, ◌+◌, ◌-◌, ◌*◌, ◌/◌, ◌%◌, eqb, List, [], get_or, take, drop, sym, ◌∙◌, ap, arith, count_by}
-use Rattle.std.proofs.Common.{Bool}
+use Rattle.std.proofs.Common.{Bool, length}
 use Rattle.std.specs.List.{range_with_len}
 use Rattle.std.proofs.lemmas.List.{drop-take, drop-drop}
 use Rattle.byteorder.specs.Endian.{little_number}
@@ -8,7 +8,7 @@ use Rattle.byteorder.specs.Numbers.{little_from-take}
 use Rattle.disk.specs.Image.{part}
 use Rattle.model.specs.Stream.{Octets}
 use Rattle.model.specs.Volume.{number_at}
-use Rattle.model.specs.Files.{kind, entry}
+use Rattle.model.specs.Files.{bitmap_blocks, kind, entry}
 use Rattle.fs_layout.proofs.Counts.{count_split, count_same}
 
 pub number_in_part : (from a n : ℕ) (octets : Octets) → a + n ≤ 64 → number_at a n (part from 64 octets) ≡ number_at (from + a) n octets
@@ -21,15 +21,15 @@ number_in_part from a n octets fits =
     ∙ ap (λ (l : Octets). little_number n l) (drop-drop a from octets)
 
 -- the kind of an inode in its block
-pub kind_in_block : (inodes : ℕ) (blocks : List Octets) (block : Octets) (t i : ℕ) → i < 64 → block ≡ get_or blocks (2 + t) []
+pub kind_in_block : (inodes : ℕ) (blocks : List Octets) (block : Octets) (t i : ℕ) → i < 64 → block ≡ get_or blocks (bitmap_blocks (length blocks) + t) []
     → eqb (kind (entry inodes blocks (0 + 64 * t + i))) 0 ≡ eqb (number_at (64 * (0 + i)) 4 block) 0
 kind_in_block inodes blocks block t i low is =
     let k : ℕ = 0 + 64 * t + i in
     let at : (0 + 64 * t + i) % 64 * 64 + 0 ≡ 64 * (0 + i) = omega arith in
-    let where_is : 2 + (0 + 64 * t + i) / 64 ≡ 2 + t = omega arith in
+    let where_is : bitmap_blocks (length blocks) + (0 + 64 * t + i) / 64 ≡ bitmap_blocks (length blocks) + t = omega arith in
     ap (λ (n : ℕ). eqb n 0) (
-    number_in_part ((0 + 64 * t + i) % 64 * 64) 0 4 (get_or blocks (2 + (0 + 64 * t + i) / 64) []) (omega arith)
-    ∙ ap (λ (n : ℕ). number_at n 4 (get_or blocks (2 + (0 + 64 * t + i) / 64) [])) at
+    number_in_part ((0 + 64 * t + i) % 64 * 64) 0 4 (get_or blocks (bitmap_blocks (length blocks) + (0 + 64 * t + i) / 64) []) (omega arith)
+    ∙ ap (λ (n : ℕ). number_at n 4 (get_or blocks (bitmap_blocks (length blocks) + (0 + 64 * t + i) / 64) [])) at
     ∙ ap (λ (n : ℕ). number_at (64 * (0 + i)) 4 (get_or blocks n [])) where_is
     ∙ ap (λ (o : Octets). number_at (64 * (0 + i)) 4 o) (sym is))
 

@@ -1,7 +1,7 @@
 -- Changes one after the other, and the blocks that they reach.
-use Rattle.model.specs.Files.{largest_file_one}
+use Rattle.model.specs.Files.{bitmap_blocks, largest_file_one}
 use Rattle.std.proofs.Common.{◌≡◌, ◌≢◌, ◌⊎◌, inl, inr, ◌<◌, ◌≤◌, ℕ, ◌+◌, ◌-◌, ◌*◌, ◌/◌, ◌%◌, cond, ltb, Bool, List, [], ◌∷◌, ◌++◌}
-use Rattle.std.proofs.Common.{length, map, set, refl, sym, ◌∙◌, ap, subst, arith, length-append}
+use Rattle.std.proofs.Common.{length, map, set, refl, sym, ◌∙◌, ap, subst, arith, length-append, length-set}
 use Rattle.std.specs.List.{Contains, range_with_len}
 use Rattle.std.proofs.lemmas.Bool.{cases_lt, le-ltb, lt-ltb, ne_eqb}
 use Rattle.std.proofs.lemmas.List.{get_or-set_other}
@@ -31,28 +31,30 @@ not_two x y b other another has =
 
 -- ---- the law
 
-pub same_then : (xs ys : List ℕ) (old mid new : List Octets) → SameBut xs old mid → SameBut ys mid new → SameBut (ys ++ xs) old new
-same_then xs ys old mid new first second b some lacks =
-    second b some (λ has. lacks (Contains-append_left ys xs b has)) ∙ first b some (λ has. lacks (Contains-append_right ys xs b has))
+pub same_then : (xs ys : List ℕ) (old mid new : List Octets) → length mid ≡ length old → SameBut xs old mid → SameBut ys mid new → SameBut (ys ++ xs) old new
+same_then xs ys old mid new count first second b some lacks =
+    second b (omega (arith, some, count)) (λ has. lacks (Contains-append_left ys xs b has)) ∙ first b some (λ has. lacks (Contains-append_right ys xs b has))
 
 -- a change that reaches m blocks and then one that reaches n reach m + n
 pub touches_then : (m n : ℕ) (old mid new : List Octets) → Touches m old mid → Touches n mid new → Touches (m + n) old new
 touches_then m n old mid new first second = record {
+  count = second.count ∙ first.count;
   others = second.others ++ first.others;
   few = omega (arith, length-append second.others first.others, first.few, second.few);
-  same = same_then first.others second.others old mid new first.same second.same;
+  same = same_then first.others second.others old mid new first.count first.same second.same;
 }
 
 pub touches_more : (m n : ℕ) (old new : List Octets) → m ≤ n → Touches m old new → Touches n old new
-touches_more m n old new less touches = record { others = touches.others; few = omega (arith, less, touches.few); same = touches.same }
+touches_more m n old new less touches = record { count = touches.count; others = touches.others; few = omega (arith, less, touches.few); same = touches.same }
 
 pub same_put : (number : ℕ) (block : Octets) (old : List Octets) → SameBut (number ∷ []) old (set old number block)
 same_put number block old b some lacks = get_or-set_other old number b block [] (λ is. lacks (is_first number [] b is))
 
 -- ---- the bitmap alone
 
-pub put_in_bitmap : (number : ℕ) (block : Octets) (old : List Octets) → number < 2 → Touches 0 old (set old number block)
+pub put_in_bitmap : (number : ℕ) (block : Octets) (old : List Octets) → number < bitmap_blocks (length old) → Touches 0 old (set old number block)
 put_in_bitmap number block old low = record {
+  count = length-set old number block;
   others = [];
   few = omega arith;
   same = λ b some lacks. get_or-set_other old number b block [] (omega arith);
@@ -60,33 +62,38 @@ put_in_bitmap number block old low = record {
 
 -- ---- an inode and its slot
 
-pub inode_then_slot : (inodes k : ℕ) (octets slot : Octets) (old mid new : List Octets) → PutsRecord 2 k octets old mid
-    → PutsRecord (2 + inodes / 64) k slot mid new → SameBut (inode_block k ∷ slot_block inodes k ∷ []) old new
+pub inode_then_slot : (inodes k : ℕ) (octets slot : Octets) (old mid new : List Octets) → PutsRecord (bitmap_blocks (length old)) k octets old mid
+    → PutsRecord (bitmap_blocks (length mid) + inodes / 64) k slot mid new
+    → SameBut (inode_block (length old) k ∷ slot_block (length old) inodes k ∷ []) old new
 inode_then_slot inodes k octets slot old mid new first second b some lacks =
-    second.blocks b (λ is. lacks (is_later (inode_block k) (slot_block inodes k ∷ []) b (is_first (slot_block inodes k) [] b is)))
-    ∙ first.blocks b (λ is. lacks (is_first (inode_block k) (slot_block inodes k ∷ []) b is))
+    second.blocks b (λ is. lacks (is_later (inode_block (length old) k) (slot_block (length old) inodes k ∷ []) b
+    (is_first (slot_block (length old) inodes k) [] b (is ∙ ap (λ (n : ℕ). slot_block n inodes k) first.count))))
+    ∙ first.blocks b (λ is. lacks (is_first (inode_block (length old) k) (slot_block (length old) inodes k ∷ []) b is))
 
-pub slot_then_inode : (inodes k : ℕ) (octets slot : Octets) (old mid new : List Octets) → PutsRecord (2 + inodes / 64) k slot old mid
-    → PutsRecord 2 k octets mid new → Touches 2 old new
+pub slot_then_inode : (inodes k : ℕ) (octets slot : Octets) (old mid new : List Octets) → PutsRecord (bitmap_blocks (length old) + inodes / 64) k slot old mid
+    → PutsRecord (bitmap_blocks (length mid)) k octets mid new → Touches 2 old new
 slot_then_inode inodes k octets slot old mid new first second = record {
-  others = inode_block k ∷ slot_block inodes k ∷ [];
+  count = second.count ∙ first.count;
+  others = inode_block (length old) k ∷ slot_block (length old) inodes k ∷ [];
   few = omega arith;
   same = λ b some lacks.
-      second.blocks b (λ is. lacks (is_first (inode_block k) (slot_block inodes k ∷ []) b is))
-      ∙ first.blocks b (λ is. lacks (is_later (inode_block k) (slot_block inodes k ∷ []) b (is_first (slot_block inodes k) [] b is)));
+      second.blocks b (λ is. lacks (is_first (inode_block (length old) k) (slot_block (length old) inodes k ∷ []) b
+      (is ∙ ap (λ (n : ℕ). inode_block n k) first.count)))
+      ∙ first.blocks b (λ is. lacks (is_later (inode_block (length old) k) (slot_block (length old) inodes k ∷ []) b (is_first (slot_block (length old) inodes k) [] b is)));
 }
 
 -- ---- an inode, and the blocks that name blocks
 
 pub inode_none : (k from : ℕ) (old : List Octets) → TouchesInode k from from old old
-inode_none k from old = record { same = λ b some other named. refl; double = inl refl; tables = λ p. inl refl }
+inode_none k from old = record { count = refl; same = λ b some other named. refl; double = inl refl; tables = λ p. inl refl }
 
 -- blocks are freed from the end
 pub inode_then : (k from mid_at to : ℕ) (old mid new : List Octets) → from ≤ mid_at → mid_at ≤ to → TouchesInode k mid_at to old mid
     → TouchesInode k from mid_at mid new → TouchesInode k from to old new
 inode_then k from mid_at to old mid new low high first second = record {
+  count = second.count ∙ first.count;
   same = λ b some other named.
-      second.same b some other (λ i above below. (
+      second.same b (omega (arith, some, first.count)) (λ is. other (is ∙ ap (λ (n : ℕ). inode_block n k) first.count)) (λ i above below. (
         elim first.double [
           | inl stays ↦ λ is. (named i above (omega (arith, below, high))).0 (is ∙ stays)
           | inr goes ↦ λ is. omega (arith, some, is, goes)
@@ -203,38 +210,43 @@ module _ (k was size : ℕ) (old new : List Octets) (less : size ≤ was) (no_do
 
   pub inode_touches : Touches (touched_by_cut was size) old new
   inode_touches = record {
-    others = inode_block k ∷ named.blocks;
+    count = touches.count;
+    others = inode_block (length old) k ∷ named.blocks;
     few = omega (arith, named.few);
     same = λ b some lacks.
-        touches.same b some (λ is. lacks (is_first (inode_block k) named.blocks b is))
-        (named.apart b some (λ has. lacks (is_later (inode_block k) named.blocks b has)));
+        touches.same b some (λ is. lacks (is_first (inode_block (length old) k) named.blocks b is))
+        (named.apart b (omega (arith, some)) (λ has. lacks (is_later (inode_block (length old) k) named.blocks b has)));
   }
 
   -- then its inode and its slot are freed
-  pub inode_and_slot : (inodes : ℕ) (newer : List Octets) → SameBut (inode_block k ∷ slot_block inodes k ∷ []) new newer
+  pub inode_and_slot : (inodes : ℕ) (newer : List Octets) → length newer ≡ length new
+      → SameBut (inode_block (length new) k ∷ slot_block (length new) inodes k ∷ []) new newer
       → Touches (1 + touched_by_cut was size) old newer
-  inode_and_slot inodes newer second = record {
-    others = slot_block inodes k ∷ inode_block k ∷ named.blocks;
+  inode_and_slot inodes newer count second = record {
+    count = count ∙ touches.count;
+    others = slot_block (length old) inodes k ∷ inode_block (length old) k ∷ named.blocks;
     few = omega (arith, named.few);
     same = λ b some lacks.
-        let slot : b ≢ slot_block inodes k = λ is. lacks (is_first (slot_block inodes k) (inode_block k ∷ named.blocks) b is) in
-        let other : b ≢ inode_block k =
-        λ is. lacks (is_later (slot_block inodes k) (inode_block k ∷ named.blocks) b (is_first (inode_block k) named.blocks b is)) in
-        second b some (not_two (inode_block k) (slot_block inodes k) b other slot)
-        ∙ touches.same b some other (named.apart b some
-        (λ has. lacks (is_later (slot_block inodes k) (inode_block k ∷ named.blocks) b (is_later (inode_block k) named.blocks b has))));
+        let slot : b ≢ slot_block (length old) inodes k = λ is. lacks (is_first (slot_block (length old) inodes k) (inode_block (length old) k ∷ named.blocks) b is) in
+        let other : b ≢ inode_block (length old) k =
+        λ is. lacks (is_later (slot_block (length old) inodes k) (inode_block (length old) k ∷ named.blocks) b (is_first (inode_block (length old) k) named.blocks b is)) in
+        second b (omega (arith, some, touches.count)) (not_two (inode_block (length new) k) (slot_block (length new) inodes k) b
+        (λ is. other (is ∙ ap (λ (n : ℕ). inode_block n k) touches.count)) (λ is. slot (is ∙ ap (λ (n : ℕ). slot_block n inodes k) touches.count)))
+        ∙ touches.same b some other (named.apart b (omega (arith, some))
+        (λ has. lacks (is_later (slot_block (length old) inodes k) (inode_block (length old) k ∷ named.blocks) b (is_later (inode_block (length old) k) named.blocks b has))));
   }
 
 -- ---- data
 
 pub data_none : (k from : ℕ) (old : List Octets) → TouchesData k [] from from old old
-data_none k from old = record { same = λ b some other named lacks. refl; double = inr refl; tables = λ p. inr refl }
+data_none k from old = record { count = refl; same = λ b some other named lacks. refl; double = inr refl; tables = λ p. inr refl }
 
 pub data_then : (k : ℕ) (xs ys : List ℕ) (from mid_at to : ℕ) (old mid new : List Octets) → from ≤ mid_at → mid_at ≤ to
     → TouchesData k xs from mid_at old mid → TouchesData k ys mid_at to mid new → TouchesData k (ys ++ xs) from to old new
 data_then k xs ys from mid_at to old mid new low high first second = record {
+  count = second.count ∙ first.count;
   same = λ b some other named lacks.
-      second.same b some other (λ i above below. named i (omega (arith, above, low)) below)
+      second.same b (omega (arith, some, first.count)) (λ is. other (is ∙ ap (λ (n : ℕ). inode_block n k) first.count)) (λ i above below. named i (omega (arith, above, low)) below)
       (λ has. lacks (Contains-append_left ys xs b has))
       ∙ first.same b some other (λ i above below. (
         elim second.double [
@@ -322,7 +334,8 @@ module _ (k size count : ℕ) (old new : List Octets) (no_double : content_block
 
   pub spread_all : Touches (touched_by_growth size count) old new
   spread_all = record {
-    others = inode_block k ∷ (spread_named.blocks ++ so_far.blocks);
+    count = so_far.touched.count;
+    others = inode_block (length old) k ∷ (spread_named.blocks ++ so_far.blocks);
     few = omega (
       arith,
       length-append spread_named.blocks so_far.blocks,
@@ -330,10 +343,10 @@ module _ (k size count : ℕ) (old new : List Octets) (no_double : content_block
       reached_all size count count (length so_far.blocks) so_far.reached (omega arith),
     );
     same = λ b some lacks.
-        so_far.touched.same b some (λ is. lacks (is_first (inode_block k) (spread_named.blocks ++ so_far.blocks) b is))
-        (spread_named.apart b some (λ has. lacks
-        (is_later (inode_block k) (spread_named.blocks ++ so_far.blocks) b
+        so_far.touched.same b some (λ is. lacks (is_first (inode_block (length old) k) (spread_named.blocks ++ so_far.blocks) b is))
+        (spread_named.apart b (omega (arith, some)) (λ has. lacks
+        (is_later (inode_block (length old) k) (spread_named.blocks ++ so_far.blocks) b
         (Contains-append_left spread_named.blocks so_far.blocks b has))))
-        (λ has. lacks (is_later (inode_block k) (spread_named.blocks ++ so_far.blocks) b
+        (λ has. lacks (is_later (inode_block (length old) k) (spread_named.blocks ++ so_far.blocks) b
         (Contains-append_right spread_named.blocks so_far.blocks b has)));
   }

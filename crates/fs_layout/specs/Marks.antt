@@ -2,7 +2,7 @@
 use Rattle.std.specs.Prelude.{◌≡◌, ◌≢◌, ◌<◌, ◌≤◌, ℕ, Bool, true, false, List, [], length, slice_index_or}
 use Rattle.std.specs.List.{All}
 use Rattle.model.specs.Stream.{Octets}
-use Rattle.model.specs.Files.{is_marked_used}
+use Rattle.model.specs.Files.{bitmap_bits, bitmap_blocks, is_marked_used}
 use Rattle.fs_layout.specs.Bits.{bit_of}
 
 -- the lowest clear bit among the first `count`
@@ -30,8 +30,8 @@ pub record SetsMark (block : ℕ) (value : Bool) (old new : List Octets) : Type 
   pub count : length new ≡ length old
   pub whole : All (λ b. length b ≡ 4096) old → All (λ b. length b ≡ 4096) new
   pub here : is_marked_used new block ≡ value
-  pub other : (b : ℕ) → b < 65536 → b ≢ block → is_marked_used new b ≡ is_marked_used old b
-  pub blocks : (n : ℕ) → 2 ≤ n → slice_index_or new n [] ≡ slice_index_or old n []
+  pub other : (b : ℕ) → b < bitmap_bits (length old) → b ≢ block → is_marked_used new b ≡ is_marked_used old b
+  pub blocks : (n : ℕ) → bitmap_blocks (length old) ≤ n → slice_index_or new n [] ≡ slice_index_or old n []
 
 -- the lowest free block is marked
 pub record TakesBlock (block : ℕ) (old new : List Octets) : Type 0 where

@@ -2,27 +2,28 @@
 use Rattle.std.specs.Prelude.{◌≡◌, ◌≢◌, ◌⊎◌, ◌<◌, ◌≤◌, ℕ, ◌+◌, ◌-◌, ◌/◌, ◌%◌, nat_lt, if◌then◌else◌, List, [], length, slice_index_or}
 use Rattle.std.specs.List.{Contains}
 use Rattle.model.specs.Stream.{Octets}
-use Rattle.model.specs.Files.{double_pointer, entry_of, indirect_pointer, inode_of}
+use Rattle.model.specs.Files.{bitmap_blocks, double_pointer, entry_of, indirect_pointer, inode_of}
 use Rattle.model.specs.Asked.{blocks_appended, pointers_put}
 use Rattle.model.specs.Room.{content_blocks}
 
--- no block changes except the two of the bitmap and these
+-- no block changes except those of the bitmap and these
 abbrev pub SameBut : List ℕ → List Octets → List Octets → Type 0
-SameBut others old new = (b : ℕ) → 2 ≤ b → ¬ (Contains others b) → slice_index_or new b [] ≡ slice_index_or old b []
+SameBut others old new = (b : ℕ) → bitmap_blocks (length old) ≤ b → ¬ (Contains others b) → slice_index_or new b [] ≡ slice_index_or old b []
 
--- no block changes except the two of the bitmap and at most this many others
+-- no block changes except those of the bitmap and at most this many others
 pub record Touches (n : ℕ) (old new : List Octets) : Type 0 where
+  pub count : length new ≡ length old
   pub others : List ℕ
   pub few : length others ≤ n
   pub same : SameBut others old new
 
--- the block that contains inode k
-abbrev pub inode_block : ℕ → ℕ
-inode_block k = 2 + k / 64
+-- the block that contains inode k of a volume with this many blocks
+abbrev pub inode_block : ℕ → ℕ → ℕ
+inode_block count k = bitmap_blocks count + k / 64
 
 -- the block that contains the slot of inode k
-abbrev pub slot_block : ℕ → ℕ → ℕ
-slot_block inodes k = 2 + inodes / 64 + k / 64
+abbrev pub slot_block : ℕ → ℕ → ℕ → ℕ
+slot_block count inodes k = bitmap_blocks count + inodes / 64 + k / 64
 
 -- the double-indirect block of inode k, or 0
 abbrev pub double_of : List Octets → ℕ → ℕ
@@ -65,14 +66,16 @@ touched_by_write size place count =
 -- no block changes except the bitmap, the inode's, and those that named these blocks of its octets; each block that
 -- names blocks stays or is freed
 pub record TouchesInode (k from to : ℕ) (old new : List Octets) : Type 0 where
-  pub same : (b : ℕ) → 2 ≤ b → b ≢ inode_block k → NamesNone k from to old b → slice_index_or new b [] ≡ slice_index_or old b []
+  pub count : length new ≡ length old
+  pub same : (b : ℕ) → bitmap_blocks (length old) ≤ b → b ≢ inode_block (length old) k → NamesNone k from to old b → slice_index_or new b [] ≡ slice_index_or old b []
   pub double : (double_of new k ≡ double_of old k) ⊎ (double_of new k ≡ 0)
   pub tables : (p : ℕ) → (table_of new k p ≡ table_of old k p) ⊎ (table_of new k p ≡ 0)
 
 -- no block changes except the bitmap, the inode's, these of its octets, and those that name the new ones; each block
 -- that names blocks stays or is new
 pub record TouchesData (k : ℕ) (blocks : List ℕ) (from to : ℕ) (old new : List Octets) : Type 0 where
-  pub same : (b : ℕ) → 2 ≤ b → b ≢ inode_block k → NamesNone k from to new b → ¬ (Contains blocks b)
+  pub count : length new ≡ length old
+  pub same : (b : ℕ) → bitmap_blocks (length old) ≤ b → b ≢ inode_block (length old) k → NamesNone k from to new b → ¬ (Contains blocks b)
       → slice_index_or new b [] ≡ slice_index_or old b []
   pub double : (double_of old k ≡ 0) ⊎ (double_of new k ≡ double_of old k)
   pub tables : (p : ℕ) → (table_of old k p ≡ 0) ⊎ (table_of new k p ≡ table_of old k p)

@@ -5,14 +5,38 @@ ghost use Rattle.std.specs.List.{range_with_len};
 ghost use Rattle.model.specs.Volume.{number_at};
 ghost use Rattle.fs_layout.specs.Blocks.{IsThere};
 ghost use Rattle.model.specs.Files as files;
-ghost use Rattle.model.specs.Files.{HasRoom, entry, entry_of, free_inodes, indirect_pointer, pointer, largest_file, most_octets};
+ghost use Rattle.model.specs.Files.{HasRoom, bitmap_blocks, entry, entry_of, first_data, free_inodes, indirect_pointer, pointer, largest_file};
+ghost use Rattle.model.specs.Files.{most_octets};
 
-use crate::records::{RECORD_SIZE, get_record};
+use crate::marks::BLOCK_BITS;
+use crate::records::{RECORD_SIZE, get_inode};
 use blocks::{BLOCK_SIZE, Blocks};
 use octet_numbers::{number32, number64};
 
-/// The first block of the inodes, after the bitmap.
-pub const INODES_AT: u32 = 2;
+/// The fewest inodes that a volume may have, and the most.
+pub const FEWEST_INODES: u64 = 64;
+
+pub const MOST_INODES: u64 = 4_194_304;
+
+/// The fewest blocks that a volume must have for data.
+pub const FEWEST_DATA: u64 = 256;
+
+/// A volume with no more blocks than this has the smallest bitmap, which is two blocks.
+const SMALL_BITS: u32 = 65_536;
+
+/// The number of blocks of the bitmap of a volume with this many blocks. The inodes begin after them.
+pub fn bitmap_blocks(count: u32) -> u32
+    ensures { result ≡ bitmap_blocks count }
+{
+    2 + count.saturating_sub(SMALL_BITS).div_ceil(BLOCK_BITS as u32)
+}
+
+/// The first block of the data, in a volume with this many blocks and inodes.
+pub fn first_data(count: u32, inodes: u32) -> u32
+    ensures { result ≡ first_data count inodes }
+{
+    bitmap_blocks(count) + 2 * (inodes / RECORDS as u32)
+}
 
 /// The kind of a free inode.
 pub const FREE_KIND: u8 = 0;
@@ -42,7 +66,7 @@ pub const DOUBLE_AT: usize = 56;
 pub const SPARE_AT: usize = 60;
 
 /// The number of blocks for the octets of the largest file.
-pub const MOST_BLOCKS: u32 = 65_536;
+pub const MOST_BLOCKS: u32 = 1_048_575;
 
 /// The number of octets in the largest file.
 pub const MOST_OCTETS: u64 = MOST_BLOCKS as u64 * BLOCK_SIZE as u64;
@@ -60,14 +84,14 @@ pub fn size_of<B: Blocks>(blocks: &B, inodes: u32, at: u32) -> u64
     ensures { result ≡ files.size (entry inodes (B.blocks blocks.now) at) }
 {
     let mut inode = [0; RECORD_SIZE];
-    get_record(blocks, INODES_AT, at, &mut inode);
+    get_inode(blocks, at, &mut inode);
     number64(&inode, SIZE_AT)
 }
 
 /// The number of a file's i-th block.
 pub fn pointer_at<B: Blocks>(blocks: &B, inode: &[u8], i: u32) -> u32
     requires whole { length inode.now ≡ 64 }
-    requires few { i < 66560 }
+    requires few { i < 1049610 }
     requires double { 1034 ≤ i → IsThere (number_at 56 4 inode.now) (B.blocks blocks.now) }
     requires indirect { 10 ≤ i → IsThere (indirect_pointer (entry_of (B.blocks blocks.now) inode.now []) ((i - 10) / 1024))
         (B.blocks blocks.now) }
@@ -120,8 +144,9 @@ pub fn free_inode_count<B: Blocks>(blocks: &B, inodes: u32) -> u32
     ensures { result ≡ free_inodes inodes (B.blocks blocks.now) }
 {
     let mut free = 0;
+    let first = bitmap_blocks(blocks.len());
     for table in 0..inodes / 64 {
-        free += count_free(blocks.block(INODES_AT + table), RECORDS);
+        free += count_free(blocks.block(first + table), RECORDS);
     }
     free
 }

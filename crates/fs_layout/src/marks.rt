@@ -1,10 +1,11 @@
 //! The marks of the bitmap, which say which blocks are used.
 
-ghost use Rattle.std.specs.Prelude.{◌≡◌, ◌<◌, ◌≤◌, true, false, length, MatchOption, IfOk, OnOk};
-ghost use Rattle.model.specs.Files.{HasRoom, free_blocks};
+ghost use Rattle.std.specs.Prelude.{◌≡◌, ◌<◌, ◌≤◌, ℕ, ◌+◌, ◌*◌, true, false, length, MatchOption, IfOk, OnOk};
+ghost use Rattle.model.specs.Files.{HasRoom, bitmap_blocks, free_blocks, is_marked_used, most_blocks};
 ghost use Rattle.fs_layout.specs.Marks.{IsLowestFree, HasNoFreeBlock, NoneFreeBelow, SetsMark, TakesBlock};
 
 use crate::bits::{count_clear, lowest_clear, set, unset};
+use crate::inodes::bitmap_blocks;
 use blocks::{BLOCK_SIZE, Blocks};
 use std::alloc::AllocError;
 
@@ -14,31 +15,45 @@ pub const BLOCK_BITS: usize = 8 * BLOCK_SIZE;
 /// The lowest free block. The search starts at `from`; no block below it may be free.
 pub fn lowest_free<B: Blocks>(blocks: &B, from: u32) -> Option<u32>
     requires some { 2 ≤ length (B.blocks blocks.now) }
-    requires few { length (B.blocks blocks.now) ≤ 65536 }
+    requires few { length (B.blocks blocks.now) ≤ most_blocks }
     requires none { NoneFreeBelow from (B.blocks blocks.now) }
     ensures { MatchOption result (HasNoFreeBlock (B.blocks blocks.now)) (IsLowestFree (B.blocks blocks.now)) }
 {
-    let count = blocks.len() as usize;
-    let from = (from as usize).min(count);
-    let low = count.min(BLOCK_BITS);
-    if let Some(bit) = lowest_clear(blocks.block(0), from.min(low), low) {
-        return Some(bit as u32);
+    let count = blocks.len();
+    for table in from / BLOCK_BITS as u32..bitmap_blocks(count) {
+        if let Some(number) = lowest_free_in(blocks, from, table) {
+            return Some(number);
+        }
     }
-    if count <= BLOCK_BITS {
-        return None;
+    None
+}
+
+// The lowest free block of those whose marks are in one block of the bitmap. No block below `from` may be free.
+fn lowest_free_in<B: Blocks>(blocks: &B, from: u32, table: u32) -> Option<u32>
+    requires there { table < length (B.blocks blocks.now) }
+    requires few { length (B.blocks blocks.now) ≤ most_blocks }
+    requires none { NoneFreeBelow from (B.blocks blocks.now) }
+    ensures { MatchOption result
+        ((b : ℕ) → 32768 * table ≤ b → b < 32768 * table + 32768 → b < length (B.blocks blocks.now) → is_marked_used (B.blocks blocks.now) b ≡ true)
+        (λ number. (number < length (B.blocks blocks.now)) × (is_marked_used (B.blocks blocks.now) number ≡ false)
+        × ((b : ℕ) → 32768 * table ≤ b → b < number → is_marked_used (B.blocks blocks.now) b ≡ true)) }
+{
+    let start = BLOCK_BITS * table as usize;
+    let count = (blocks.len() as usize)
+        .saturating_sub(start)
+        .min(BLOCK_BITS);
+    let low = (from as usize).saturating_sub(start).min(count);
+    match lowest_clear(blocks.block(table), low, count) {
+        Some(bit) => Some((start + bit) as u32),
+        None => None,
     }
-    let rest = from.saturating_sub(BLOCK_BITS);
-    let Some(bit) = lowest_clear(blocks.block(1), rest, count - BLOCK_BITS) else {
-        return None;
-    };
-    Some((BLOCK_BITS + bit) as u32)
 }
 
 // Marks a block.
 fn mark<B: Blocks>(blocks: &mut B, number: u32) -> Result<(), AllocError>
     requires there { number < length (B.blocks blocks.old) }
     requires some { 2 ≤ length (B.blocks blocks.old) }
-    requires few { length (B.blocks blocks.old) ≤ 65536 }
+    requires few { length (B.blocks blocks.old) ≤ most_blocks }
     ensures done { OnOk result (SetsMark number true (B.blocks blocks.old) (B.blocks blocks.new)) }
     ensures kept { B.applied blocks.new ≡ B.applied blocks.old }
 {
@@ -53,7 +68,7 @@ fn mark<B: Blocks>(blocks: &mut B, number: u32) -> Result<(), AllocError>
 /// want of memory; then the caller must drop the stage.
 pub fn take_block<B: Blocks>(blocks: &mut B, from: u32) -> Result<u32, AllocError>
     requires some { 2 ≤ length (B.blocks blocks.old) }
-    requires few { length (B.blocks blocks.old) ≤ 65536 }
+    requires few { length (B.blocks blocks.old) ≤ most_blocks }
     requires none { NoneFreeBelow from (B.blocks blocks.old) }
     requires free { 0 < free_blocks (B.blocks blocks.old) }
     ensures taken { IfOk result (λ block. TakesBlock block (B.blocks blocks.old) (B.blocks blocks.new)) }
@@ -70,7 +85,7 @@ pub fn take_block<B: Blocks>(blocks: &mut B, from: u32) -> Result<u32, AllocErro
 pub fn unmark<B: Blocks>(blocks: &mut B, number: u32) -> Result<(), AllocError>
     requires there { number < length (B.blocks blocks.old) }
     requires some { 2 ≤ length (B.blocks blocks.old) }
-    requires few { length (B.blocks blocks.old) ≤ 65536 }
+    requires few { length (B.blocks blocks.old) ≤ most_blocks }
     ensures done { OnOk result (SetsMark number false (B.blocks blocks.old) (B.blocks blocks.new)) }
     ensures kept { B.applied blocks.new ≡ B.applied blocks.old }
 {
@@ -87,9 +102,12 @@ pub fn free_block_count<B: Blocks>(blocks: &B, inodes: u32) -> u32
     ensures { result ≡ free_blocks (B.blocks blocks.now) }
 {
     let count = blocks.len() as usize;
-    let low = count_clear(blocks.block(0), count.min(BLOCK_BITS));
-    if count <= BLOCK_BITS {
-        return low;
+    let mut free = 0;
+    for table in 0..bitmap_blocks(blocks.len()) {
+        let some = count
+            .saturating_sub(BLOCK_BITS * table as usize)
+            .min(BLOCK_BITS);
+        free += count_clear(blocks.block(table), some);
     }
-    low + count_clear(blocks.block(1), count - BLOCK_BITS)
+    free
 }

@@ -2,9 +2,10 @@
 
 ghost use Rattle.std.specs.Prelude.{◌≡◌, ◌≢◌, ℕ, ◌+◌, ◌*◌, ◌/◌, ◌%◌, ◌<◌, ◌≤◌, [], length, slice_index_or, MatchOption, OnOk};
 ghost use Rattle.disk.specs.Image.{part};
-ghost use Rattle.model.specs.Files.{HasRoom, slot_of};
+ghost use Rattle.model.specs.Files.{HasRoom, bitmap_blocks, inode_of, most_blocks, slot_of};
 ghost use Rattle.fs_layout.specs.Blocks.{PutsRecord, IsFoundIn, IsFound};
 
+use crate::inodes::bitmap_blocks;
 use blocks::Blocks;
 use std::alloc::AllocError;
 
@@ -14,7 +15,7 @@ pub const RECORD_SIZE: usize = 64;
 /// Copies a record of those that begin at block `first`.
 pub fn get_record<B: Blocks>(blocks: &B, first: u32, at: u32, into: &mut [u8])
     requires there { first + at / 64 < length (B.blocks blocks.now) }
-    requires few { length (B.blocks blocks.now) ≤ 65536 }
+    requires few { length (B.blocks blocks.now) ≤ most_blocks }
     requires whole { length into.old ≡ 64 }
     ensures { into.new ≡ part (at % 64 * 64) 64 (slice_index_or (B.blocks blocks.now) (first + at / 64) []) }
 {
@@ -32,13 +33,64 @@ pub fn put_record<B: Blocks>(
     octets: &[u8],
 ) -> Result<(), AllocError>
     requires there { first + at / 64 < length (B.blocks blocks.old) }
-    requires few { length (B.blocks blocks.old) ≤ 65536 }
+    requires few { length (B.blocks blocks.old) ≤ most_blocks }
     requires whole { length octets.now ≡ 64 }
     ensures done { OnOk result (PutsRecord first at octets.now (B.blocks blocks.old) (B.blocks blocks.new)) }
     ensures kept { B.applied blocks.new ≡ B.applied blocks.old }
 {
     let start = (at % 64) as usize * RECORD_SIZE;
     blocks.put_at(first + at / 64, start, octets)
+}
+
+/// Copies an inode.
+pub fn get_inode<B: Blocks>(blocks: &B, at: u32, into: &mut [u8])
+    requires there { bitmap_blocks (length (B.blocks blocks.now)) + at / 64 < length (B.blocks blocks.now) }
+    requires few { length (B.blocks blocks.now) ≤ most_blocks }
+    requires whole { length into.old ≡ 64 }
+    ensures { into.new ≡ inode_of (B.blocks blocks.now) at }
+{
+    get_record(blocks, bitmap_blocks(blocks.len()), at, into);
+}
+
+/// Copies a slot of the directory.
+pub fn get_slot<B: Blocks>(blocks: &B, inodes: u32, at: u32, into: &mut [u8])
+    requires room { HasRoom inodes (B.blocks blocks.now) }
+    requires below { at < inodes }
+    requires whole { length into.old ≡ 64 }
+    ensures { into.new ≡ slot_of inodes (B.blocks blocks.now) at }
+{
+    get_record(blocks, bitmap_blocks(blocks.len()) + inodes / 64, at, into);
+}
+
+/// Replaces an inode. Refused only for want of memory; then the caller must drop the stage.
+pub fn put_inode<B: Blocks>(blocks: &mut B, at: u32, octets: &[u8]) -> Result<(), AllocError>
+    requires there { bitmap_blocks (length (B.blocks blocks.old)) + at / 64 < length (B.blocks blocks.old) }
+    requires few { length (B.blocks blocks.old) ≤ most_blocks }
+    requires whole { length octets.now ≡ 64 }
+    ensures done { OnOk result
+        (PutsRecord (bitmap_blocks (length (B.blocks blocks.old))) at octets.now (B.blocks blocks.old) (B.blocks blocks.new)) }
+    ensures kept { B.applied blocks.new ≡ B.applied blocks.old }
+{
+    let first = bitmap_blocks(blocks.len());
+    put_record(blocks, first, at, octets)
+}
+
+/// Replaces a slot of the directory. Refused only for want of memory; then the caller must drop the stage.
+pub fn put_slot<B: Blocks>(
+    blocks: &mut B,
+    inodes: u32,
+    at: u32,
+    octets: &[u8],
+) -> Result<(), AllocError>
+    requires there { bitmap_blocks (length (B.blocks blocks.old)) + inodes / 64 + at / 64 < length (B.blocks blocks.old) }
+    requires few { length (B.blocks blocks.old) ≤ most_blocks }
+    requires whole { length octets.now ≡ 64 }
+    ensures done { OnOk result
+        (PutsRecord (bitmap_blocks (length (B.blocks blocks.old)) + inodes / 64) at octets.now (B.blocks blocks.old) (B.blocks blocks.new)) }
+    ensures kept { B.applied blocks.new ≡ B.applied blocks.old }
+{
+    let first = bitmap_blocks(blocks.len()) + inodes / 64;
+    put_record(blocks, first, at, octets)
 }
 
 /// The lowest inode whose slot has these octets.
@@ -61,8 +113,9 @@ pub fn find_from<B: Blocks>(blocks: &B, inodes: u32, from: u32, slot: &[u8]) -> 
         ((k : ℕ) → k < inodes → slot_of inodes (B.blocks blocks.now) k ≢ slot.now)
         (IsFound inodes (B.blocks blocks.now) slot.now) }
 {
+    let first = bitmap_blocks(blocks.len()) + inodes / 64;
     for table in from / 64..inodes / 64 {
-        let block = blocks.block(2 + inodes / 64 + table);
+        let block = blocks.block(first + table);
         if let Some(place) = find_in(block, slot) {
             return Some(64 * table + place);
         }

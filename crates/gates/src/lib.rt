@@ -10,9 +10,10 @@ ghost use Rattle.model.specs.Volume.{IsSuperblock, number_at};
 ghost use Rattle.gates.specs.Gates.{AreGates, AreWithin, IsCount, IsLook, IsSeen, Leaves, WritesBack, gate_at, writes_from};
 
 use disk::{Disk, DiskError};
+use octet_numbers::zeros;
 use std::alloc::Global;
 use volume_format::layout::{BLOCK, FORMAT_AT, gate_block, start_of};
-use volume_format::{read_superblock, zeros};
+use volume_format::read_superblock;
 
 /// The most gates that a volume has.
 const MOST_GATES: usize = 9;

@@ -1,10 +1,10 @@
 -- What a volume has too little of, by its used blocks and its files.
 use Rattle.std.proofs.Common.{◌≡◌, ℕ, ◌+◌, ◌-◌, ◌*◌, ◌<◌, ◌≤◌, Bool, true, false, List, [], length, refl, sym, ◌∙◌, ap, subst, arith}
-use Rattle.std.specs.Prelude.{if◌then◌else◌, nat_lt, slice_index_or, Option, Some, None}
+use Rattle.std.specs.Prelude.{if◌then◌else◌, nat_lt, Option, Some, None}
 use Rattle.std.proofs.lemmas.Bool.{le-ltb, lt-ltb, true≢false}
 use Rattle.std.proofs.lemmas.List.FromFn.{length-map-range_with_len}
 use Rattle.std.proofs.lemmas.List.Sorted.{length_permutation, sum_by-IsPermutation}
-use Rattle.model.specs.Files.{File, file_at, first_data, free_blocks, table}
+use Rattle.model.specs.Files.{File, bitmap_blocks, file_at, first_data, free_blocks, most_inodes, table}
 use Rattle.model.specs.Room.{blocks_for}
 use Rattle.model.specs.Spool.{groups}
 use Rattle.model.specs.SpoolFiles.{files_of}
@@ -14,7 +14,8 @@ use Rattle.model.proofs.HoldsOne.{there_few}
 use Rattle.model.proofs.Opening.{files_counted}
 use Rattle.spool.specs.View.{IsSpool, SpoolView}
 use Rattle.usage.proofs.Counted.{bits_used}
-use Rattle.usage.specs.Usage.{used_in}
+use Rattle.usage.proofs.Marked.{same_sum}
+use Rattle.usage.specs.Usage.{all_marked, marked, sum_of, used_in}
 use Rattle.volume.specs.Volume.{AgreeOutside}
 use Rattle.importing.specs.Room.{free_blocks_of, free_inodes_of, lack_of}
 use Rattle.importing.specs.declared.outcome.Lack.{Lack}
@@ -50,13 +51,13 @@ module _ (s : SpoolView) (sound : IsSpool s) where
         length-map-range_with_len (λ k. file_at s.inodes s.blocks k) 0 s.inodes,
       )
 
-  pub few_files : length s.changes + 2 * length (groups s.changes) ≤ 32768
+  pub few_files : length s.changes + 2 * length (groups s.changes) ≤ most_inodes
   few_files = omega (arith, files_counted_in, files_counted s.changes, sound.room.few)
 
   blocks_beside : free_blocks s.blocks ≡ free_blocks_of s
   blocks_beside =
       (free_is_beside s.inodes s.blocks sound.held.files sound.room sound.held.held).blocks_are
-      ∙ ap (λ (n : ℕ). length s.blocks - (first_data s.inodes + n))
+      ∙ ap (λ (n : ℕ). length s.blocks - (first_data (length s.blocks) s.inodes + n))
       (sym (sum_by-IsPermutation (λ (f : File). blocks_for (length f.content)) sound.held.files (files_of s.changes) sound.held.same))
 
   module _ (used : ℕ) (counted : used + free_blocks s.blocks ≡ length s.blocks) where
@@ -85,12 +86,10 @@ module _ (s : SpoolView) (sound : IsSpool s) where
 -- ---- where no block is dirty, the bitmap on the device is that of the spool
 
 pub used_are : (s : SpoolView) (blocks : List Octets) (used : ℕ) → IsSpool s → s.dirty ≡ [] → AgreeOutside s.dirty blocks s.blocks
-    → used ≡ used_in (slice_index_or blocks 0 []) + used_in (slice_index_or blocks 1 [])
-    → used + free_blocks s.blocks ≡ length s.blocks
+    → used ≡ all_marked blocks → used + free_blocks s.blocks ≡ length s.blocks
 used_are s blocks used sound clean agrees is =
     let all : AgreeOutside [] blocks s.blocks = subst (λ (ns : List ℕ). AgreeOutside ns blocks s.blocks) clean agrees in
-    let first : used_in (slice_index_or blocks 0 []) ≡ used_in (slice_index_or s.blocks 0 []) =
-    ap used_in (all.same 0 (λ has. omega (arith, has.1))) in
-    let second : used_in (slice_index_or blocks 1 []) ≡ used_in (slice_index_or s.blocks 1 []) =
-    ap used_in (all.same 1 (λ has. omega (arith, has.1))) in
-    omega (arith, is, first, second, bits_used s.inodes s.blocks sound.room sound.held.held.rule)
+    let same : all_marked blocks ≡ all_marked s.blocks =
+    same_sum (marked blocks) (marked s.blocks) (bitmap_blocks (length blocks)) (λ n low. ap used_in (all.same n (λ has. omega (arith, has.1))))
+    ∙ ap (λ (count : ℕ). sum_of (marked s.blocks) (bitmap_blocks count)) all.count in
+    omega (arith, is, same, bits_used s.inodes s.blocks sound.room sound.held.held.rule)

@@ -10,6 +10,8 @@ use Rattle.std.proofs.lemmas.Slice.Eq.{bytes_eq-Decides}
 use Rattle.disk.specs.Device.{Device}
 use Rattle.journal.specs.Inside.{IsVolume}
 use Rattle.journal.specs.Journal.{IsReady, JournalView}
+use Rattle.kernel.specs.Kernel.{most_dirty}
+use Rattle.model.specs.Files.{most_blocks}
 use Rattle.model.specs.Layout.{Holds, HoldsIn, IsLabel, Stands}
 use Rattle.model.specs.Spool.{Spool}
 use Rattle.model.specs.Stream.{Octets}
@@ -49,14 +51,15 @@ agrees_on base old new before after changed agrees = record { count = agrees.cou
       ∙ by_test k none (bytes_eq (slice_index_or old k []) (slice_index_or new k [])) refl
 
 module _ {D : Type 0} (device : D → Device) (journal : JournalView D) (old new : SpoolView) (durable : ℕ)
-    (tied : IsTied device journal old durable) (room : length old.dirty ≤ 256) where
+    (tied : IsTied device journal old durable) (few : length old.blocks ≤ most_blocks)
+    (room : length old.dirty ≤ most_dirty (length old.blocks)) where
   adds : (c : Change) → Adds old new c → IsTied device journal new durable
   adds c added =
       let more : take durable new.changes ≡ take durable old.changes =
       ap (take durable) added.changes ∙ take-append-le durable old.changes (c ∷ []) tied.durable_within in
       record {
         format = tied.format;
-        few = omega (arith, added.dirties.few, room);
+        few = omega (arith, added.dirties.few, few, room);
         labelled = subst (λ (t : ℕ × Octets). IsLabel journal.label journal.size t.0 t.1)
             (λ i. (sym added.inodes i, sym added.host i)) tied.labelled;
         size = added.dirties.size ∙ tied.size;

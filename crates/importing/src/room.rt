@@ -1,18 +1,17 @@
 //! What a volume has too little of for a text.
 
-ghost use Rattle.std.specs.Prelude.{◌≡◌, ◌+◌, ◌<◌, [], IfOk, IsTrue, OnOk, length, slice_index_or};
+ghost use Rattle.std.specs.Prelude.{◌≡◌, ◌+◌, IfOk, IsTrue, length};
 ghost use Rattle.journal.specs.Journal.{IsReady};
 ghost use Rattle.model.specs.Files.{free_blocks};
-ghost use Rattle.usage.specs.Usage.{used_in};
+ghost use Rattle.usage.specs.Usage.{all_marked};
 ghost use Rattle.importing.specs.Room.{lack_of};
 
 use crate::outcome::Lack;
-use blocks::BLOCK_SIZE;
 use disk::Disk;
 use journal::{Journal, JournalError};
 use lookups::LookUps;
 use spool::Spool;
-use usage::{inodes_used, used_blocks};
+use usage::{BitmapMarks, inodes_used};
 
 /// A change is made only if this many blocks are free.
 const BLOCKS_ASKED: u64 = filing::BLOCKS_ASKED as u64;
@@ -33,8 +32,8 @@ pub(crate) fn lack_by(spool: &Spool, used: u64) -> Option<Lack>
     None
 }
 
-/// The number of used blocks, by two reads of the bitmap on the device: the logical blocks 0 and 1 (docs/FORMATS.md).
-/// The only refusal is `Fault`, which halts the journal for good.
+/// The number of used blocks, by the bitmap on the device (docs/FORMATS.md). The only refusal is `Fault`, which halts the
+/// journal for good.
 pub(crate) fn blocks_used<D: Disk>(journal: &mut Journal<D>) -> Result<u64, JournalError>
     requires { IsReady journal.old }
     ensures label { journal.new.label ≡ journal.old.label }
@@ -42,30 +41,7 @@ pub(crate) fn blocks_used<D: Disk>(journal: &mut Journal<D>) -> Result<u64, Jour
     ensures size { journal.new.size ≡ journal.old.size }
     ensures tells { (D.device journal.new.disk).tells ≡ (D.device journal.old.disk).tells }
     ensures blocks { IsTrue (D.device journal.old.disk).tells → journal.new.blocks ≡ journal.old.blocks }
-    ensures value { IsTrue (D.device journal.old.disk).tells
-        → IfOk result (λ used. used ≡ used_in (slice_index_or journal.old.blocks 0 []) + used_in (slice_index_or journal.old.blocks 1 [])) }
+    ensures value { IsTrue (D.device journal.old.disk).tells → IfOk result (λ used. used ≡ all_marked journal.old.blocks) }
 {
-    // its clauses state that there are two blocks
-    let _idle = journal.is_idle();
-    let first = used_in_block(journal, 0)?;
-    let second = used_in_block(journal, 1)?;
-    Ok(u64::from(first) + u64::from(second))
-}
-
-/// The number of blocks that a block of the bitmap on the device marks as used.
-fn used_in_block<D: Disk>(journal: &mut Journal<D>, block: u64) -> Result<u32, JournalError>
-    requires ready { IsReady journal.old }
-    requires below { block < journal.old.size }
-    ensures ready { OnOk result (IsReady journal.new) }
-    ensures label { journal.new.label ≡ journal.old.label }
-    ensures format { journal.new.format ≡ journal.old.format }
-    ensures size { journal.new.size ≡ journal.old.size }
-    ensures tells { (D.device journal.new.disk).tells ≡ (D.device journal.old.disk).tells }
-    ensures blocks { IsTrue (D.device journal.old.disk).tells → journal.new.blocks ≡ journal.old.blocks }
-    ensures value { IsTrue (D.device journal.old.disk).tells
-        → IfOk result (λ used. used ≡ used_in (slice_index_or journal.old.blocks block [])) }
-{
-    let mut octets = [0; BLOCK_SIZE];
-    journal.load(block, &mut octets)?;
-    Ok(used_blocks(&octets))
+    Ok(BitmapMarks::read(journal)?.all())
 }

@@ -2,6 +2,7 @@
 
 ghost use Rattle.std.specs.Prelude.{◌≡◌, ◌≢◌, ◌+◌, ◌≤◌, IfErr, IfOk, IsTrue, OnErr, OnOk, length};
 ghost use Rattle.journal.specs.Journal.{IsReady};
+ghost use Rattle.kernel.specs.Kernel.{most_dirty};
 ghost use Rattle.model.specs.Files.{free_blocks};
 ghost use Rattle.opening.specs.Standing as standing;
 ghost use Rattle.opening.specs.Standing.{IsDamagedVolume, IsNoNewsVolume};
@@ -16,7 +17,7 @@ use crate::transfer::file_text;
 use crate::writing::write;
 use disk::Disk;
 use journal::{Journal, JournalError};
-use kernel::open_spool;
+use kernel::{most_dirty, open_spool};
 use lookups::LookUps;
 use model::Moment;
 use opening::OpenError;
@@ -25,9 +26,6 @@ use spool::Spool;
 use std::alloc::{AllocError, Global};
 use std::marker::Model;
 use volume::BatchBuf;
-
-/// With more dirty blocks than this, no text is filed until a batch is written.
-const MOST_DIRTY: usize = 256;
 
 /// A volume with its journal.
 pub struct Store<D: Disk> {
@@ -104,14 +102,14 @@ impl<D: Disk> Store<D> {
         (self.spool.len(), self.durable)
     }
 
-    /// Makes sure that there is room for a text among the dirty blocks: if more than 256 are dirty, it makes all changes
-    /// durable. Refused as `commit` is.
+    /// Makes sure that there is room for a text among the dirty blocks: if there are more than `most_dirty`, it makes all
+    /// changes durable. Refused as `commit` is.
     pub fn make_room(&mut self) -> Result<(), JournalError>
-        ensures room { OnOk result (length self.new.spool.dirty ≤ 256) }
+        ensures room { OnOk result (length self.new.spool.dirty ≤ most_dirty (length self.new.spool.blocks)) }
         ensures spool { self.new.spool ≡ record self.old.spool { dirty = self.new.spool.dirty } }
         ensures prefix { LeavesPrefix D.device self.old self.new }
     {
-        if self.spool.dirty_len() <= MOST_DIRTY {
+        if self.spool.dirty_len() <= most_dirty(self.spool.blocks()) {
             return Ok(());
         }
         self.commit()?;
@@ -126,12 +124,14 @@ impl<D: Disk> Store<D> {
         text: &[u8],
         moment: Moment,
     ) -> Result<TextOutcome, AllocError>
-        requires { length self.old.spool.dirty ≤ 256 }
+        requires { length self.old.spool.dirty ≤ most_dirty (length self.old.spool.blocks) }
         ensures ok { IfOk result (Becomes self.old.spool self.new.spool (ends.with_crlf text.now) moment) }
         ensures journal { self.new.journal ≡ self.old.journal }
         ensures durable { self.new.durable ≡ self.old.durable }
         ensures err { OnErr result (self.new ≡ self.old) }
     {
+        // its clauses state how many blocks a volume has
+        self.spool.kept();
         let text = with_crlf(alloc, text)?;
         file_text(alloc, &mut self.spool, &text, moment)
     }

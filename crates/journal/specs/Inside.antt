@@ -103,7 +103,7 @@ pub record IsKept (device : Device) (blocks : ℕ) (superblock : List ℕ) (next
     (is_last : Bool) : Type 0 where
   pub size : device.size ≡ 4096 * home_place (length room) blocks
   pub low : 1024 ≤ blocks
-  pub high : blocks ≤ 65536
+  pub high : blocks ≤ 4194304
   pub superblock_size : length superblock ≡ 4096
   pub few : length room ≤ 8
   pub there : filled < length room

@@ -161,7 +161,7 @@ impl<D: Disk> Journal<D> {
     pub fn blocks(&self) -> u64
         ensures size { result ≡ self.now.size }
         ensures low { 1024 ≤ result }
-        ensures high { result ≤ 65536 }
+        ensures high { result ≤ 4194304 }
         ensures device { (D.device self.now.disk).size ≡ 4096 * home_place self.now.segments result }
     {
         self.blocks
@@ -174,7 +174,7 @@ impl<D: Disk> Journal<D> {
         ensures now { LeavesAdmitted D.device self.now }
         ensures whole { HasWholeBlocks D.device self.now }
         ensures some { 1024 ≤ self.now.size }
-        ensures few { self.now.size ≤ 65536 }
+        ensures few { self.now.size ≤ 4194304 }
     {
         !self.halted && stepping::is_idle(self.next)
     }

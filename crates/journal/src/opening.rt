@@ -14,9 +14,9 @@ ghost use Rattle.journal.specs.Opening.{Costs, IsMore, NeverSyncs, Opens, Refuse
 use crate::{Journal, JournalError, Next, Refused};
 use disk::{Disk, DiskError};
 use journal_segments::{Segment, SegmentError, find_open, load_superblock};
+use octet_numbers::zeros;
 use std::alloc::{AllocError, Global};
 use volume_format::layout::{BLOCK, SEGMENTS};
-use volume_format::zeros;
 
 impl<D: Disk> Journal<D> {
     /// Opens the volume on the device: one sync, then the reads. The images of the open segments are carried home in

@@ -9,11 +9,11 @@ ghost use Rattle.journal_segments.specs.Found.{IsQuiet, IsReadFrom, IsStill, IsT
 use crate::SegmentError;
 use crate::reading::load_batch;
 use disk::Disk;
-use octet_numbers::number64;
+use octet_numbers::{number64, zeros};
 use std::alloc::{AllocError, Global};
 use std::marker::Model;
+use volume_format::describe_batch;
 use volume_format::layout::{BLOCK, SEGMENT_IMAGES, block_at};
-use volume_format::{describe_batch, zeros};
 
 /// A segment: its place on the device, and the descriptor block, the numbers and the images of its batch. It has room
 /// for the largest batch, and never grows.

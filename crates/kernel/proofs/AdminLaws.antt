@@ -12,7 +12,7 @@ use Rattle.spool.specs.View.{SpoolView, Adds}
 use Rattle.spool.specs.Refusals.{expiry_refusal, group_refusal, has_number, is_full_for}
 use Rattle.spool.specs.declared.errors.AddError.TheVariants as add
 use Rattle.spool.specs.declared.errors.ExpireError.TheVariants as expire
-use Rattle.kernel.specs.Kernel.{Administers, Exists, Full, Halted, KernelView, LaterDirty, NotFound, Refusal, TooManySessions}
+use Rattle.kernel.specs.Kernel.{most_dirty, Administers, Exists, Full, Halted, KernelView, LaterDirty, NotFound, Refusal, TooManySessions}
 use Rattle.kernel.specs.Kernel.{admin_refusal_of, early_refusal, expire_refusal_of, first_failing, join_refusal, only_tested}
 use Rattle.seats.specs.Seats.{Seat}
 use Rattle.kernel.specs.Stored.{kernel_of}
@@ -35,25 +35,25 @@ few_seats k is = go k.halted refl (nat_le 64 (length k.seats)) refl
 
 -- an early test that fails is the first of all
 pub early_first : (k : KernelView) (c : Change) (r : Refusal) → early_refusal k ≡ Some r → admin_refusal_of k c ≡ Some r
-early_first k c r is = go k.halted refl (nat_lt 256 (length k.dirty)) refl
+early_first k c r is = go k.halted refl (nat_lt (most_dirty (length k.blocks)) (length k.dirty)) refl
   where
-    go : (h : Bool) → k.halted ≡ h → (b : Bool) → nat_lt 256 (length k.dirty) ≡ b → admin_refusal_of k c ≡ Some r
+    go : (h : Bool) → k.halted ≡ h → (b : Bool) → nat_lt (most_dirty (length k.blocks)) (length k.dirty) ≡ b → admin_refusal_of k c ≡ Some r
     go true halted b late = rw halted (rw halted at is)
     go false halted true late = rw (halted, late) (rw (halted, late) at is)
     go false halted false late = absurd (let none : None ≡ Some r = rw (halted, late) at is in cc none)
 
 -- where no early test fails, the kernel is not halted, and few blocks are dirty
-pub early_none : (k : KernelView) → early_refusal k ≡ None → (k.halted ≡ false) × (nat_lt 256 (length k.dirty) ≡ false)
-early_none k is = go k.halted refl (nat_lt 256 (length k.dirty)) refl
+pub early_none : (k : KernelView) → early_refusal k ≡ None → (k.halted ≡ false) × (nat_lt (most_dirty (length k.blocks)) (length k.dirty) ≡ false)
+early_none k is = go k.halted refl (nat_lt (most_dirty (length k.blocks)) (length k.dirty)) refl
   where
-    go : (h : Bool) → k.halted ≡ h → (b : Bool) → nat_lt 256 (length k.dirty) ≡ b
-        → (k.halted ≡ false) × (nat_lt 256 (length k.dirty) ≡ false)
+    go : (h : Bool) → k.halted ≡ h → (b : Bool) → nat_lt (most_dirty (length k.blocks)) (length k.dirty) ≡ b
+        → (k.halted ≡ false) × (nat_lt (most_dirty (length k.blocks)) (length k.dirty) ≡ false)
     go true halted b late = absurd (let some : Some Halted ≡ None = rw halted at is in cc some)
     go false halted true late = absurd (let some : Some LaterDirty ≡ None = rw (halted, late) at is in cc some)
     go false halted false late = (halted, late)
 
-pub few_dirty : (k : KernelView) → early_refusal k ≡ None → length k.dirty ≤ 256
-few_dirty k is = ltb-false 256 (length k.dirty) (early_none k is).1
+pub few_dirty : (k : KernelView) → early_refusal k ≡ None → length k.dirty ≤ most_dirty (length k.blocks)
+few_dirty k is = ltb-false (most_dirty (length k.blocks)) (length k.dirty) (early_none k is).1
 
 module _ (s : SpoolView) (d : ℕ) (f : Option ℕ) (h : Bool) (j : ℕ) (seats : List Seat) (g : NewGroup)
     (early : early_refusal (kernel_of s d f h j seats) ≡ None) where

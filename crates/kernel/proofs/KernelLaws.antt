@@ -22,7 +22,7 @@ use Rattle.model.specs.declared.session.Session.{Session}
 use Rattle.outbox.specs.Queue.{ReadyEntry, HeldOutput, octets_in}
 use Rattle.spool.specs.View.{Dirties, IsSpool, SpoolView}
 use Rattle.volume.specs.Volume.{Differs}
-use Rattle.kernel.specs.Kernel.{KernelView, is_block, mode_at}
+use Rattle.kernel.specs.Kernel.{most_dirty, KernelView, is_block, mode_at}
 use Rattle.seats.specs.Seats.{Seat, answered_by, given_of, new_seat, ready, ready_by, ready_of, seat_given, with_seat}
 use Rattle.kernel.specs.Kept.{IsKept}
 use Rattle.seats.specs.Kept.{IsSeat, RiseFrom, StillAwaits}
@@ -83,7 +83,7 @@ all_below s s' dirties below = All-from_get_or (λ n. n < length s'.blocks) s'.d
 
 -- all but the sessions, after a change or none
 pub kept_grown : (s s' : SpoolView) (d : ℕ) (f : Option ℕ) (halted : Bool) (j : ℕ) (seats : List Seat) (c : Option Change)
-    → (IsSome c → length s.dirty ≤ 256) → (IsSome c → IsSpool s') → Grows s s' c
+    → (IsSome c → length s.dirty ≤ most_dirty (length s.blocks)) → (IsSome c → IsSpool s') → Grows s s' c
     → IsKept (kernel_of s d f halted j seats) → IsKept (kernel_of s' d f halted j seats)
 kept_grown s s' d f halted j seats None room sound is h = subst (λ (r : SpoolView). IsKept (kernel_of r d f halted j seats)) (sym is) h
 kept_grown s s' d f halted j seats (Some c) room sound adds h =
@@ -93,7 +93,7 @@ kept_grown s s' d f halted j seats (Some c) room sound adds h =
       cache = (sound refl).held;
       durable = omega (arith, h.durable);
       flying = flying_more f d (length s.changes) (length s'.changes) (omega arith) h.flying;
-      few_dirty = omega (arith, adds.dirties.few);
+      few_dirty = omega (arith, adds.dirties.few, clean, (sound refl).room.count_few, adds.dirties.size);
       below = all_below s s' adds.dirties h.below;
       distinct = adds.dirties.distinct;
       few_seats = h.few_seats;
@@ -111,7 +111,7 @@ some_awaits (first ∷ held) output x = tt
 pub kept_served : (s s' : SpoolView) (d : ℕ) (f : Option ℕ) (halted : Bool) (j : ℕ) (seats : List Seat) (at : ℕ) (seat seat' : Seat)
     (m : Message) (t : ℕ) (mark : Mark)
     → slice_get seats at ≡ Some seat → IsSome (mode_of seat.session.awaits)
-    → (IsSome (answer_in s seat.session m t mark).change → length s.dirty ≤ 256)
+    → (IsSome (answer_in s seat.session m t mark).change → length s.dirty ≤ most_dirty (length s.blocks))
     → (IsSome (answer_in s seat.session m t mark).change → IsSpool s') → Grows s s' (answer_in s seat.session m t mark).change
     → seat' ≡ answered_by s.host s.changes m t mark seat → IsKept (kernel_of s d f halted j seats)
     → IsKept (kernel_of s' d f halted j (set seats at seat'))

@@ -2,3 +2,4 @@ pub mod KernelLaws
 pub mod TakingLaws
 pub mod ExecLaws
 pub mod AdminLaws
+pub mod Reading

@@ -1,6 +1,7 @@
 -- The kernel as its callers see it, and what each call does.
 use Rattle.std.specs.Prelude.{All, bytes_eq, slice_index_or, ◌≡◌, ◌⊎◌, ℕ, ◌+◌, ◌-◌, ◌^◌, ◌≤◌, ◌<◌, Bool, true, false, not, ◌&&◌, ◌||◌, ◌==◌}
 use Rattle.std.specs.Prelude.{nat_lt, nat_le, if◌then◌else◌, List, [], ◌∷◌, ◌++◌, map, filter, find, length, Option, Some, None, is_none}
+use Rattle.model.specs.Files.{bitmap_blocks}
 use Rattle.std.specs.Prelude.{is_some, Result, Ok, Err, MatchResult}
 use Rattle.std.specs.List.{list_any}
 use Rattle.std.specs.Option.{option_to_list}
@@ -39,6 +40,11 @@ pub record KernelView : Type 0 where
   pub joined : ℕ
   -- the sessions that exist, in rising number
   pub seats : List Seat
+
+-- the number of dirty blocks with more than which no change is made: a batch has at most 512, and a change dirties at most 254 and
+-- those of the bitmap
+abbrev pub most_dirty : ℕ → ℕ
+most_dirty count = 258 - bitmap_blocks count
 
 -- ---- which test fails first
 
@@ -90,7 +96,7 @@ join_refusal kernel = first_failing
 abbrev pub exec_refusal : KernelView → ℕ → Message → Option Refusal
 exec_refusal kernel number m =
     first_failing ((is_none (mode_at kernel number), NoSession) ∷ (nat_le 1048576 (buffered kernel number), LaterOut) ∷
-    (not kernel.halted && is_block m && nat_lt 256 (length kernel.dirty), LaterDirty) ∷ [])
+    (not kernel.halted && is_block m && nat_lt (most_dirty (length kernel.blocks)) (length kernel.dirty), LaterDirty) ∷ [])
 
 -- ---- exec
 
@@ -110,12 +116,12 @@ answered kernel m t mark seat = answered_by kernel.host kernel.spool m t mark se
 abbrev pub is_dirty : KernelView → ℕ → Bool
 is_dirty kernel k = list_any (λ (n : ℕ). n == k) kernel.dirty
 
--- the dirty blocks are those that were dirty, and those that differ now; one change dirties at most 256
+-- the dirty blocks are those that were dirty, and those that differ now; one change dirties at most 254 and those of the bitmap
 pub record Dirties (old new : KernelView) : Type 0 where
   pub size : length new.blocks ≡ length old.blocks
   pub exactly : (k : ℕ) → k < length new.blocks →
       is_dirty new k ≡ (is_dirty old k || not (bytes_eq (slice_index_or old.blocks k []) (slice_index_or new.blocks k [])))
-  pub few : length new.dirty ≤ length old.dirty + 256
+  pub few : length new.dirty ≤ length old.dirty + (254 + bitmap_blocks (length old.blocks))
 
 -- the plain server's answer on the present spool, with this mark
 pub record Executed (old new : KernelView) (seat : Seat) (m : Message) (t : ℕ) (mark : Mark) : Type 0 where
@@ -208,7 +214,7 @@ pub record Execs (old new : KernelView) (number : ℕ) (m : Message) (t : ℕ) (
 
 -- the tests of admin and expire that come before any growth
 abbrev pub early_refusal : KernelView → Option Refusal
-early_refusal kernel = first_failing ((kernel.halted, Halted) ∷ (nat_lt 256 (length kernel.dirty), LaterDirty) ∷ [])
+early_refusal kernel = first_failing ((kernel.halted, Halted) ∷ (nat_lt (most_dirty (length kernel.blocks)) (length kernel.dirty), LaterDirty) ∷ [])
 
 -- whether a group with the name that the change gives exists already
 abbrev pub makes_again : Spool → Change → Bool
@@ -220,7 +226,7 @@ makes_again S (change.Expire e) = false
 abbrev pub admin_refusal_of : KernelView → Change → Option Refusal
 admin_refusal_of kernel c =
     first_failing (
-    (kernel.halted, Halted) ∷ (nat_lt 256 (length kernel.dirty), LaterDirty) ∷ (makes_again kernel.spool c, Exists)
+    (kernel.halted, Halted) ∷ (nat_lt (most_dirty (length kernel.blocks)) (length kernel.dirty), LaterDirty) ∷ (makes_again kernel.spool c, Exists)
     ∷ (is_full (length kernel.blocks) kernel.inodes kernel.spool (Some c), Full) ∷ [])
 
 -- whether the change removes a number that the group does not have
@@ -233,7 +239,7 @@ takes_none S (change.Expire e) = not (has_number S e.group e.number)
 abbrev pub expire_refusal_of : KernelView → Change → Option Refusal
 expire_refusal_of kernel c =
     first_failing (
-    (kernel.halted, Halted) ∷ (nat_lt 256 (length kernel.dirty), LaterDirty) ∷ (takes_none kernel.spool c, NotFound)
+    (kernel.halted, Halted) ∷ (nat_lt (most_dirty (length kernel.blocks)) (length kernel.dirty), LaterDirty) ∷ (takes_none kernel.spool c, NotFound)
     ∷ (is_full (length kernel.blocks) kernel.inodes kernel.spool (Some c), Full) ∷ [])
 
 -- the operator's change is accepted: a group is made, or articles are removed from one

@@ -3,13 +3,13 @@
 //! what its invariant is.
 #![tactic(auto)]
 
-ghost use Rattle.std.specs.Prelude.{[], None, ◌++◌, ◌&&◌, nat_lt, ◌≡◌, ◌≢◌, ◌⊎◌, ◌↔◌, ◌+◌, ◌*◌, ◌<◌, Some, IsSome, IsNone, IsTrue};
+ghost use Rattle.std.specs.Prelude.{[], None, ◌≤◌, ◌++◌, ◌&&◌, nat_lt, ◌≡◌, ◌≢◌, ◌⊎◌, ◌↔◌, ◌+◌, ◌*◌, ◌<◌, Some, IsSome, IsNone, IsTrue};
 ghost use Rattle.std.specs.Prelude.{IfOk, IfSome, OnErr, length, true, false, is_some, option_map, slice_get};
 ghost use Rattle.kernel.specs.Errors.{of_join, of_exec, of_admin, of_expire};
 ghost use Rattle.kernel.specs.Kept.{IsKept};
 ghost use Rattle.kernel.specs.Kernel.{Administers, Execs, FitsMode, Takes, Tested, TestedOrMemory, admin_refusal_of, early_refusal};
 ghost use Rattle.kernel.specs.Kernel.{exec_refusal, expire_refusal_of, has_batch, halted_for_good, is_block, join_refusal, joined, left};
-ghost use Rattle.kernel.specs.Kernel.{made_durable, mode_at, only_tested, released, released_of, seat_of};
+ghost use Rattle.kernel.specs.Kernel.{made_durable, mode_at, most_dirty, only_tested, released, released_of, seat_of};
 ghost use Rattle.seats.specs.Seats.{holds, ready, ready_of, Seat as SeatView};
 ghost use Rattle.model.specs.Volume.{blocks_from};
 ghost use Rattle.model.specs.declared.change.Change.TheVariants.{Group, Expire};
@@ -18,6 +18,7 @@ ghost use Rattle.names.specs.Requests.{group_of};
 
 mod opening;
 
+use fs_layout::inodes::bitmap_blocks;
 use lookups::LookUps;
 use model::{Mark, Message, Mode, Moment};
 use names::{GroupName, GroupRequest};
@@ -30,13 +31,22 @@ use spool::AddError;
 pub use spool::Spool;
 use std::alloc::Global;
 use std::marker::Model;
+use volume::BATCH_BLOCKS;
 pub use volume::BatchBuf;
 
 /// A session with this many buffered octets is not served again until some are released.
 pub const MOST_BUFFERED: u64 = 1_048_576;
 
-/// With more dirty blocks than this, no article, group or expiry is accepted until a batch is taken.
-pub const MOST_DIRTY: usize = 256;
+/// The most blocks that one change makes dirty, beside those of the bitmap.
+const MOST_CHANGED: usize = 254;
+
+/// The number of dirty blocks with more than which no article, group or expiry is accepted until a batch is taken. A
+/// batch has at most 512 blocks, and a change dirties at most 254 and those of the bitmap.
+pub fn most_dirty(blocks: u32) -> usize
+    ensures { result ≡ most_dirty blocks }
+{
+    (BATCH_BLOCKS - MOST_CHANGED).saturating_sub(bitmap_blocks(blocks) as usize)
+}
 
 /// The value under the lock.
 pub struct Kernel {
@@ -191,7 +201,11 @@ impl Kernel {
             };
             return Ok((None, Mark::Stopped));
         }
-        if is_late(received.message(), self.spool.dirty_len()) {
+        if is_late(
+            received.message(),
+            self.spool.blocks(),
+            self.spool.dirty_len(),
+        ) {
             return Err(ExecError::LaterDirty);
         }
         let Ok(done) = seat.serve(alloc, &mut self.spool, received, moment) else {
@@ -208,7 +222,7 @@ impl Kernel {
         if self.halted {
             return Err(AdminError::Halted);
         }
-        if self.spool.dirty_len() > MOST_DIRTY {
+        if self.spool.dirty_len() > most_dirty(self.spool.blocks()) {
             return Err(AdminError::LaterDirty);
         }
         Ok(())
@@ -241,7 +255,7 @@ impl Kernel {
         if self.halted {
             return Err(ExpireError::Halted);
         }
-        if self.spool.dirty_len() > MOST_DIRTY {
+        if self.spool.dirty_len() > most_dirty(self.spool.blocks()) {
             return Err(ExpireError::LaterDirty);
         }
         Ok(())
@@ -383,9 +397,9 @@ impl Kernel {
     }
 }
 
-/// Whether a message must wait until a batch is taken: an article must, while more than 256 blocks are dirty.
-fn is_late(message: &Message, dirty: usize) -> bool
-    ensures { result ≡ (is_block message.now && nat_lt 256 dirty) }
+/// Whether a message must wait until a batch is taken: an article must, while too many blocks are dirty.
+fn is_late(message: &Message, blocks: u32, dirty: usize) -> bool
+    ensures { result ≡ (is_block message.now && nat_lt (most_dirty blocks) dirty) }
 {
-    matches!(message, Message::Block(_)) && dirty > MOST_DIRTY
+    matches!(message, Message::Block(_)) && dirty > most_dirty(blocks)
 }

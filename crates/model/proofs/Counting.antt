@@ -12,7 +12,7 @@ use Rattle.std.proofs.lemmas.List.Sums.{sum_by-cons, sum_by-append}
 use Rattle.model.specs.Stream.{Octets}
 use Rattle.model.specs.Volume.{AreDistinct}
 use Rattle.model.specs.Files.{File, HasRoom, IsFile, IsFree, IsFileSystem, content_of, entry, file_at, files_in, first_data, double_pointer}
-use Rattle.model.specs.Files.{free_blocks, indirect_for, is_marked_used, kind, name_in, owned, size, slot_of, table, IsUsed}
+use Rattle.model.specs.Files.{bitmap_bits, free_blocks, indirect_for, is_marked_used, kind, name_in, owned, size, slot_of, table, IsUsed}
 use Rattle.model.specs.Room.{blocks_for, blocks_of_files, content_blocks}
 use Rattle.model.specs.Laws.Room.{FreeIsBeside}
 use Rattle.model.proofs.Distinct.{distinct_append, distinct_cons, distinct_head, distinct_none, distinct_tail}
@@ -198,35 +198,35 @@ module _ (inodes : ℕ) (blocks : List Octets) (fs : IsFileSystem inodes blocks)
 
   -- the blocks in use, none of them twice
   abbrev used : List ℕ
-  used = range_with_len 0 (first_data inodes) ++ owned_from 0 inodes
+  used = range_with_len 0 (first_data (length blocks) inodes) ++ owned_from 0 inodes
 
   used_distinct : AreDistinct used
-  used_distinct = distinct_append (range_with_len 0 (first_data inodes)) (owned_from 0 inodes) (range_distinct 0 (first_data inodes))
+  used_distinct = distinct_append (range_with_len 0 (first_data (length blocks) inodes)) (owned_from 0 inodes) (range_distinct 0 (first_data (length blocks) inodes))
       (owned_distinct 0 inodes (omega arith)) (λ b reserved later.
       let its = owner 0 inodes b later in
-      omega (arith, (range_has 0 (first_data inodes) b reserved).1, (fs.within its.inode b (omega (arith, its.below)) its.owns).0))
+      omega (arith, (range_has 0 (first_data (length blocks) inodes) b reserved).1, (fs.within its.inode b (omega (arith, its.below)) its.owns).0))
 
-  used_below : (b : ℕ) → first_data inodes ≤ length blocks → Contains used b → b < length blocks
-  used_below b room has = elim (Contains-append_cases (range_with_len 0 (first_data inodes)) (owned_from 0 inodes) b has) [
-    | inl reserved ↦ omega (arith, (range_has 0 (first_data inodes) b reserved).1)
+  used_below : (b : ℕ) → first_data (length blocks) inodes ≤ length blocks → Contains used b → b < length blocks
+  used_below b room has = elim (Contains-append_cases (range_with_len 0 (first_data (length blocks) inodes)) (owned_from 0 inodes) b has) [
+    | inl reserved ↦ omega (arith, (range_has 0 (first_data (length blocks) inodes) b reserved).1)
     | inr later ↦ let its = owner 0 inodes b later in omega (arith, (fs.within its.inode b (omega (arith, its.below)) its.owns).1)
   ]
 
   used_is : (b : ℕ) → Contains used b → IsUsed inodes blocks b
-  used_is b has = elim (Contains-append_cases (range_with_len 0 (first_data inodes)) (owned_from 0 inodes) b has) [
-    | inl reserved ↦ inl (omega (arith, (range_has 0 (first_data inodes) b reserved).1))
+  used_is b has = elim (Contains-append_cases (range_with_len 0 (first_data (length blocks) inodes)) (owned_from 0 inodes) b has) [
+    | inl reserved ↦ inl (omega (arith, (range_has 0 (first_data (length blocks) inodes) b reserved).1))
     | inr later ↦ let its = owner 0 inodes b later in inr (its.inode, omega (arith, its.below), its.owns)
   ]
 
   is_used : (b : ℕ) → IsUsed inodes blocks b → Contains used b
   is_used b holds = elim holds [
-    | inl reserved ↦ Contains-append_left (range_with_len 0 (first_data inodes)) (owned_from 0 inodes) b
-        (in_range 0 (first_data inodes) b (omega arith) (omega arith))
-    | inr its ↦ Contains-append_right (range_with_len 0 (first_data inodes)) (owned_from 0 inodes) b
+    | inl reserved ↦ Contains-append_left (range_with_len 0 (first_data (length blocks) inodes)) (owned_from 0 inodes) b
+        (in_range 0 (first_data (length blocks) inodes) b (omega arith) (omega arith))
+    | inr its ↦ Contains-append_right (range_with_len 0 (first_data (length blocks) inodes)) (owned_from 0 inodes) b
         (owned_in 0 inodes its.0 b (omega arith) (omega (arith, its.1)) its.2)
   ]
 
-  marks_among : (b : ℕ) → b < 65536 → is_marked_used blocks b ≡ among used b
+  marks_among : (b : ℕ) → b < bitmap_bits (length blocks) → is_marked_used blocks b ≡ among used b
   marks_among b small = by_mark (is_marked_used blocks b) refl where
     by_mark : (t : Bool) → is_marked_used blocks b ≡ t → t ≡ among used b
     by_mark true is = sym (among_from used b (is_used b ((fs.bits b small).0 is)))
@@ -328,8 +328,8 @@ free_is_beside inodes blocks files room held =
           omega (
             arith,
             free_count inodes blocks fs room,
-            length-append (range_with_len 0 (first_data inodes)) (owned_from inodes blocks fs 0 inodes),
-            length-range_with_len 0 (first_data inodes),
+            length-append (range_with_len 0 (first_data (length blocks) inodes)) (owned_from inodes blocks fs 0 inodes),
+            length-range_with_len 0 (first_data (length blocks) inodes),
             blocks_from inodes blocks fs room 0 inodes (omega arith),
             by_files,
           );

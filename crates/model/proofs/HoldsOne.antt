@@ -12,7 +12,7 @@ use Rattle.std.proofs.lemmas.List.Sums.{length-filter, count_by-le-length}
 use Rattle.byteorder.specs.Endian.{little_bytes}
 use Rattle.model.specs.Stream.{Octets}
 use Rattle.model.specs.Article.{Carried, cause, cause_but_long, header, is_short}
-use Rattle.model.specs.Files.{File, table, file_at}
+use Rattle.model.specs.Files.{File, table, file_at, most_inodes}
 use Rattle.model.specs.Spool.{Spool, SpoolEntry, entries_from, entries, NewsArticle, article_filed, articles, filed_in, is_name}
 use Rattle.model.specs.Spool.{news_article}
 use Rattle.model.specs.Spool.{filing_of, news_expiry, news_group, status_octet}
@@ -65,7 +65,7 @@ high_few S g =
     let p : NewsArticle → Bool = λ a. list_any (is_name g) a.groups in
     omega (arith, length-filter p (articles S), count_by-le-length p (articles S), filed_few 1 S)
 
-fits_one : (host : Octets) (before : Spool) (n : ℕ) (c : Change) → MayFollow host before c → n < 256 ^ 8 → length before ≤ 32768
+fits_one : (host : Octets) (before : Spool) (n : ℕ) (c : Change) → MayFollow host before c → n < 256 ^ 8 → length before ≤ most_inodes
     → HasRoomInFile n c
 fits_one host before n (Group created) may small few = (small, omega (arith, may.in_time))
 fits_one host before n (Article filing) may small few =
@@ -75,7 +75,7 @@ fits_one host before n (Expire expiry) may small few = (small, omega (arith, may
 pub no_change : Change
 no_change = Expire (record { group = []; number = 0 })
 
-pub fits_from : (host : Octets) (before cs : Spool) → IsLawfulAfter host before cs → length before + length cs ≤ 32768 → (k : ℕ)
+pub fits_from : (host : Octets) (before cs : Spool) → IsLawfulAfter host before cs → length before + length cs ≤ most_inodes → (k : ℕ)
     → k < length cs → HasRoomInFile (1 + (length before + k)) (get_or cs k no_change)
 fits_from host before [] lawful few k low = absurd (omega arith)
 fits_from host before (c ∷ cs) lawful few zero low = fits_one host before (1 + (length before + 0)) c lawful.0 (omega arith) (omega arith)
@@ -85,7 +85,7 @@ fits_from host before (c ∷ cs) lawful few (suc k) low =
     subst (λ (m : ℕ). HasRoomInFile m (get_or cs k no_change)) serial
     (fits_from host (before ++ c ∷ []) cs lawful.1 (omega (arith, size)) k (omega arith))
 
-pub fits_lawful : (host : Octets) (S : Spool) → IsLawfulAfter host [] S → length S ≤ 32768 → (k : ℕ) → k < length S
+pub fits_lawful : (host : Octets) (S : Spool) → IsLawfulAfter host [] S → length S ≤ most_inodes → (k : ℕ) → k < length S
     → HasRoomInFile (1 + k) (get_or S k no_change)
 fits_lawful host S lawful few k low =
     let none : length {A = Change} [] ≡ 0 = refl in
@@ -244,7 +244,7 @@ changes_few host inodes blocks S held =
 
 -- ---- one spool
 
-module _ (host other : Octets) (files : List File) (S R : Spool) (few : length S ≤ 32768) (few' : length R ≤ 32768)
+module _ (host other : Octets) (files : List File) (S R : Spool) (few : length S ≤ most_inodes) (few' : length R ≤ most_inodes)
     (lawful : IsLawfulAfter host [] S) (lawful' : IsLawfulAfter other [] R) (same : IsPermutation files (files_of S))
     (same' : IsPermutation files (files_of R)) where
   -- a change of the one stands in the other at the same place

@@ -181,23 +181,25 @@ content_most name text = by_found (find (is_named name) (fields text)) where
   by_found (Some f) = omega (arith, content_less f)
 
 abbrev shown_fields : List Octets
-shown_fields = codes "Subject" ∷ codes "From" ∷ codes "Date" ∷ codes "Message-ID" ∷ codes "References" ∷ []
+shown_fields = codes "Subject" ∷ codes "From" ∷ codes "Date" ∷ codes "Message-ID" ∷ codes "References" ∷ codes "Newsgroups" ∷ []
 
 shown_apart : Apart shown_fields
-shown_apart = (refl, (refl, (refl, (refl, (refl, tt)))))
+shown_apart = (refl, (refl, (refl, (refl, (refl, (refl, tt))))))
 
 shown_cost : (fs : List Octets)
     → cost fs (codes "Subject") + (cost fs (codes "From") +
-    (cost fs (codes "Date") + (cost fs (codes "Message-ID") + cost fs (codes "References")))) ≤ length (concat fs)
+    (cost fs (codes "Date") + (cost fs (codes "Message-ID") + (cost fs (codes "References") + cost fs (codes "Newsgroups"))))) ≤ length (concat fs)
 shown_cost fs =
     omega (
       arith,
       costs_total shown_fields shown_apart fs,
-      sum_by-cons (cost fs) (codes "Subject") (codes "From" ∷ codes "Date" ∷ codes "Message-ID" ∷ codes "References" ∷ []),
-      sum_by-cons (cost fs) (codes "From") (codes "Date" ∷ codes "Message-ID" ∷ codes "References" ∷ []),
-      sum_by-cons (cost fs) (codes "Date") (codes "Message-ID" ∷ codes "References" ∷ []),
-      sum_by-cons (cost fs) (codes "Message-ID") (codes "References" ∷ []),
-      sum_by-cons (cost fs) (codes "References") [],
+      sum_by-cons (cost fs) (codes "Subject")
+          (codes "From" ∷ codes "Date" ∷ codes "Message-ID" ∷ codes "References" ∷ codes "Newsgroups" ∷ []),
+      sum_by-cons (cost fs) (codes "From") (codes "Date" ∷ codes "Message-ID" ∷ codes "References" ∷ codes "Newsgroups" ∷ []),
+      sum_by-cons (cost fs) (codes "Date") (codes "Message-ID" ∷ codes "References" ∷ codes "Newsgroups" ∷ []),
+      sum_by-cons (cost fs) (codes "Message-ID") (codes "References" ∷ codes "Newsgroups" ∷ []),
+      sum_by-cons (cost fs) (codes "References") (codes "Newsgroups" ∷ []),
+      sum_by-cons (cost fs) (codes "Newsgroups") [],
     )
 
 record HasShown (text : Octets) : Type 0 where
@@ -205,6 +207,7 @@ record HasShown (text : Octets) : Type 0 where
   from : (field_count (codes "From") text == 0) ≡ false
   date : (field_count (codes "Date") text == 0) ≡ false
   id : (field_count (codes "Message-ID") text == 0) ≡ false
+  groups : (field_count (codes "Newsgroups") text == 0) ≡ false
 
 has_shown : (text : Octets) → cause Carried text ≡ None → HasShown text
 has_shown text is =
@@ -218,13 +221,13 @@ has_shown text is =
     let three = or_parts (absent (codes "Subject")) (list_any absent (codes "Date" ∷ codes "Message-ID" ∷ codes "Path" ∷ [])) two.1 in
     let four = or_parts (absent (codes "Date")) (list_any absent (codes "Message-ID" ∷ codes "Path" ∷ [])) three.1 in
     let five = or_parts (absent (codes "Message-ID")) (list_any absent (codes "Path" ∷ [])) four.1 in
-    record { subject = three.0; from = one.0; date = four.0; id = five.0 }
+    record { subject = three.0; from = one.0; date = four.0; id = five.0; groups = two.0 }
 
 shown_size : (text : Octets) → cause Carried text ≡ None
     → length (content (codes "Subject") text) +
     (length (content (codes "From") text) +
     (length (content (codes "Date") text) + (length (content (codes "Message-ID") text) + length (content (codes "References") text))))
-    + 25 ≤ 8192
+    + 35 ≤ 8192
 shown_size text is =
     let has = has_shown text is in
     let small = leb-true (length (header text)) 8192
@@ -239,6 +242,7 @@ shown_size text is =
       content_there (codes "Date") text has.date,
       content_there (codes "Message-ID") text has.id,
       content_most (codes "References") text,
+      content_there (codes "Newsgroups") text has.groups,
     )
 
 -- ---- the line
@@ -251,8 +255,8 @@ joined_length n s f d m r b l = omega (arith, length-append {A = ℕ})
 body_count : (text : Octets) → length (body_lines text) ≤ length text
 body_count text = omega (arith, length-drop (length (header_lines text) + 1) (lines text), lines_count 0 text)
 
--- a number of at most five digits, seven tabs, the fields, and two numbers of at most six digits
-pub line_short : (number : ℕ) (text : Octets) → number < 10 ^ 5 → cause Carried text ≡ None → length (overview_line number text) ≤ 8191
+-- a number of at most seven digits, seven tabs, the fields, and two numbers of at most six digits
+pub line_short : (number : ℕ) (text : Octets) → number < 10 ^ 7 → cause Carried text ≡ None → length (overview_line number text) ≤ 8191
 line_short number text small is =
     let octets = carried_size text is in
     let parts = joined_length (decimal number) (overview_field (codes "Subject") text) (overview_field (codes "From") text)
@@ -267,7 +271,7 @@ line_short number text small is =
       shown (codes "Date"),
       shown (codes "Message-ID"),
       shown (codes "References"),
-      length-decimal-le 5 number (omega arith) small (omega arith),
+      length-decimal-le 7 number (omega arith) small (omega arith),
       length-decimal-le 6 (length text) (omega arith) (omega arith) (omega arith),
       length-decimal-le 6 (length (body_lines text)) (omega arith) (omega (arith, body_count text)) (omega (arith, body_count text)),
     )

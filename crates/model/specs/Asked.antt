@@ -47,28 +47,24 @@ blocks_appended size more = 1 + blocks_spanned size more + pointers_put (blocks_
 abbrev pub blocks_made : ℕ → ℕ
 blocks_made size = 2 + blocks_for size
 
--- the bitmap
-abbrev pub bitmap_blocks : ℕ
-bitmap_blocks = 2
-
 -- an article changes the numbers and the overview of a group
 abbrev pub blocks_filed : Spool → Octets → Octets → ℕ
 blocks_filed S text g =
     blocks_appended (length (numbers_file S g)) (length (next_record S text g)) + blocks_appended (length (overview_file S g))
     (length (next_line S text g))
 
--- the blocks that a change after these changes may change
+-- the blocks that a change after these changes may change, beside those of the bitmap
 unfoldable pub blocks_changed : Spool → Change → ℕ
 blocks_changed S (Group g) =
-    bitmap_blocks + blocks_made (length (change_file (record { serial = length S + 1; change = Group g })).content) + blocks_made 0
+    blocks_made (length (change_file (record { serial = length S + 1; change = Group g })).content) + blocks_made 0
     + blocks_made 0
 blocks_changed S (Article f) =
-    bitmap_blocks + blocks_made (length (change_file (record { serial = length S + 1; change = Article f })).content)
+    blocks_made (length (change_file (record { serial = length S + 1; change = Article f })).content)
     + sum_by (blocks_filed S f.text) f.envelope.groups
 blocks_changed S (Expire e) =
-    bitmap_blocks + blocks_made (length (change_file (record { serial = length S + 1; change = Expire e })).content)
+    blocks_made (length (change_file (record { serial = length S + 1; change = Expire e })).content)
 
--- the most blocks that a change alters: 2 of the bitmap; of an article 1 with its inode, 1 with its slot, 65 with its
+-- the most blocks that a change alters beside those of the bitmap: of an article 1 with its inode, 1 with its slot, 65 with its
 -- octets and one of pointers; for each of 16 groups 4 for its numbers and 7 for its overview
 abbrev pub most_changed : ℕ
-most_changed = 246
+most_changed = 244

@@ -29,7 +29,7 @@ blocks_of_files files = sum_by (λ f. blocks_for (length f.content)) files
 
 -- what is free in a volume with these numbers of blocks and inodes that holds these files
 abbrev pub free_blocks_beside : ℕ → ℕ → List File → ℕ
-free_blocks_beside blocks inodes files = blocks - (first_data inodes + blocks_of_files files)
+free_blocks_beside blocks inodes files = blocks - (first_data blocks inodes + blocks_of_files files)
 
 abbrev pub free_inodes_beside : ℕ → List File → ℕ
 free_inodes_beside inodes files = inodes - length files

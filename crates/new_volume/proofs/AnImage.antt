@@ -1,5 +1,5 @@
 -- An image that stands for the spool without changes: that of a new volume.
-use Rattle.std.proofs.Common.{◌≡◌, ◌⊎◌, inl, inr, ◌<◌, ◌≤◌, ltb, ℕ, zero, suc, ◌+◌, ◌-◌, ◌*◌, ◌/◌, ◌%◌, ◌^◌, eqb, List, None, [], ◌∷◌}
+use Rattle.std.proofs.Common.{◌≡◌, ◌⊎◌, inl, inr, ◌<◌, ◌≤◌, ltb, ℕ, zero, suc, ◌+◌, ◌-◌, ◌*◌, ◌/◌, ◌%◌, ◌^◌, eqb, List, [], ◌∷◌}
 use Rattle.std.proofs.Common.{length, get_or, map, replicate, set, refl, sym, ◌∙◌, ap, subst, arith, length-append, length-set}
 use Rattle.std.specs.Prelude.{IsTrue, nat_le}
 use Rattle.std.specs.List.{All}
@@ -8,8 +8,8 @@ use Rattle.std.proofs.lemmas.Bool.{and_parts, cases_eq, cases_lt, le-ltb, leb-tr
 use Rattle.std.proofs.lemmas.List.{ext_get_or, get_or-set_other, get_or-set_same, length-replicate}
 use Rattle.std.proofs.lemmas.List.Elements.{All-replicate}
 use Rattle.disk.specs.Image.{overwritten}
-use Rattle.model.specs.Files.{HasRoom, first_data}
-use Rattle.model.specs.Layout.{IsLabel, Stands, label_octets}
+use Rattle.model.specs.Files.{first_data, most_blocks}
+use Rattle.model.specs.Layout.{Stands, label_octets}
 use Rattle.model.specs.Names.{is_host}
 use Rattle.model.specs.Stream.{Octets}
 use Rattle.model.specs.Volume.{StandsFor, all_laid_over, batch_in, block, gate_place, home, home_place, home_size, is_open, number_at}
@@ -23,11 +23,12 @@ use Rattle.blocks.proofs.Octets.{length-block}
 use Rattle.volume_format.specs.Formatting.{zero_block, zeroed}
 use Rattle.volume_format.proofs.Formatted.{blocks_are, label_is, length-superblock, none_formatted, segments_are, stands_formatted, IsZero}
 use Rattle.volume_format.proofs.Formatted.{superblock, superblock_valid, is_zero_block}
-use Rattle.fs_layout.specs.Bits.{IsFront, bit_of}
-use Rattle.fs_layout.specs.Table.{Makes}
-use Rattle.fs.proofs.Emptying.{makes_empty}
+use Rattle.fs_layout.specs.Bits.{bit_of}
+use Rattle.fs.specs.Emptying.{Emptied, MarksFirst}
+use Rattle.fs.proofs.Emptying.{emptied_more, emptied_none}
+use Rattle.new_volume.specs.Formatting.{tables_of}
 use Rattle.new_volume.specs.Laws.{AnImageStands, EachHostHasAnImage}
-use Rattle.new_volume.proofs.Emptied.{Sized, makes, many, part_zero, sized, zero_block_size, zero_block_zero}
+use Rattle.new_volume.proofs.Emptied.{Sized, as_many, labelled, makes, many, part_zero, sized, zero_block_size, zero_block_zero}
 
 -- ---- the first block is written at home, while no segment is open
 
@@ -93,7 +94,7 @@ abbrev gate_of_new : ℕ
 gate_of_new = 2
 
 module _ (segments : ℕ) (counts : (segments ≡ 1) ⊎ (segments ≡ 8)) (blocks : ℕ) (label first : List ℕ) (low : 1024 ≤ blocks)
-    (high : blocks ≤ 65536) (label_whole : length label ≡ 128) (whole : length first ≡ 4096) where
+    (high : blocks ≤ most_blocks) (label_whole : length label ≡ 128) (whole : length first ≡ 4096) where
   abbrev octets : ℕ
   octets = 4096 * home_place segments blocks
 
@@ -136,33 +137,33 @@ module _ (segments : ℕ) (counts : (segments ≡ 1) ⊎ (segments ≡ 8)) (bloc
     first_written zeroed_volume label first (zeroed blocks) zeroed_stands none_open whole,
   )
 
--- ---- the first block is the bitmap of the empty file system
+-- ---- the first block is the bitmap of the empty file system, which has all its marks
 
-module _ (blocks inodes : ℕ) (its : Sized blocks inodes) (bitmap : Octets) (whole : length bitmap ≡ 4096)
-    (front : IsFront (first_data inodes) bitmap) (host : Octets) (named : IsTrue (is_host host)) where
+module _ (blocks inodes : ℕ) (its : Sized blocks inodes) (bitmap : Octets) (one : tables_of (first_data blocks inodes) ≡ 1)
+    (marks : MarksFirst 0 (first_data blocks inodes) bitmap) (host : Octets) (named : IsTrue (is_host host)) where
   short : length host ≤ 64
   short = leb-true (length host) 64 (and_parts (nat_le (length host) 64) _ named).0
 
   label_whole : length (label_octets inodes host) ≡ 128
   label_whole = omega (arith, short, length-append host (replicate (123 - length host) 0), length-replicate {A = ℕ} (123 - length host) 0)
 
-  labelled : IsLabel (label_octets inodes host) (length (set (zeroed blocks) 0 bitmap)) inodes host
-  labelled = record {
-    octets = refl;
-    host_is = named;
-    some = its.some;
-    few = its.few;
-    whole = its.whole;
-    room = omega (arith, its.room, length-set (zeroed blocks) 0 bitmap, many blocks inodes its bitmap whole front);
-  }
+  abbrev its_blocks : List Octets
+  its_blocks = set (zeroed blocks) 0 bitmap
+
+  done : Emptied (first_data blocks inodes) (tables_of (first_data blocks inodes)) (zeroed blocks) its_blocks
+  done =
+      subst (λ (n : ℕ). Emptied (first_data blocks inodes) n (zeroed blocks) its_blocks) (sym one)
+      (emptied_more (first_data blocks inodes) 0 (zeroed blocks) (zeroed blocks) its_blocks
+      (emptied_none (first_data blocks inodes) (zeroed blocks))
+      (omega (arith, its.low, many blocks inodes its)) (record { bitmap = bitmap; marks = marks; puts = refl }))
 
   pub new_image : (image : Octets) × Stands host image []
   new_image =
-      let made = makes blocks inodes its bitmap whole front in
-      let volume = volume_with 8 (inr refl) blocks (label_octets inodes host) bitmap its.low its.high label_whole whole in (
+      let made = makes blocks inodes its its_blocks done in
+      let volume = volume_with 8 (inr refl) blocks (label_octets inodes host) bitmap its.low its.high label_whole marks.whole in (
         volume.0,
-        empty_stands host volume.0 (label_octets inodes host) inodes (set (zeroed blocks) 0 bitmap) volume.1 labelled made.rule
-            made.files_are,
+        empty_stands host volume.0 (label_octets inodes host) inodes its_blocks volume.1
+            (labelled blocks inodes its host named its_blocks (as_many blocks inodes its its_blocks done)) made.rule made.files_are,
       )
 
 -- ---- a bitmap whose first four bits are set
@@ -189,7 +190,7 @@ bits_after rest b zeros high =
     ap (λ (o : ℕ). eqb (o / 2 ^ (b % 8) % 2) 1) clear ∙ ap (λ (o : ℕ). eqb (o % 2) 1) (zero-div (2 ^ (b % 8)))
     ∙ sym (le-ltb b 4 (omega (arith, high)))
 
-first_four : (rest : Octets) → All IsZero rest → IsFront 4 (first_bits rest)
+first_four : (rest : Octets) → All IsZero rest → (b : ℕ) → bit_of (first_bits rest) b ≡ ltb b 4
 first_four rest zeros b = elim (cases_lt b 8) [
   | inl low ↦ bits_of_first rest b low
   | inr high ↦ bits_after rest b zeros high
@@ -203,8 +204,14 @@ bitmap_size rest is = omega (arith, is)
 pub image_of_host : EachHostHasAnImage
 image_of_host host named =
     let rest : Octets = replicate 4095 0 in
-    new_image 1024 64 (sized 1024 64 refl) (first_bits rest) (bitmap_size rest (length-replicate {A = ℕ} 4095 0))
-    (first_four rest (All-replicate IsZero 4095 0 refl)) host named
+    new_image 1024 64 (sized 1024 64 refl) (first_bits rest) refl
+    (record {
+      whole = bitmap_size rest (length-replicate {A = ℕ} 4095 0);
+      bits = λ b low.
+          let start : 32768 * 0 + b ≡ b = omega arith in
+          first_four rest (All-replicate IsZero 4095 0 refl) b ∙ ap (λ (k : ℕ). ltb k 4) (sym start);
+    })
+    host named
 
 -- the host `a`
 pub one_image : AnImageStands

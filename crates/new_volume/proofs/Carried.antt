@@ -9,7 +9,10 @@ use Rattle.segment_laws.specs.Held.{HeldBatch}
 use Rattle.journal.specs.Calls.{Call, Does, IsRetried, MakesCall, OnMade, OnRetried, Syncs, blocks_after, call_at}
 use Rattle.journal.specs.Calls.Call.{Sync}
 use Rattle.journal.specs.Inside.{IsAdmitted}
-use Rattle.journal.specs.Journal.{IsCaused, IsSameBatch, JournalView, LeavesAdmitted, all_held, calls, sizes, with_batch}
+use Rattle.fs.specs.Emptying.{Emptied, MarksFirst}
+use Rattle.fs.proofs.Emptying.{emptied_more, emptied_none}
+use Rattle.journal.specs.Journal.{HasWholeBlocks, IsCaused, IsReady, IsSameBatch, JournalView, LeavesAdmitted}
+use Rattle.journal.specs.Journal.{all_held, calls, sizes, with_batch}
 use Rattle.journal.specs.Order.{all_calls, answer, following, is_sync, is_to_commit}
 use Rattle.journal.specs.declared.Next.{Next}
 use Rattle.journal.specs.declared.Next.TheVariants.{Idle, Descriptor, Image, Seal, OpenGate, Commit, Home, Settle, CloseGate, Finish}
@@ -21,7 +24,7 @@ use Rattle.journal.proofs.During.{same_itself, same_sizes, same_then}
 use Rattle.journal.proofs.Flights.{after_commit, after_gate, after_home, after_image}
 use Rattle.journal.proofs.Upgrades.{at_rest}
 use Rattle.model.specs.Volume.{StandsFor, block, blocks_from, descriptor_of, format_number, laid_over}
-use Rattle.new_volume.specs.Formatting.{HasCarried, HasLaid, IsLeft, Spoils}
+use Rattle.new_volume.specs.Formatting.{HasCarried, HasLaid, HasMarked, IsLeft, Spoils, tables_of}
 
 pub no_time : (a : Device) → Elapses a a
 no_time a = record { size = refl; tells = refl; later = omega arith }
@@ -41,6 +44,17 @@ caused_spoils error old new (inr memory) time = record {
   memory = λ e. memory.1;
   no_volume = λ e. absurd (cc);
   not_halted = λ e. cc;
+}
+
+-- so it is if it is why that was not done from a later moment on
+pub spoiled : (error : JournalError) (old now new : Device) → Elapses old now → now.failures ≡ old.failures → Spoils error now new
+    → Spoils error old new
+spoiled error old now new time failures spoils = record {
+  time = elapses_then old now new time spoils.time;
+  fault = λ is same. spoils.fault is (same ∙ sym failures);
+  memory = λ is. spoils.memory is ∙ failures;
+  no_volume = λ is t. spoils.no_volume is (subst (λ (b : Bool). IsTrue b) (sym time.tells) t);
+  not_halted = spoils.not_halted;
 }
 
 -- ---- each call
@@ -176,45 +190,121 @@ pub carried : {D : Type 0} (device : D → Device) (old now : JournalView D) →
     → LeavesAdmitted device now → (IsTrue (device now.disk).tells → (device now.disk).may_leave (device now.disk).content)
     → HasCarried device old now
 carried device old now so_far is admitted content = record {
+  ready = (so_far.running, is);
+  same = so_far.same;
+  blocks = blocks;
   left = λ t.
       let told : IsTrue (device now.disk).tells = subst (λ (b : Bool). IsTrue b) (sym so_far.time.tells) t in
       let image = (device now.disk).content in
       let here : StandsFor image now.label now.blocks =
       at_rest now.label now.blocks (with_batch now) image
       (subst (λ (g : Next). IsAdmitted g now.label now.blocks (with_batch now) image) is (admitted told image (content told)).0) in
-      let blocks : now.blocks ≡ with_batch old = so_far.blocks t
-      ∙ ap (λ (g : Next). if is_to_commit g then old.blocks else with_batch old) is in
       record {
-        stands = subst (λ (bs : List (List ℕ)). StandsFor image old.label bs) blocks
+        stands = subst (λ (bs : List (List ℕ)). StandsFor image old.label bs) (blocks t)
             (subst (λ (l : List ℕ). StandsFor image l now.blocks) so_far.same.label here);
         format = subst (λ (n : ℕ). n ≤ format_number image) so_far.same.format (admitted told image (content told)).1;
         synced = so_far.synced t is;
       };
   failures = so_far.failures;
 }
+  where
+    blocks : IsTrue (device old.disk).tells → now.blocks ≡ with_batch old
+    blocks t = so_far.blocks t ∙ ap (λ (g : Next). if is_to_commit g then old.blocks else with_batch old) is
 
--- ---- a batch of the first block
+-- ---- a batch of one block
 
 -- a block of as many octets as a block has
-pub whole_block : (first : List ℕ) → length first ≡ 4096 → block 0 first ≡ first
-whole_block first whole = take_all 4096 first (omega (arith, whole))
+pub whole_block : (octets : List ℕ) → length octets ≡ 4096 → block 0 octets ≡ octets
+whole_block octets whole = take_all 4096 octets (omega (arith, whole))
 
--- the first block alone was in the batch, which was carried to its end
-pub lays : {D : Type 0} (device : D → Device) (first : List ℕ) (journal begun last : JournalView D) (disk : D) → length first ≡ 4096
-    → begun.disk ≡ journal.disk → begun.label ≡ journal.label → begun.format ≡ journal.format → begun.blocks ≡ journal.blocks
-    → begun.numbers ≡ 0 ∷ []
-    → begun.images ≡ blocks_from 0 1 first → HasCarried device begun last → Elapses (device begun.disk) (device last.disk)
-    → disk ≡ last.disk → HasLaid device first journal disk
-lays {D = D} device first journal begun last disk whole same label format blocks numbers images carries time gives = record {
+-- the batch had this block alone, and was carried to its end
+pub lays : {D : Type 0} (device : D → Device) (number : ℕ) (octets : List ℕ) (old begun new : JournalView D) → length octets ≡ 4096
+    → begun.disk ≡ old.disk → begun.label ≡ old.label → begun.format ≡ old.format → begun.size ≡ old.size → begun.blocks ≡ old.blocks
+    → begun.numbers ≡ number ∷ [] → begun.images ≡ blocks_from 0 1 octets → HasCarried device begun new
+    → HasLaid device number octets old new
+lays {D = D} device number octets old begun new whole disk label format size blocks numbers images carries = record {
+  ready = carries.ready;
+  label = carries.same.label ∙ label;
+  format = carries.same.format ∙ format;
+  size = carries.same.size ∙ size;
+  blocks = λ t. carries.blocks (told t) ∙ laid;
   left = λ t.
-      let told : IsTrue (device begun.disk).tells = subst (λ (d : D). IsTrue (device d).tells) (sym same) t in
-      let laid : with_batch begun ≡ set journal.blocks 0 first = (λ i. laid_over (blocks i) (numbers i) (images i))
-      ∙ ap (λ (octets : List ℕ). set journal.blocks 0 octets) (whole_block first whole) in
-      subst (λ (d : D). IsLeft journal.label journal.format (set journal.blocks 0 first) (device d)) (sym gives)
-      (subst (λ (l : List ℕ). IsLeft l journal.format (set journal.blocks 0 first) (device last.disk)) label
-      (subst (λ (n : ℕ). IsLeft begun.label n (set journal.blocks 0 first) (device last.disk)) format
-      (subst (λ (bs : List (List ℕ)). IsLeft begun.label begun.format bs (device last.disk)) laid (carries.left told))));
-  time = subst (λ (d : D). Elapses (device journal.disk) (device d)) (sym gives)
-      (subst (λ (d : D). Elapses (device d) (device last.disk)) same time);
-  failures = ap (λ (d : D). (device d).failures) gives ∙ carries.failures ∙ ap (λ (d : D). (device d).failures) same;
+      subst (λ (l : List ℕ). IsLeft l old.format (set old.blocks number octets) (device new.disk)) label
+      (subst (λ (n : ℕ). IsLeft begun.label n (set old.blocks number octets) (device new.disk)) format
+      (subst (λ (bs : List (List ℕ)). IsLeft begun.label begun.format bs (device new.disk)) laid (carries.left (told t))));
+  failures = carries.failures ∙ ap (λ (d : D). (device d).failures) disk;
 }
+  where
+    told : IsTrue (device old.disk).tells → IsTrue (device begun.disk).tells
+    told t = subst (λ (d : D). IsTrue (device d).tells) (sym disk) t
+
+    laid : with_batch begun ≡ set old.blocks number octets
+    laid = (λ i. laid_over (blocks i) (numbers i) (images i)) ∙ ap (λ (b : List ℕ). set old.blocks number b) (whole_block octets whole)
+
+-- ---- a batch for each block of the bitmap
+
+-- the first of them were laid, this many
+pub record IsMarking {D : Type 0} (device : D → Device) (first tables : ℕ) (old now : JournalView D) : Type 0 where
+  pub ready : IsReady now
+  pub label : now.label ≡ old.label
+  pub format : now.format ≡ old.format
+  pub size : now.size ≡ old.size
+  pub blocks : IsTrue (device old.disk).tells → Emptied first tables old.blocks now.blocks
+  pub left : IsTrue (device old.disk).tells → 0 < tables → IsLeft old.label old.format now.blocks (device now.disk)
+  pub time : Elapses (device old.disk) (device now.disk)
+  pub failures : (device now.disk).failures ≡ (device old.disk).failures
+
+pub marks_none : {D : Type 0} (device : D → Device) (first : ℕ) (journal : JournalView D) → IsReady journal
+    → IsMarking device first 0 journal journal
+marks_none device first journal ready = record {
+  ready = ready;
+  label = refl;
+  format = refl;
+  size = refl;
+  blocks = λ t. emptied_none first journal.blocks;
+  left = λ t some. absurd (omega (arith, some));
+  time = no_time (device journal.disk);
+  failures = refl;
+}
+
+module _ {D : Type 0} (device : D → Device) (first tables : ℕ) (old now : JournalView D) (so_far : IsMarking device first tables old now) where
+  tells_now : IsTrue (device old.disk).tells → IsTrue (device now.disk).tells
+  tells_now t = subst (λ (b : Bool). IsTrue b) (sym so_far.time.tells) t
+
+  pub marks_more : (octets : List ℕ) (new : JournalView D) → MarksFirst tables first octets → HasWholeBlocks device old
+      → tables < old.size → HasLaid device tables octets now new → Elapses (device now.disk) (device new.disk)
+      → IsMarking device first (tables + 1) old new
+  marks_more octets new marks whole there lays time = record {
+    ready = lays.ready;
+    label = lays.label ∙ so_far.label;
+    format = lays.format ∙ so_far.format;
+    size = lays.size ∙ so_far.size;
+    blocks = λ t.
+        emptied_more first tables old.blocks now.blocks new.blocks (so_far.blocks t)
+        (omega (arith, there, (whole t).count, (so_far.blocks t).count))
+        (record { bitmap = octets; marks = marks; puts = lays.blocks (tells_now t) });
+    left = λ t some.
+        subst (λ (bs : List (List ℕ)). IsLeft old.label old.format bs (device new.disk)) (sym (lays.blocks (tells_now t)))
+        (subst (λ (n : ℕ). IsLeft old.label n (set now.blocks tables octets) (device new.disk)) so_far.format
+        (subst (λ (l : List ℕ). IsLeft l now.format (set now.blocks tables octets) (device new.disk)) so_far.label
+        (lays.left (tells_now t))));
+    time = elapses_then (device old.disk) (device now.disk) (device new.disk) so_far.time time;
+    failures = lays.failures ∙ so_far.failures;
+  }
+
+  -- a batch that the device refused
+  pub marks_refused : (error : JournalError) (last : Device) → IsCaused error (device now.disk) last → Elapses (device now.disk) last
+      → Spoils error (device old.disk) last
+  marks_refused error last caused time =
+      spoiled error (device old.disk) (device now.disk) last so_far.time so_far.failures
+      (caused_spoils error (device now.disk) last caused time)
+
+  -- all were laid
+  pub marked : (last : D) → 0 < tables → tables ≡ tables_of first → last ≡ now.disk → HasMarked device first old last
+  marked last some all gives = record {
+    blocks = now.blocks;
+    marked = λ t. subst (λ (n : ℕ). Emptied first n old.blocks now.blocks) all (so_far.blocks t);
+    left = λ t. subst (λ (d : D). IsLeft old.label old.format now.blocks (device d)) (sym gives) (so_far.left t some);
+    time = subst (λ (d : D). Elapses (device old.disk) (device d)) (sym gives) so_far.time;
+    failures = ap (λ (d : D). (device d).failures) gives ∙ so_far.failures;
+  }

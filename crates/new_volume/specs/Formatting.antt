@@ -1,7 +1,8 @@
 -- What a new volume holds, and what a refusal leaves.
-use Rattle.std.specs.Prelude.{◌≡◌, ◌≢◌, ℕ, ◌≤◌, IsTrue, List, [], slice_set}
+use Rattle.std.specs.Prelude.{◌≡◌, ◌≢◌, ℕ, ◌+◌, ◌/◌, ◌≤◌, IsTrue, List, [], slice_set}
 use Rattle.disk.specs.Device.{Device, Elapses, LeavesOnly}
-use Rattle.journal.specs.Journal.{IsReady, JournalView, with_batch}
+use Rattle.fs.specs.Emptying.{Emptied}
+use Rattle.journal.specs.Journal.{IsReady, IsSameBatch, JournalView, with_batch}
 use Rattle.journal.specs.declared.JournalError.{JournalError}
 use Rattle.journal.specs.declared.JournalError.TheVariants.{Fault, Halted, Memory, NotAVolume}
 use Rattle.model.specs.Layout.{Stands, label_octets}
@@ -50,11 +51,30 @@ pub record IsLeft (label : Octets) (least : ℕ) (blocks : List Octets) (device 
 
 -- the batch that had begun was carried to its end
 pub record HasCarried {D : Type 0} (device : D → Device) (old new : JournalView D) : Type 0 where
+  pub ready : IsReady new
+  pub same : IsSameBatch old new
+  pub blocks : IsTrue (device old.disk).tells → new.blocks ≡ with_batch old
   pub left : IsTrue (device old.disk).tells → IsLeft old.label old.format (with_batch old) (device new.disk)
   pub failures : (device new.disk).failures ≡ (device old.disk).failures
 
--- the first of a journal's blocks was replaced, and the journal returned its device
-pub record HasLaid {D : Type 0} (device : D → Device) (first : Octets) (journal : JournalView D) (last : D) : Type 0 where
-  pub left : IsTrue (device journal.disk).tells → IsLeft journal.label journal.format (slice_set journal.blocks 0 first) (device last)
+-- a block of a journal was replaced, by a batch that was carried to its end
+pub record HasLaid {D : Type 0} (device : D → Device) (number : ℕ) (octets : Octets) (old new : JournalView D) : Type 0 where
+  pub ready : IsReady new
+  pub label : new.label ≡ old.label
+  pub format : new.format ≡ old.format
+  pub size : new.size ≡ old.size
+  pub blocks : IsTrue (device old.disk).tells → new.blocks ≡ slice_set old.blocks number octets
+  pub left : IsTrue (device old.disk).tells → IsLeft old.label old.format (slice_set old.blocks number octets) (device new.disk)
+  pub failures : (device new.disk).failures ≡ (device old.disk).failures
+
+-- the number of blocks of the bitmap that have the bits of the first blocks, this many
+abbrev pub tables_of : ℕ → ℕ
+tables_of first = (first + 32767) / 32768
+
+-- the first blocks of a journal's blocks were marked, this many, and the journal returned its device
+pub record HasMarked {D : Type 0} (device : D → Device) (first : ℕ) (journal : JournalView D) (last : D) : Type 0 where
+  pub blocks : List Octets
+  pub marked : IsTrue (device journal.disk).tells → Emptied first (tables_of first) journal.blocks blocks
+  pub left : IsTrue (device journal.disk).tells → IsLeft journal.label journal.format blocks (device last)
   pub time : Elapses (device journal.disk) (device last)
   pub failures : (device last).failures ≡ (device journal.disk).failures

@@ -4,15 +4,15 @@ ghost use Rattle.std.specs.Prelude.{◌≡◌, ◌≢◌, ◌≤◌, length, IfE
 ghost use Rattle.new_volume.specs.Formatting.{Formats, IsZeroed, Spoils};
 ghost use Rattle.new_volume.specs.Sizes.{device_size};
 
-use crate::carrying::lay;
-use crate::emptying::first_block;
+use crate::carrying::mark_first;
 use crate::{VolumePlan, label};
 use disk::Disk;
+use fs_layout::inodes::first_data;
 use journal::{FormatError, Journal, JournalError, Refused, format as format_journal};
 use std::alloc::Global;
 
 /// Makes an empty volume in place of whatever the device holds: first the journal's volume of zeroed blocks, and then
-/// the empty file system as a batch of one block, carried to its end. Afterwards the device is synced, and its image
+/// the empty file system, as a batch for each block of the bitmap that has a mark. Afterwards the device is synced, and its image
 /// stands for the spool without changes, in the format of the plan.
 ///
 /// `Fault` if the device failed, `Memory` if an allocation was refused, here or to the device. `NotAVolume` if the
@@ -30,8 +30,9 @@ pub fn format<D: Disk>(alloc: Global, disk: D, plan: &VolumePlan<'_>) -> Result<
             error: JournalError::Memory,
         });
     };
+    let reserved = first_data(plan.blocks as u32, inodes);
     match open_zeroed(alloc, disk, plan.blocks, &label, plan.format) {
-        Ok(journal) => lay(journal, &first_block(inodes)),
+        Ok(journal) => mark_first(journal, reserved),
         Err(refused) => Err(refused),
     }
 }
@@ -45,7 +46,7 @@ fn open_zeroed<D: Disk>(
     format: u32,
 ) -> Result<Journal<D>, Refused<D>>
     requires low { 1024 ≤ blocks }
-    requires high { blocks ≤ 65536 }
+    requires high { blocks ≤ 4194304 }
     requires label { length label.now ≡ 128 }
     requires known { (1 ≤ format) × (format ≤ 2) }
     requires size { (D.device disk).size ≡ device_size blocks }

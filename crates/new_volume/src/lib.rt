@@ -2,7 +2,6 @@
 #![tactic(auto)]
 
 mod carrying;
-mod emptying;
 mod formatting;
 mod laws;
 
@@ -12,9 +11,12 @@ ghost use Rattle.model.specs.Names.{is_host};
 ghost use Rattle.new_volume.specs.Sizes.{are_sizes, device_size};
 
 pub use formatting::format;
+pub use fs_layout::inodes::FEWEST_INODES;
+use fs_layout::inodes::{FEWEST_DATA, MOST_INODES, first_data};
 pub use laws::an_image_stands;
 use std::alloc::{AllocError, Global};
-use volume_format::layout::{SEGMENTS, home_block, start_of};
+pub use volume_format::layout::MOST_BLOCKS;
+use volume_format::layout::{FEWEST_BLOCKS, SEGMENTS, home_block, start_of};
 
 /// The number of octets of a label.
 const LABEL: usize = 128;
@@ -22,8 +24,15 @@ const LABEL: usize = 128;
 /// The format in which a file has at most 4,235,264 octets.
 pub const FORMAT_1: u32 = 1;
 
-/// The format in which a file has at most 268,435,456 octets.
+/// The format in which a file has at most 4,294,963,200 octets.
 pub const FORMAT_2: u32 = 2;
+
+/// The most blocks of a small volume. The programs that know format 1 alone take no larger one, and a device in memory
+/// has room for none.
+pub const SMALL_BLOCKS: u64 = 65_536;
+
+/// The most inodes of a small volume.
+pub const SMALL_INODES: u64 = 32_768;
 
 /// The plan of a new volume. Its words follow their grammars and its numbers are within their ranges.
 #[derive(Drop)]
@@ -43,15 +52,19 @@ pub struct VolumePlan<'a> {
 pub fn are_sizes(blocks: u64, inodes: u64) -> bool
     ensures { result ≡ are_sizes blocks inodes }
 {
-    if blocks < 1024 || blocks > 65_536 || inodes < 64 || inodes > 32_768 {
+    if blocks < FEWEST_BLOCKS
+        || MOST_BLOCKS < blocks
+        || inodes < FEWEST_INODES
+        || MOST_INODES < inodes
+    {
         return false;
     }
-    inodes % 64 == 0 && 2 + 2 * (inodes / 64) + 256 <= blocks
+    inodes % 64 == 0 && u64::from(first_data(blocks as u32, inodes as u32)) + FEWEST_DATA <= blocks
 }
 
 /// The number of octets of the device for a volume with this many blocks.
 pub fn device_octets(blocks: u64) -> u64
-    requires { blocks ≤ 65536 }
+    requires { blocks ≤ 4194304 }
     ensures { result ≡ device_size blocks }
 {
     start_of(home_block(SEGMENTS, blocks))

@@ -1,12 +1,15 @@
-//! Little-endian numbers in octets: the superblock, the journal, inodes, pointers and records have them.
+//! Little-endian numbers in octets: the superblock, the journal, inodes, pointers and records have them. And octets of
+//! zeros.
 #![tactic(auto)]
 
-ghost use Rattle.std.specs.Prelude.{◌≡◌, ◌≤◌, ◌+◌, length};
+ghost use Rattle.std.specs.Prelude.{◌≡◌, ◌≤◌, ◌+◌, length, IfOk};
+ghost use Rattle.std.specs.List.{All};
 ghost use Rattle.byteorder.specs.Endian.{little_bytes};
 ghost use Rattle.disk.specs.Image.{overwritten};
 ghost use Rattle.model.specs.Volume.{number_at};
 
 use byteorder::{ByteOrder, LittleEndian};
+use std::alloc::{AllocError, Global};
 
 /// The number in the four octets from a place on.
 #[tactic(auto, unfolding(model::specs::Volume::number_at))]
@@ -42,4 +45,12 @@ pub fn put32(octets: &mut [u8], at: usize, n: u32)
 {
     let end = at + 4;
     LittleEndian::write_u32(&mut octets[at..end], n);
+}
+
+/// This many zeros. Refused only for want of memory.
+pub fn zeros(alloc: Global, size: usize) -> Result<Vec<u8>, AllocError>
+    ensures size { IfOk result (λ octets. length octets.items ≡ size) }
+    ensures zero { IfOk result (λ octets. All (λ octet. octet ≡ 0) octets.items) }
+{
+    vec![in alloc; 0; size]
 }

@@ -101,21 +101,8 @@ impl Operator {
         let (order, orders) = bounded(alloc, LINES + 1)?;
         let (replies, to_write) = bounded(alloc, LINES + 1)?;
         let (begun, under_way) = bounded(alloc, LINES)?;
-        let (_written, written) = bounded(alloc, 1)?;
-        let reading = Reading {
-            alloc,
-            line: Vec::with_capacity(alloc, LINE_OCTETS)?,
-            orders: order.clone()?,
-            under_way: begun,
-        };
-        let writing = Writing {
-            replies: to_write,
-            under_way,
-            _written,
-        };
-        let own = *rt;
-        let _writer = thread::spawn(rt, move || writing.write_all(&own, answers))?;
-        let _reader = thread::spawn(rt, move || reading.read_all(&own, lines))?;
+        let written = Writing::start(rt, alloc, answers, to_write, under_way)?;
+        Reading::start(rt, alloc, lines, order.clone()?, begun)?;
         Ok(Operator {
             order,
             orders,
@@ -227,6 +214,25 @@ fn stop<R: Wait, K: Kern>(service: &OperatorService<'_, R, K>, seat: &mut Seat) 
 }
 
 impl Reading {
+    /// Starts the thread.
+    fn start<R: Threads + Wait + Copy + Send + 'static, L: BufRead + Send + Drop + 'static>(
+        rt: &R,
+        alloc: Global,
+        lines: L,
+        orders: Sender<Order>,
+        under_way: Sender<()>,
+    ) -> Result<(), AllocError> {
+        let reading = Reading {
+            alloc,
+            line: Vec::with_capacity(alloc, LINE_OCTETS)?,
+            orders,
+            under_way,
+        };
+        let own = *rt;
+        let _reader = thread::spawn(rt, move || reading.read_all(&own, lines))?;
+        Ok(())
+    }
+
     /// Reads lines and hands them on, until they end or the server does.
     fn read_all<R: Wait, L: BufRead + Drop>(self, rt: &R, lines: L) {
         let (mut own, mut lines) = (self, lines);
@@ -252,6 +258,25 @@ impl Reading {
 }
 
 impl Writing {
+    /// Starts the thread, and answers the channel that is disconnected once the last answer is written.
+    fn start<R: Threads + Wait + Copy + Send + 'static, A: Write + Send + Drop + 'static>(
+        rt: &R,
+        alloc: Global,
+        answers: A,
+        replies: Receiver<Reply>,
+        under_way: Receiver<()>,
+    ) -> Result<Receiver<()>, AllocError> {
+        let (_written, written) = bounded(alloc, 1)?;
+        let writing = Writing {
+            replies,
+            under_way,
+            _written,
+        };
+        let own = *rt;
+        let _writer = thread::spawn(rt, move || writing.write_all(&own, answers))?;
+        Ok(written)
+    }
+
     /// Writes the answers until the last one. An answer that cannot be written is lost, since nobody reads it.
     fn write_all<R: Wait, A: Write + Drop>(self, rt: &R, answers: A) {
         let mut answers = answers;

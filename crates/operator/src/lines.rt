@@ -12,7 +12,7 @@ use std::sync::Wait;
 pub(crate) const LINE_OCTETS: usize = 1024;
 
 /// What a reader found next.
-#[derive(Clone, Copy, Debug, PartialEq, Eq)]
+#[derive(Clone, Copy)]
 pub(crate) enum Next {
     /// A line, which ends with an LF or at the end of the stream.
     Line,

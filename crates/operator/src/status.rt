@@ -65,13 +65,11 @@ impl Display for Status {
             used_blocks,
             syncs,
         } = self.tallied;
-        write!(f, "host {} format {}", self.host, self.format)?;
-        write!(f, " blocks {used_blocks} of {}", self.blocks)?;
-        write!(f, " inodes {inodes} of {}", self.inodes)?;
         write!(
             f,
-            " sessions {sessions} accepted {accepted} durable {durable}"
-        )?;
-        write!(f, " batches {batches} syncs {syncs}")
+            "host {} format {} blocks {used_blocks} of {} inodes {inodes} of {} sessions {sessions} accepted {accepted} \
+            durable {durable} batches {batches} syncs {syncs}",
+            self.host, self.format, self.blocks, self.inodes
+        )
     }
 }

@@ -11,13 +11,13 @@ use std::io::{self, Write};
 use thiserror::Error;
 
 /// Why a line is not answered with a serial.
-#[derive(Clone, Copy, Debug, Drop, PartialEq, Eq, Error)]
+#[derive(Debug, Drop, Error)]
 pub(crate) enum Refused {
     /// The group was not made.
-    #[error("{0}")]
+    #[error(transparent)]
     Group(AdminError),
     /// The articles were not removed.
-    #[error("{0}")]
+    #[error(transparent)]
     Expiry(ExpireError),
     /// The change was made, but the flusher stopped before it was durable.
     #[error("E1 Fault")]

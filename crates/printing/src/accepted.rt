@@ -4,7 +4,7 @@ use crate::CommandError;
 use article::{Article, Origin};
 use kernel::Spool;
 use lookups::LookUps;
-use model::{Change, Text};
+use model::{Change, Expiry, Filing, NewGroup, Text};
 use std::alloc::Global;
 use std::io::{self, Write};
 
@@ -23,7 +23,7 @@ pub fn print_spool<W: Write>(
     Ok(())
 }
 
-/// `SERIAL group NAME STATUS`, `SERIAL article ID GROUP,GROUP` or `SERIAL expire NAME N`.
+/// Prints a change on a line of its own.
 fn print_change<W: Write>(
     alloc: Global,
     serial: u64,
@@ -31,39 +31,40 @@ fn print_change<W: Write>(
     output: &mut W,
 ) -> Result<(), CommandError> {
     match change {
-        Change::Group(group) => {
-            write!(output, "{serial} group ")?;
-            output.write_all(group.name.as_slice())?;
-            output.write_all(&[b' ', group.status.octet(), b'\n'])?;
-        }
-        Change::Article(filing) => {
-            let (text, groups) = (filing.text.as_slice(), filing.envelope.groups.as_slice());
-            print_article(alloc, serial, text, groups, output)?;
-        }
-        Change::Expire(expiry) => {
-            write!(output, "{serial} expire ")?;
-            output.write_all(expiry.group.as_slice())?;
-            writeln!(output, " {}", expiry.number)?;
-        }
+        Change::Group(group) => Ok(print_group(serial, group, output)?),
+        Change::Article(filing) => print_article(alloc, serial, filing, output),
+        Change::Expire(expiry) => Ok(print_expiry(serial, expiry, output)?),
     }
-    Ok(())
 }
 
-/// The line of a stored text.
+/// `SERIAL group NAME STATUS`.
+fn print_group<W: Write>(serial: u64, group: &NewGroup, output: &mut W) -> io::Result<()> {
+    write!(output, "{serial} group ")?;
+    output.write_all(group.name.as_slice())?;
+    output.write_all(&[b' ', group.status.octet(), b'\n'])
+}
+
+/// `SERIAL article ID GROUP,GROUP`.
 fn print_article<W: Write>(
     alloc: Global,
     serial: u64,
-    text: &[u8],
-    groups: &[Text],
+    filing: &Filing,
     output: &mut W,
 ) -> Result<(), CommandError> {
     // A stored text is an article and has an id, so only memory can be refused; then nothing of the line is printed.
-    let Ok(article) = Article::read(alloc, text, Origin::Carried) else {
+    let Ok(article) = Article::read(alloc, filing.text.as_slice(), Origin::Carried) else {
         return Err(CommandError::Memory);
     };
     write!(output, "{serial} article ")?;
     output.write_all(article.id().unwrap_or(b""))?;
-    Ok(print_groups(groups, output)?)
+    Ok(print_groups(filing.envelope.groups.as_slice(), output)?)
+}
+
+/// `SERIAL expire NAME N`.
+fn print_expiry<W: Write>(serial: u64, expiry: &Expiry, output: &mut W) -> io::Result<()> {
+    write!(output, "{serial} expire ")?;
+    output.write_all(expiry.group.as_slice())?;
+    writeln!(output, " {}", expiry.number)
 }
 
 /// Prints the groups, separated by commas, and ends the line.

@@ -35,16 +35,16 @@ pub enum CommandError {
     #[error("E4 Halted")]
     Halted,
     /// The volume holds no spool.
-    #[error("{0}")]
+    #[error(transparent)]
     NotOpened(OpenError),
     /// The volume holds no spool, and this is wrong with it, in words.
     #[error("{0}: {1}")]
     Found(OpenError, String),
     /// The group was not made.
-    #[error("{0}")]
+    #[error(transparent)]
     NotMade(AdminError),
     /// The articles were not removed from the group.
-    #[error("{0}")]
+    #[error(transparent)]
     NotExpired(ExpireError),
     /// The group exists already.
     #[error("E11 Exists: the group is here already")]
@@ -59,7 +59,7 @@ pub enum CommandError {
     #[error("can't listen on {0}: {1}")]
     NotBound(SocketAddr, io::Error),
     /// A socket or a stream failed.
-    #[error("{0}")]
+    #[error(transparent)]
     Stream(io::Error),
 }
 

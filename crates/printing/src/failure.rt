@@ -25,16 +25,16 @@ pub enum Failure {
     #[error("E14 Bad: {0}")]
     BadWord(String),
     /// The new volume was refused.
-    #[error("{0}")]
+    #[error(transparent)]
     NotOpened(OpenError),
     /// The line with this number, from 1, is not an event. The events before it are done and printed.
     #[error("line {0}: bad event")]
     BadEvent(u64),
     /// A command over a volume in a file was refused.
-    #[error("{0}")]
+    #[error(transparent)]
     Command(CommandError),
     /// The input could not be read or the output not written.
-    #[error("{0}")]
+    #[error(transparent)]
     Stream(io::Error),
 }
 

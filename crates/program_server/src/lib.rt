@@ -207,7 +207,7 @@ fn run<
     let Ok(marks) = BitmapMarks::read(&mut journal) else {
         return Err(CommandError::Fault);
     };
-    let tally = Tally::new(marks, syncs);
+    let tally = Tally::new(marks.all(), syncs);
     let kern = Locked::new(kernel);
     let parts = Parts {
         listeners: entrance.listeners,

@@ -6,7 +6,7 @@ use model::{Status, Text};
 
 /// The size of an overview, in octets, up to which its group takes articles: 12,288 less than that of the largest file
 /// of format 2. Each volume that is served has this format.
-pub const OVERVIEW_ROOM: u32 = 268_423_168;
+pub const OVERVIEW_ROOM: u32 = 4_294_950_912;
 
 /// How much there is of something, and how much of it is used.
 #[derive(Clone, Copy, Debug, PartialEq, Eq)]

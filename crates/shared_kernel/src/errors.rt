@@ -24,7 +24,7 @@ pub enum ExecError {
     /// The session has 1,048,576 or more buffered octets: ask again after a release.
     #[error("E9 LaterOut")]
     LaterOut,
-    /// More than 256 blocks are dirty: ask again after a batch is taken.
+    /// Too many blocks are dirty: ask again after a batch is taken.
     #[error("E8 LaterDirty")]
     LaterDirty,
     #[error("E2 Memory")]
@@ -37,7 +37,7 @@ pub enum AdminError {
     /// An earlier device fault has halted the kernel.
     #[error("E4 Halted")]
     Halted,
-    /// More than 256 blocks are dirty: ask again after a batch is taken.
+    /// Too many blocks are dirty: ask again after a batch is taken.
     #[error("E8 LaterDirty")]
     LaterDirty,
     /// A group with this name exists already.
@@ -56,7 +56,7 @@ pub enum ExpireError {
     /// An earlier device fault has halted the kernel.
     #[error("E4 Halted")]
     Halted,
-    /// More than 256 blocks are dirty: ask again after a batch is taken.
+    /// Too many blocks are dirty: ask again after a batch is taken.
     #[error("E8 LaterDirty")]
     LaterDirty,
     /// The group does not exist, or the number is below its lowest or above its highest.

@@ -35,10 +35,10 @@ any_at p (x ∷ xs) (suc k) d low passes = over (p x) (any_at p xs k d (omega ar
   over false rest = rest
 
 -- by 16 octets for each number
-pub numbers_large : (n : ℕ) → nat_lt 16776448 n ≡ nat_lt 268423168 (16 * n)
-numbers_large n = elim (cases_lt 16776448 n) [
-  | inl more ↦ lt-ltb 16776448 n more ∙ sym (lt-ltb 268423168 (16 * n) (omega (arith, more)))
-  | inr few ↦ le-ltb 16776448 n few ∙ sym (le-ltb 268423168 (16 * n) (omega (arith, few)))
+pub numbers_large : (n : ℕ) → nat_lt 268434432 n ≡ nat_lt 4294950912 (16 * n)
+numbers_large n = elim (cases_lt 268434432 n) [
+  | inl more ↦ lt-ltb 268434432 n more ∙ sym (lt-ltb 4294950912 (16 * n) (omega (arith, more)))
+  | inr few ↦ le-ltb 268434432 n few ∙ sym (le-ltb 4294950912 (16 * n) (omega (arith, few)))
 ]
 
 -- a file of the group is too large
@@ -46,7 +46,7 @@ abbrev pub one_large : Spool → Octets → Bool
 one_large S g = is_large (numbers_file S g) || is_large (overview_file S g)
 
 pub large_group : (S : Spool) (name : Octets) (i : GroupIndex) → Some i ≡ option_map (group_index S) (group_named S name)
-    → (nat_lt 268423168 (16 * length i.filed) || nat_lt 268423168 (end_of i)) ≡ one_large S name
+    → (nat_lt 4294950912 (16 * length i.filed) || nat_lt 4294950912 (end_of i)) ≡ one_large S name
 large_group S name i is =
     let its = group_is S name i is in
     let count : length i.filed ≡ high S name =
@@ -55,7 +55,7 @@ large_group S name i is =
     let numbers : 16 * length i.filed ≡ length (numbers_file S name) = ap (λ (n : ℕ). 16 * n) count ∙ sym (numbers_size S name) in
     let overview : end_of i ≡ length (overview_file S name) = ap end_of its.its_index ∙ overview_size S its.group
     ∙ ap (λ (g : Octets). length (overview_file S g)) its.its_name in
-    λ k. nat_lt 268423168 (numbers k) || nat_lt 268423168 (overview k)
+    λ k. nat_lt 4294950912 (numbers k) || nat_lt 4294950912 (overview k)
 
 -- ---- an article
 

@@ -15,14 +15,14 @@ use index_groups::Group;
 use model::Text;
 
 /// The most octets of a file that may still grow: 12,288 less than the largest file has.
-const MOST_OCTETS: u64 = 268_423_168;
+const MOST_OCTETS: u64 = 4_294_950_912;
 
 /// The most articles of a group whose numbers may still grow, 16 octets for each.
 const MOST_NUMBERS: u64 = MOST_OCTETS / 16;
 
 /// Whether the numbers or the overview of a group are too large for another article.
 fn is_large(group: &Group) -> bool
-    ensures { result ≡ (nat_lt 268423168 (16 * length (shown group.now).filed) || nat_lt 268423168 (end_of (shown group.now))) }
+    ensures { result ≡ (nat_lt 4294950912 (16 * length (shown group.now).filed) || nat_lt 4294950912 (end_of (shown group.now))) }
 {
     MOST_NUMBERS < group.high() || MOST_OCTETS < group.overview_size()
 }

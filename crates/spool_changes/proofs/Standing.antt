@@ -51,7 +51,7 @@ pub read_same : (n : ℕ) (c : Change) (name name' content content' : Octets) �
 read_same n c name name' content content' names contents is =
     subst (λ (p : Octets × Octets). IsFileOf n c p.0 p.1) (λ i. (names i, contents i)) is
 
-module _ (inodes : ℕ) (blocks : List Octets) (few : inodes ≤ 32768) (p : FilePlaces) (places : List ℕ) (serial : ℕ)
+module _ (inodes : ℕ) (blocks : List Octets) (few : inodes ≤ 4194304) (p : FilePlaces) (places : List ℕ) (serial : ℕ)
     (same : places ≡ p.changes) (there : HasChange inodes blocks p serial) where
   abbrev pub its : Change
   its = get_or there.changes (serial - 1) no_change
@@ -66,7 +66,7 @@ module _ (inodes : ℕ) (blocks : List Octets) (few : inodes ≤ 32768) (p : Fil
   pub low : serial - 1 < length places
   low = subst (λ (l : List ℕ). serial - 1 < length l) (sym same) standing.low
 
-  pub few_serials : serial ≤ 32768
+  pub few_serials : serial ≤ 4194304
   few_serials = omega (arith, few, there.to, changes_few there.host inodes blocks there.changes there.held)
 
   -- the inode of its file

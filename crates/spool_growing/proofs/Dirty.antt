@@ -1,10 +1,13 @@
 -- How many blocks a change dirties.
-use Rattle.std.proofs.Common.{◌≡◌, ◌⊎◌, inl, inr, ◌≤◌, ◌↔◌, ℕ, zero, suc, List, [], ◌∷◌, ◌++◌, length, refl, sym, ◌∙◌, arith, length-append}
-use Rattle.std.specs.List.{Contains, remove}
+use Rattle.std.proofs.Common.{◌≡◌, ◌⊎◌, inl, inr, ◌<◌, ◌≤◌, ◌↔◌, ℕ, zero, suc, ◌+◌, List, [], ◌∷◌, ◌++◌, length, refl, sym, ◌∙◌, arith, length-append}
+use Rattle.std.specs.List.{Contains, range_with_len, remove}
+use Rattle.std.proofs.lemmas.Bool.{cases_eq, cases_lt}
+use Rattle.std.proofs.lemmas.List.FromFn.{length-range_with_len}
 use Rattle.std.proofs.lemmas.List.{get_or_default}
 use Rattle.std.proofs.lemmas.List.Elements.{Contains-append_left, Contains-append_right}
 use Rattle.std.proofs.lemmas.List.Sorted.{Contains-permutation, IsPermutation-remove, length_permutation}
 use Rattle.std.specs.Prelude.{IsPermutation}
+use Rattle.model.specs.Files.{bitmap_blocks}
 use Rattle.model.specs.Stream.{Octets}
 use Rattle.model.specs.Volume.{AreDistinct}
 use Rattle.fs.specs.Touches.{Touches}
@@ -29,13 +32,25 @@ fewer (x ∷ xs) ys once within =
         absurd (once 0 (suc has.0) (omega arith) (omega (arith, has.1)) (is ∙ sym has.2 ∙ get_or_default xs has.0 z 0 has.1))
     left_over z has (suc k, low, is) = (k, omega arith, is)
 
--- the blocks that a change touches: the two of the bitmap, and others
-reached : (old new : List Octets) (touches : Touches 254 old new) (k : ℕ) → Differs old new k → Contains (0 ∷ 1 ∷ touches.others) k
-reached old new touches zero differs = (0, omega arith, refl)
-reached old new touches (suc zero) differs = (1, omega arith, refl)
-reached old new touches (suc (suc k)) differs = elim (contained touches.others (suc (suc k))) [
-  | inl has ↦ (suc (suc has.0), omega (arith, has.1), has.2)
-  | inr none ↦ absurd (differs (sym (touches.same (suc (suc k)) (omega arith) none)))
+-- a number of a range
+in_range : (a n b : ℕ) → a ≤ b → b < a + n → Contains (range_with_len a n) b
+in_range a zero b low high = absurd (omega arith)
+in_range a (suc n) b low high = elim (cases_eq a b) [
+  | inl same ↦ (0, omega arith, same)
+  | inr other ↦ let rest = in_range (a + 1) n b (omega arith) (omega arith) in (suc rest.0, omega (arith, rest.1), rest.2)
+]
+
+-- the blocks that a change touches: those of the bitmap, and others
+abbrev all_touched : (old new : List Octets) → Touches 254 old new → List ℕ
+all_touched old new touches = range_with_len 0 (bitmap_blocks (length old)) ++ touches.others
+
+reached : (old new : List Octets) (touches : Touches 254 old new) (k : ℕ) → Differs old new k → Contains (all_touched old new touches) k
+reached old new touches k differs = elim (cases_lt k (bitmap_blocks (length old))) [
+  | inl low ↦ Contains-append_left (range_with_len 0 (bitmap_blocks (length old))) touches.others k (in_range 0 (bitmap_blocks (length old)) k (omega arith) (omega (arith, low)))
+  | inr high ↦ elim (contained touches.others k) [
+    | inl has ↦ Contains-append_right (range_with_len 0 (bitmap_blocks (length old))) touches.others k has
+    | inr none ↦ absurd (differs (sym (touches.same k high none)))
+  ]
 ]
 
 pub dirties : (old new : List Octets) (before after : List ℕ) → length new ≡ length old → Touches 254 old new
@@ -46,11 +61,13 @@ dirties old new before after count touches exactly once = record {
   distinct = once;
   few = omega (
     arith,
-    fewer after (before ++ 0 ∷ 1 ∷ touches.others) once (λ k has. among k ((exactly k).0 has)),
-    length-append before (0 ∷ 1 ∷ touches.others),
+    fewer after (before ++ all_touched old new touches) once (λ k has. among k ((exactly k).0 has)),
+    length-append before (all_touched old new touches),
+    length-append (range_with_len 0 (bitmap_blocks (length old))) touches.others,
+    length-range_with_len 0 (bitmap_blocks (length old)),
     touches.few,
   );
 } where
-  among : (k : ℕ) → Contains before k ⊎ Differs old new k → Contains (before ++ 0 ∷ 1 ∷ touches.others) k
-  among k (inl has) = Contains-append_left before (0 ∷ 1 ∷ touches.others) k has
-  among k (inr differs) = Contains-append_right before (0 ∷ 1 ∷ touches.others) k (reached old new touches k differs)
+  among : (k : ℕ) → Contains before k ⊎ Differs old new k → Contains (before ++ all_touched old new touches) k
+  among k (inl has) = Contains-append_left before (all_touched old new touches) k has
+  among k (inr differs) = Contains-append_right before (all_touched old new touches) k (reached old new touches k differs)

@@ -25,7 +25,7 @@ use Rattle.spool_growing.specs.Growing.{HasFree}
 use Rattle.spool_growing.specs.Kept.{IsHeld}
 
 module _ (host : Octets) (inodes : ℕ) (blocks : List Octets) (S : Spool) (is : IsHeld host inodes blocks S) where
-  pub changes_are_few : length S ≤ 32768
+  pub changes_are_few : length S ≤ 4194304
   changes_are_few = omega (arith, changes_few host inodes blocks S is.held, is.room.few)
 
   pub files_are : IsPermutation (files_in (table inodes blocks)) (files_of S)
@@ -37,7 +37,7 @@ module _ (host : Octets) (inodes : ℕ) (blocks : List Octets) (S : Spool) (is :
   pub blocks_beside : free_blocks blocks ≡ free_blocks_beside (length blocks) inodes (files_of S)
   blocks_beside =
       (free_is_beside inodes blocks is.held.files is.room is.held.held).blocks_are
-      ∙ ap (λ (n : ℕ). length blocks - (first_data inodes + n))
+      ∙ ap (λ (n : ℕ). length blocks - (first_data (length blocks) inodes + n))
       (sym (sum_by-IsPermutation (λ (f : File). blocks_for (length f.content)) is.held.files (files_of S) is.held.same))
 
   pub not_there : (q : Octets) → ((f : File) → Contains (files_of S) f → f.name ≢ q) → ¬ (IsThere (table inodes blocks) q)

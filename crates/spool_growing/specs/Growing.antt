@@ -1,7 +1,7 @@
 -- One more change, in all that a spool keeps.
 use Rattle.std.specs.Prelude.{◌≡◌, ◌⊎◌, ◌↔◌, ℕ, ◌+◌, ◌≤◌, false, List, [], ◌∷◌, ◌++◌, length, map, Some}
 use Rattle.std.specs.List.{Contains}
-use Rattle.model.specs.Files.{files_in, free_blocks, table}
+use Rattle.model.specs.Files.{bitmap_blocks, files_in, free_blocks, table}
 use Rattle.model.specs.Indexed.{FilePlaces}
 use Rattle.model.specs.Lawful.{MayFollow}
 use Rattle.model.specs.Room.{is_full}
@@ -47,12 +47,12 @@ pub record MakesGroup (inodes at numbers overview : ℕ) (name octets : Octets) 
 -- ---- the whole
 
 -- there are as many blocks as before. The dirty ones are those that were dirty and those whose octets changed, none of
--- them twice; a change dirties at most 256
+-- them twice; a change dirties at most 254 and those of the bitmap
 pub record Dirties (old new : List Octets) (before after : List ℕ) : Type 0 where
   pub size : length new ≡ length old
   pub exactly : (k : ℕ) → Contains after k ↔ (Contains before k ⊎ Differs old new k)
   pub distinct : AreDistinct after
-  pub few : length after ≤ length before + 256
+  pub few : length after ≤ length before + (254 + bitmap_blocks (length old))
 
 -- the blocks hold changes that this one may follow, and there is room for it
 pub record IsReady (inodes : ℕ) (volume : VolumeView) (index : IndexView) (places : FilePlaces) (c : Change) : Type 0 where

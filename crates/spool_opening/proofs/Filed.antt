@@ -29,7 +29,7 @@ use Rattle.spool_opening.proofs.Growing.{article_is_read}
 use Rattle.spool_opening.proofs.Replaying.{its_file_there, its_name}
 
 pub bounded : (host : Octets) (inodes : ℕ) (blocks : List Octets) (x : IndexView) (p : FilePlaces) (R : Spool) → HasRoom inodes blocks
-    → IsFileSystem inodes blocks → IsReplayed host inodes blocks x p R → length R ≤ 32768 → IsBounded x
+    → IsFileSystem inodes blocks → IsReplayed host inodes blocks x p R → length R ≤ 4194304 → IsBounded x
 bounded host inodes blocks x p R room rule replayed few = record {
   changes = R;
   indexed = replayed.indexed;

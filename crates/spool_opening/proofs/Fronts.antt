@@ -36,11 +36,11 @@ may_next host before (c ∷ cs) (suc k) lawful low =
     subst (λ (S : Spool). MayFollow host S (get_or cs k no_change)) (append_assoc before (c ∷ []) (take k cs))
     (may_next host (before ++ c ∷ []) cs k lawful.1 (omega arith))
 
-pub is_front : (host : Octets) (inodes : ℕ) (blocks : List Octets) (S R : Spool) → inodes ≤ 32768 → Holds host inodes blocks S
+pub is_front : (host : Octets) (inodes : ℕ) (blocks : List Octets) (S R : Spool) → inodes ≤ 4194304 → Holds host inodes blocks S
     → AreRead host inodes blocks R → R ≡ first S (length R)
 is_front host inodes blocks S R room held read = fronts_read host inodes blocks S R room held read.changes
 
-pub next_is : (host : Octets) (inodes : ℕ) (blocks : List Octets) (R S : Spool) → inodes ≤ 32768 → Holds host inodes blocks S
+pub next_is : (host : Octets) (inodes : ℕ) (blocks : List Octets) (R S : Spool) → inodes ≤ 4194304 → Holds host inodes blocks S
     → R ≡ first S (length R) → length R < length S → NextIs host inodes blocks R S
 next_is host inodes blocks R S room held front low =
     let few = changes_few host inodes blocks S held in
@@ -55,7 +55,7 @@ next_is host inodes blocks R S room held front low =
       front = ap (λ (T : Spool). T ++ get_or S (length R) no_change ∷ []) front ∙ sym (take_more S (length R) no_change low);
     }
 
-pub next_there : (host : Octets) (inodes : ℕ) (blocks : List Octets) (R S : Spool) (room : inodes ≤ 32768)
+pub next_there : (host : Octets) (inodes : ℕ) (blocks : List Octets) (R S : Spool) (room : inodes ≤ 4194304)
     (held : Holds host inodes blocks S) (front : R ≡ first S (length R)) (low : length R < length S)
     → slice_get S (length R) ≡ Some (next_is host inodes blocks R S room held front low).change
 unfolding next_is

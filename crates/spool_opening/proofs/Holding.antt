@@ -46,7 +46,7 @@ index_whole host inodes blocks S k held f there not =
 
 module _ (host : Octets) (inodes : ℕ) (blocks : List Octets) (R : Spool) (rule : IsFileSystem inodes blocks)
     (read : AreRead host inodes blocks R) where
-  change_there : (slots : List ℕ) (named : List (Octets × ℕ)) → inodes ≤ 32768
+  change_there : (slots : List ℕ) (named : List (Octets × ℕ)) → inodes ≤ 4194304
       → AreSorted (table inodes blocks) (length (table inodes blocks)) slots named → AreFirst (length R) slots
       → (k : ℕ) (f : File) → get_or (table inodes blocks) k None ≡ Some f → is_of_change f ≡ true → Contains (files_of R) f
   change_there slots named few sorted first k f there of =
@@ -82,7 +82,7 @@ module _ (host : Octets) (inodes : ℕ) (blocks : List Octets) (R : Spool) (rule
       ∙ ap (take (length (file_for is.which R is.group))) (sym one) ∙ front.front in
       subst (Contains (files_of R)) (λ i. record { name = sym is.is i; content = sym whole i }) (has_index is.which R is.group is.here)
 
-  pub one_of : (slots : List ℕ) (named : List (Octets × ℕ)) → inodes ≤ 32768
+  pub one_of : (slots : List ℕ) (named : List (Octets × ℕ)) → inodes ≤ 4194304
       → AreSorted (table inodes blocks) (length (table inodes blocks)) slots named → AreFirst (length R) slots
       → ((k : ℕ) → k < inodes → IsWholeAt (table inodes blocks) R k)
       → (f : File) → Contains (files_in (table inodes blocks)) f → Contains (files_of R) f
@@ -109,13 +109,13 @@ read_held host inodes blocks R slots named few rule read sorted first whole coun
 
 -- ---- the end
 
-pub few_first : (inodes : ℕ) (blocks : List Octets) (slots : List ℕ) (named : List (Octets × ℕ)) (m count : ℕ) → inodes ≤ 32768
-    → AreSorted (table inodes blocks) (length (table inodes blocks)) slots named → AreFirst count slots → m ≡ count → m ≤ 32768
+pub few_first : (inodes : ℕ) (blocks : List Octets) (slots : List ℕ) (named : List (Octets × ℕ)) (m count : ℕ) → inodes ≤ 4194304
+    → AreSorted (table inodes blocks) (length (table inodes blocks)) slots named → AreFirst count slots → m ≡ count → m ≤ 4194304
 few_first inodes blocks slots named m count few sorted first is = omega (arith, sorted.slot_count, length-table inodes blocks, first.few)
 
 -- a spool that the blocks hold is the changes that were replayed
 pub opened_is : (host : Octets) (inodes : ℕ) (blocks : List Octets) (R S : Spool) (slots : List ℕ) (named : List (Octets × ℕ)) (count : ℕ)
-    → inodes ≤ 32768 → Holds host inodes blocks S → AreRead host inodes blocks R
+    → inodes ≤ 4194304 → Holds host inodes blocks S → AreRead host inodes blocks R
     → AreSorted (table inodes blocks) (length (table inodes blocks)) slots named → AreFirst count slots → length R ≡ count
     → Holds host inodes blocks R
 opened_is host inodes blocks R S slots named count few held read sorted first is =
@@ -123,7 +123,7 @@ opened_is host inodes blocks R S slots named count few held read sorted first is
     (read_all host inodes blocks R S slots named few held read sorted (subst (λ (n : ℕ). AreFirst n slots) (sym is) first)) held
 
 pub opened : (host : Octets) (inodes : ℕ) (blocks : List Octets) (x : IndexView) (p : FilePlaces) (R : Spool) (slots : List ℕ)
-    (named : List (Octets × ℕ)) (count : ℕ) → inodes ≤ 32768 → IsFileSystem inodes blocks → IsReplayed host inodes blocks x p R
+    (named : List (Octets × ℕ)) (count : ℕ) → inodes ≤ 4194304 → IsFileSystem inodes blocks → IsReplayed host inodes blocks x p R
     → AreSorted (table inodes blocks) (length (table inodes blocks)) slots named → AreFirst count slots → length R ≡ count
     → ((k : ℕ) → k < inodes → IsWholeAt (table inodes blocks) R k)
     → length (files_in (table inodes blocks)) ≡ length R + 2 * length (groups R)

@@ -41,7 +41,7 @@ pub record IsNextFile (host : Octets) (R S : Spool) (name content : Octets) : Ty
   pub is : IsFileOf (length R + 1) change name content
 
 pub next_file : (host : Octets) (inodes : ℕ) (blocks : List Octets) (R S : Spool) (slots : List ℕ) (named : List (Octets × ℕ)) (at : ℕ)
-    (name content : Octets) → inodes ≤ 32768 → Holds host inodes blocks S → AreRead host inodes blocks R
+    (name content : Octets) → inodes ≤ 4194304 → Holds host inodes blocks S → AreRead host inodes blocks R
     → AreSorted (table inodes blocks) (length (table inodes blocks)) slots named → length R < length S → at ≡ get_or slots (length R) 0
     → get_or (table inodes blocks) at None ≡ Some (record { name = name; content = content }) → IsNextFile host R S name content
 next_file host inodes blocks R S slots named at name content few held read sorted low place there =
@@ -137,8 +137,8 @@ pub taken_there : (inodes : ℕ) (blocks : List Octets) (slots : List ℕ) (name
 taken_there inodes blocks slots named n at sorted low taken is = let its = sorted.taken n low taken in
     (its.file, ap (λ (k : ℕ). get_or (table inodes blocks) k None) is ∙ its.there)
 
-pub slots_few : (inodes : ℕ) (blocks : List Octets) (slots : List ℕ) (named : List (Octets × ℕ)) (n m : ℕ) → inodes ≤ 32768
-    → AreSorted (table inodes blocks) (length (table inodes blocks)) slots named → m ≡ n → n < length slots → m < 32768
+pub slots_few : (inodes : ℕ) (blocks : List Octets) (slots : List ℕ) (named : List (Octets × ℕ)) (n m : ℕ) → inodes ≤ 4194304
+    → AreSorted (table inodes blocks) (length (table inodes blocks)) slots named → m ≡ n → n < length slots → m < 4194304
 slots_few inodes blocks slots named n m few sorted is low = omega (arith, sorted.slot_count, length-table inodes blocks)
 
 -- the octets that were read are those of a file

@@ -33,7 +33,7 @@ here_is S name i is = sym (mapped (group_index S) (group_named S name)) ∙ ap (
 -- ---- the bounds that the index keeps
 
 pub few_filed : (x : IndexView) (name : Octets) (i : GroupIndex) → (bounds : IsBounded x)
-    → Some i ≡ option_map (group_index bounds.changes) (group_named bounds.changes name) → length i.filed ≤ 32768
+    → Some i ≡ option_map (group_index bounds.changes) (group_named bounds.changes name) → length i.filed ≤ 4194304
 few_filed x name i bounds is =
     let its = group_is bounds.changes name i is in
     omega (

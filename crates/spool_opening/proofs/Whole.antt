@@ -51,14 +51,14 @@ none_replayed host inodes blocks x p is none = record {
 
 -- a spool that the blocks hold has as many
 pub as_many : (host : Octets) (inodes : ℕ) (blocks : List Octets) (S : Spool) (slots : List ℕ) (named : List (Octets × ℕ)) (count : ℕ)
-    → inodes ≤ 32768 → Holds host inodes blocks S → AreSorted (table inodes blocks) (length (table inodes blocks)) slots named
+    → inodes ≤ 4194304 → Holds host inodes blocks S → AreSorted (table inodes blocks) (length (table inodes blocks)) slots named
     → AreFirst count slots → length S ≡ count
 as_many host inodes blocks S slots named count few held sorted first =
     first_once (length S) count slots (slots_as_many host inodes blocks S slots named few held sorted) first
 
 -- so it is these
 pub read_all : (host : Octets) (inodes : ℕ) (blocks : List Octets) (R S : Spool) (slots : List ℕ) (named : List (Octets × ℕ))
-    → inodes ≤ 32768 → Holds host inodes blocks S → AreRead host inodes blocks R
+    → inodes ≤ 4194304 → Holds host inodes blocks S → AreRead host inodes blocks R
     → AreSorted (table inodes blocks) (length (table inodes blocks)) slots named
     → AreFirst (length R) slots → S ≡ R
 read_all host inodes blocks R S slots named few held read sorted first =

@@ -29,7 +29,7 @@ pub record AreReplayed (index : IndexView) (places : FilePlaces) : Type 0 where
 pub record CanReplay (host : Octets) (inodes : ℕ) (blocks : List Octets) (index : IndexView) (places : FilePlaces) : Type 0 where
   pub changes : Spool
   pub replayed : IsReplayed host inodes blocks index places changes
-  pub few : length changes < 32768
+  pub few : length changes < 4194304
 
 -- this many changes of these blocks were replayed
 pub record AreReplayedTo (host : Octets) (inodes : ℕ) (blocks : List Octets) (index : IndexView) (places : FilePlaces)
@@ -49,7 +49,7 @@ pub record IsItsFile (inodes : ℕ) (blocks : List Octets) (at serial : ℕ) (c 
 pub record IsBounded (index : IndexView) : Type 0 where
   pub changes : Spool
   pub indexed : Indexes changes index
-  pub few : length changes ≤ 32768
+  pub few : length changes ≤ 4194304
   pub short : (g : Octets) → is_here changes g ≡ true → length (overview_file changes g) < 2 ^ 32
 
 -- the numbers and the overviews of these groups continue with this article

@@ -68,7 +68,7 @@ pub fn goes_on<B: Blocks>(
     requires rule { IsFileSystem inodes (B.blocks blocks.now) }
     requires sorted { AreSorted (table inodes (B.blocks blocks.now)) (length (table inodes (B.blocks blocks.now)))
         files.now.slots.items files.now.named }
-    requires few { length (shown group.now).filed ≤ 32768 }
+    requires few { length (shown group.now).filed ≤ 4194304 }
     requires short { end_of (shown group.now) < 2 ^ 32 }
     ensures { IfOk result (λ size. MatchOption size
         (GoesOn (table inodes (B.blocks blocks.now)) (shown group.now) serial overview.now → ⊥)

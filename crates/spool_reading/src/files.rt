@@ -5,8 +5,8 @@ ghost use Rattle.model.specs.Files.{File, HasRoom, IsFileSystem, table, largest_
 
 use blocks::Blocks;
 use fs_inodes::read_entry;
-use fs_layout::inodes::{INODES_AT, MOST_OCTETS, size_of};
-use fs_layout::records::{RECORD_SIZE, get_record};
+use fs_layout::inodes::{MOST_OCTETS, size_of};
+use fs_layout::records::{RECORD_SIZE, get_slot};
 use fs_layout::slots::name_of;
 use std::alloc::{AllocError, Global};
 
@@ -24,7 +24,7 @@ pub fn file_name_at<B: Blocks>(
         (slice_index_or (table inodes (B.blocks blocks.now)) at None)) }
 {
     let mut slot = [0; RECORD_SIZE];
-    get_record(blocks, INODES_AT + inodes / 64, at, &mut slot);
+    get_slot(blocks, inodes, at, &mut slot);
     if slot[0] == 0 {
         return Ok(None);
     }

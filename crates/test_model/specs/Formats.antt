@@ -16,14 +16,14 @@ Gates =
 -- with 4,096 blocks and 64 inodes, a file of the largest size of format 1 leaves 3,057 blocks free; with one more octet it leaves 3,054
 abbrev pub Rows : Type 0
 Rows =
-    (4096 - (first_data 64 + blocks_for largest_file_one) ≡ 3057)
-    × (4096 - (first_data 64 + blocks_for 4235265) ≡ 3054)
+    (4096 - (first_data 4096 64 + blocks_for largest_file_one) ≡ 3057)
+    × (4096 - (first_data 4096 64 + blocks_for 4235265) ≡ 3054)
 
 -- the blocks of pointers: none up to 10 blocks, one up to 1,034; a double-indirect block comes with the second
 abbrev pub Steps : Type 0
 Steps =
     (blocks_for 0 ≡ 0) × (blocks_for 1 ≡ 1) × (blocks_for 40960 ≡ 10) × (blocks_for 40961 ≡ 12)
-    × (blocks_for 8429568 ≡ 2061) × (blocks_for 8429569 ≡ 2063) × (blocks_for largest_file ≡ 65601)
+    × (blocks_for 8429568 ≡ 2061) × (blocks_for 8429569 ≡ 2063) × (blocks_for largest_file ≡ 1049600)
 
 -- a file of 1,035 blocks: its inode names the first block of pointers, 20, and the double-indirect block, 21. The latter names the
 -- second block of pointers, 22, which names the last block of the file, 23

@@ -12,7 +12,7 @@ use std::sync::atomic::{AtomicU64, Ordering};
 use std::sync::{Arc, Mutex, Wait};
 use std::thread::{self, Threads, join};
 use std::time::{Clock, Duration};
-use usage::{BitmapMarks, Tally, VolumeFacts};
+use usage::{Tally, VolumeFacts};
 
 /// A play waits for this many milliseconds, and then fails.
 const WAIT_MILLIS: u64 = 20_000;
@@ -30,10 +30,7 @@ const BLOCKS: u64 = 16_384;
 
 const INODES: u64 = 8_192;
 
-const MARKS: BitmapMarks = BitmapMarks {
-    first: 1_100,
-    second: 100,
-};
+const USED_BLOCKS: u64 = 1_200;
 
 const SYNCS: u64 = 63;
 
@@ -274,7 +271,7 @@ pub(crate) fn run<R: Threads + Wait + Clock + Copy + Send + Sync + 'static>(
         kern: Counting::new(posts),
         mark,
         bells: Bells::new(),
-        tally: Tally::new(MARKS, Arc::new(alloc, AtomicU64::new(SYNCS)).ok()?),
+        tally: Tally::new(USED_BLOCKS, Arc::new(alloc, AtomicU64::new(SYNCS)).ok()?),
         operator,
         read,
     };

@@ -5,8 +5,8 @@ use crate::words::{octet, picks};
 use disk::{Disk, DiskCall, Faults};
 use gates::write_gates_back;
 use memdisk::MemDisk;
+use octet_numbers::zeros;
 use std::alloc::Global;
-use volume_format::zeros;
 
 /// Octets of a block.
 const BLOCK: usize = 4096;

@@ -22,12 +22,6 @@ use std::time::Clock;
 use usage::{BitmapMarks, Tally, VolumeFacts};
 use volume::BatchBuf;
 
-/// The marks of used blocks that the servers begin with.
-const MARKS: BitmapMarks = BitmapMarks {
-    first: 0,
-    second: 0,
-};
-
 /// A server that is about to serve a volume.
 #[derive(Drop)]
 pub struct Stage<'a, D: Disk, K> {
@@ -167,7 +161,7 @@ impl<'a, D: Disk + Drop, K: Kern + Sync + Drop> Stage<'a, D, K> {
                 counts: kern.counts(rt),
             };
         };
-        let tally = Tally::new(MARKS, syncs);
+        let tally = Tally::new(0, syncs);
         let parts = Parts {
             listeners: setting.listeners,
             log: setting.log,
@@ -262,7 +256,7 @@ fn serve_parts<
         flush_seat,
         seat,
         facts,
-        marks: MARKS,
+        marks: BitmapMarks::none(),
         tally,
         gate,
         limits,

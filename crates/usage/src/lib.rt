@@ -5,9 +5,10 @@
 mod bitmap;
 mod inodes;
 mod marks;
+mod tables;
 mod tally;
 
 pub use bitmap::{bits_are_used_blocks, used_blocks};
 pub use inodes::inodes_used;
-pub use marks::BitmapMarks;
+pub use tables::BitmapMarks;
 pub use tally::{Tallied, Tally, VolumeFacts};

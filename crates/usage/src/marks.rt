@@ -1,57 +1,88 @@
 //! How many blocks a volume's bitmap marks as used, followed from batch to batch.
 
-ghost use Rattle.std.specs.Prelude.{◌≡◌, ◌==◌, ◌+◌, ◌<◌, IfErr, IfOk, IfSome, IsTrue, OnErr, OnOk, length, option_map, position, true};
+ghost use Rattle.std.specs.Prelude.{◌≡◌, ◌==◌, ◌<◌, ◌≤◌, ℕ, IfErr, IfOk, IfSome, IsTrue, OnErr, OnOk, length, option_map, position, slice_index_or};
+ghost use Rattle.std.specs.Prelude.{true};
 ghost use Rattle.journal.specs.Journal.{CountsFailures, IsReady};
-ghost use Rattle.usage.specs.Marks.{IsWhole, image_of, marked, marked_after};
+ghost use Rattle.usage.specs.Marks.{AreMarks, IsWhole, image_of, marked_after};
+ghost use Rattle.usage.specs.Usage.{marked, sum_of};
 
 use crate::bitmap::used_blocks;
+use crate::tables::{BitmapMarks, MOST_TABLES};
 use blocks::BLOCK_SIZE;
 use disk::Disk;
+use fs_layout::inodes::bitmap_blocks;
 use journal::{Journal, JournalError};
 use volume::{BATCH_BLOCKS, BatchBuf};
 
-/// The set bits of each of the bitmap's two blocks, which are the logical blocks 0 and 1 (docs/FORMATS.md).
-#[derive(Clone, Copy, Debug, PartialEq, Eq)]
-pub struct BitmapMarks {
-    pub first: u32,
-    pub second: u32,
-}
-
 impl BitmapMarks {
-    /// Reads the marks of a volume, with two reads of its device. The only refusal is `Fault`, exactly if the device
-    /// failed; it halts the journal for good.
+    /// The marks of a bitmap without blocks.
+    pub fn none() -> BitmapMarks
+        ensures { result.tables ≡ 0 }
+    {
+        BitmapMarks {
+            tables: 0,
+            bits: [0; MOST_TABLES],
+        }
+    }
+
+    /// Reads the marks of a volume, with a read of its device for each block of the bitmap. The only refusal is `Fault`,
+    /// exactly if the device failed; it halts the journal for good.
     pub fn read<D: Disk>(journal: &mut Journal<D>) -> Result<BitmapMarks, JournalError>
         requires { IsReady journal.old }
         ensures ready { OnOk result (IsReady journal.new) }
-        ensures first { IsTrue (D.device journal.old.disk).tells → IfOk result (λ marks. marks.first ≡ marked journal.old.blocks 0) }
-        ensures second { IsTrue (D.device journal.old.disk).tells → IfOk result (λ marks. marks.second ≡ marked journal.old.blocks 1) }
+        ensures label { journal.new.label ≡ journal.old.label }
+        ensures format { journal.new.format ≡ journal.old.format }
+        ensures size { journal.new.size ≡ journal.old.size }
+        ensures tells { (D.device journal.new.disk).tells ≡ (D.device journal.old.disk).tells }
+        ensures blocks { IsTrue (D.device journal.old.disk).tells → journal.new.blocks ≡ journal.old.blocks }
+        ensures marks { IsTrue (D.device journal.old.disk).tells → IfOk result (λ marks. AreMarks marks journal.old.blocks) }
         ensures fault { IfErr result (λ error. error ≡ JournalError.Fault) }
         ensures halts { OnErr result (journal.new.halted ≡ true) }
         ensures failures { CountsFailures result (D.device journal.old.disk) (D.device journal.new.disk) }
     {
-        // its clauses say that there are two blocks
-        let _ = journal.is_idle();
-        let first = read_marks(journal, 0)?;
-        let second = read_marks(journal, 1)?;
-        Ok(BitmapMarks { first, second })
+        // its clauses state how many blocks there are
+        let _ready = journal.is_idle();
+        let tables = bitmap_blocks(journal.blocks() as u32) as usize;
+        let mut bits = [0; MOST_TABLES];
+        for table in 0..tables {
+            bits[table] = read_marks(journal, table as u64)?;
+        }
+        Ok(BitmapMarks { tables, bits })
     }
 
-    /// The number of used blocks of the volume: the set bits of both blocks.
-    pub fn all(self) -> u64
-        ensures { result ≡ self.first + self.second }
+    /// The set bits of a block of the bitmap.
+    fn of_block(&self, table: usize) -> u32
+        requires { table < self.now.tables }
+        ensures { result ≡ slice_index_or self.now.bits table 0 }
     {
-        u64::from(self.first) + u64::from(self.second)
+        self.bits[table]
+    }
+
+    /// The number of used blocks of the volume: the set bits of all blocks of the bitmap.
+    pub fn all(self) -> u64
+        ensures { result ≡ sum_of (λ t. slice_index_or self.bits t 0) self.tables }
+    {
+        let mut all = 0;
+        for table in 0..self.tables {
+            all += u64::from(self.of_block(table));
+        }
+        all
     }
 
     /// The marks after a batch: for each block of the bitmap the set bits of its image in the batch, or those before it
     /// if the batch does not have that block.
     pub fn after(self, batch: &BatchBuf) -> BitmapMarks
-        ensures first { IsWhole batch.now → result.first ≡ marked_after self.first (image_of batch.now 0) }
-        ensures second { IsWhole batch.now → result.second ≡ marked_after self.second (image_of batch.now 1) }
+        ensures tables { result.tables ≡ self.tables }
+        ensures bits { IsWhole batch.now → (t : ℕ) → t < self.tables
+            → slice_index_or result.bits t 0 ≡ marked_after (slice_index_or self.bits t 0) (image_of batch.now t) }
     {
+        let mut bits = self.bits;
+        for table in 0..self.tables {
+            bits[table] = marks_after(self.of_block(table), batch, table as u32);
+        }
         BitmapMarks {
-            first: marks_after(self.first, batch, 0),
-            second: marks_after(self.second, batch, 1),
+            tables: self.tables,
+            bits,
         }
     }
 }
@@ -95,6 +126,8 @@ fn read_marks<D: Disk>(journal: &mut Journal<D>, block: u64) -> Result<u32, Jour
     ensures ready { OnOk result (IsReady journal.new) }
     ensures value { IsTrue (D.device journal.old.disk).tells → IfOk result (λ bits. bits ≡ marked journal.old.blocks block) }
     ensures same { IsTrue (D.device journal.old.disk).tells → journal.new.blocks ≡ journal.old.blocks }
+    ensures label { journal.new.label ≡ journal.old.label }
+    ensures format { journal.new.format ≡ journal.old.format }
     ensures size { journal.new.size ≡ journal.old.size }
     ensures tells { (D.device journal.new.disk).tells ≡ (D.device journal.old.disk).tells }
     ensures fault { IfErr result (λ error. error ≡ JournalError.Fault) }

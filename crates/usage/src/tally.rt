@@ -1,6 +1,5 @@
 //! What is counted while a server runs, for its operator.
 
-use crate::marks::BitmapMarks;
 use std::alloc::Global;
 use std::sync::Arc;
 use std::sync::atomic::{AtomicU64, Ordering};
@@ -38,11 +37,11 @@ pub struct Tallied {
 }
 
 impl Tally {
-    /// A tally of a volume with these marks of used blocks. Its device counts the syncs.
-    pub fn new(marks: BitmapMarks, syncs: Arc<AtomicU64, Global>) -> Tally {
+    /// A tally of a volume with this many used blocks. Its device counts the syncs.
+    pub fn new(used_blocks: u64, syncs: Arc<AtomicU64, Global>) -> Tally {
         Tally {
             batches: AtomicU64::new(0),
-            used_blocks: AtomicU64::new(marks.all()),
+            used_blocks: AtomicU64::new(used_blocks),
             syncs,
         }
     }
@@ -56,10 +55,10 @@ impl Tally {
         }
     }
 
-    /// Counts one more batch that was committed, and notes the used blocks as of that batch, which are the sum of these
-    /// marks. `read` gives both from then on. No clause says so, since other threads may change an atomic at any time.
-    pub fn note_batch(&self, marks: BitmapMarks) {
-        self.used_blocks.store(marks.all(), Ordering::SeqCst);
+    /// Counts one more batch that was committed, and notes the used blocks as of that batch, this many. `read` gives both
+    /// from then on. No clause says so, since other threads may change an atomic at any time.
+    pub fn note_batch(&self, used_blocks: u64) {
+        self.used_blocks.store(used_blocks, Ordering::SeqCst);
         self.batches.fetch_add(1, Ordering::SeqCst);
     }
 }

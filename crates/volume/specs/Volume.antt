@@ -1,7 +1,8 @@
 -- Blocks in memory, with a stage over a cache.
-use Rattle.std.specs.Prelude.{◌≡◌, ◌≢◌, ◌<◌, ℕ, ◌*◌, ◌^◌, List, [], length, slice_index_or}
-use Rattle.std.specs.List.{Contains}
+use Rattle.std.specs.Prelude.{◌≡◌, ◌≢◌, ℕ, ◌*◌, List, [], length, slice_index_or}
+use Rattle.std.specs.List.{All, Contains}
 use Rattle.model.specs.Volume.{blocks_from, laid_over}
+use Rattle.volume.specs.Chunks.{ChunksView, HasOctets}
 use Rattle.volume.specs.Numbers.{Numbers, IsNumbers}
 
 -- the blocks without the stage, those that reads see, and the numbers of the dirty ones
@@ -26,13 +27,15 @@ pub record BatchView : Type 0 where
 
 -- ---- inside
 
--- the blocks in octets laid end to end, with the stage over them
-abbrev pub seen_over : ℕ → List ℕ → List ℕ → List ℕ → List (List ℕ)
-seen_over count cache staged images = laid_over (blocks_from 0 count cache) staged (blocks_from 0 (length staged) images)
+-- the blocks with the stage over them
+abbrev pub seen_over : List (List ℕ) → List ℕ → List ℕ → List (List ℕ)
+seen_over cache staged images = laid_over cache staged (blocks_from 0 (length staged) images)
 
-pub record IsVolume (cache images : List ℕ) (staged dirty : Numbers) : Type 0 where
-  pub few : staged.bound < 2 ^ 32
-  pub cache_size : length cache ≡ 4096 * staged.bound
+-- an `apply` takes no memory, since the chunk of each staged block has octets
+pub record IsVolume (cache : ChunksView) (images : List ℕ) (staged dirty : Numbers) : Type 0 where
+  pub count : length cache.blocks ≡ staged.bound
+  pub whole : All (λ octets. length octets ≡ 4096) cache.blocks
+  pub room : All (λ n. HasOctets cache.made n) staged.members
   pub images_size : length images ≡ 4096 * length staged.members
   pub same_bound : dirty.bound ≡ staged.bound
   pub staged_numbers : IsNumbers staged

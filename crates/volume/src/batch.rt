@@ -1,12 +1,12 @@
 //! The room for a batch.
 
-ghost use Rattle.std.specs.Prelude.{◌≡◌, ◌+◌, ◌*◌, ◌≤◌, [], length, take, IfOk};
+ghost use Rattle.std.specs.Prelude.{◌≡◌, ◌*◌, ◌<◌, ◌≤◌, [], length, slice_index_or, take, IfOk};
 ghost use Rattle.std.specs.List.{All, flat_map};
-ghost use Rattle.model.specs.Volume.{block};
 ghost use Rattle.volume.specs.Volume.{BatchView};
 
 use crate::BATCH_BLOCKS;
-use blocks::{BLOCK_SIZE, block_of, put_block};
+use crate::chunks::Chunks;
+use blocks::{BLOCK_SIZE, put_block};
 use std::alloc::{AllocError, Global};
 use std::marker::Model;
 
@@ -53,13 +53,16 @@ impl BatchBuf {
     }
 
     // Replaces its blocks with those that have these numbers.
-    pub(crate) fn fill(&mut self, numbers: &[u32], octets: &[u8])
+    pub(crate) fn fill(&mut self, numbers: &[u32], cache: &Chunks)
         requires few { length numbers.now ≤ 512 }
-        requires there { All (λ n. 4096 * n + 4096 ≤ length octets.now) numbers.now }
-        ensures { self.new ≡ record { numbers = numbers.now; images = flat_map (λ n. block n octets.now) numbers.now } }
+        requires there { All (λ n. n < length cache.now.blocks) numbers.now }
+        ensures { self.new ≡ record {
+          numbers = numbers.now;
+          images = flat_map (λ n. slice_index_or cache.now.blocks n []) numbers.now;
+        } }
     {
         copy_front(&mut self.numbers, numbers);
-        gather(&mut self.images, numbers, octets);
+        gather(&mut self.images, numbers, cache);
         self.count = numbers.len();
     }
 }
@@ -73,12 +76,12 @@ fn copy_front(into: &mut [u32], from: &[u32])
 }
 
 // Copies the blocks with these numbers to the start of `images`.
-fn gather(images: &mut [u8], numbers: &[u32], octets: &[u8])
+fn gather(images: &mut [u8], numbers: &[u32], cache: &Chunks)
     requires room { 4096 * length numbers.now ≤ length images.old }
-    requires there { All (λ n. 4096 * n + 4096 ≤ length octets.now) numbers.now }
-    ensures { take (4096 * length numbers.now) images.new ≡ flat_map (λ n. block n octets.now) numbers.now }
+    requires there { All (λ n. n < length cache.now.blocks) numbers.now }
+    ensures { take (4096 * length numbers.now) images.new ≡ flat_map (λ n. slice_index_or cache.now.blocks n []) numbers.now }
 {
     for (place, number) in numbers.iter().enumerate() {
-        put_block(images, place, block_of(octets, *number as usize));
+        put_block(images, place, cache.block(*number));
     }
 }

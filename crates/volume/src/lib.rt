@@ -2,10 +2,12 @@
 #![tactic(auto)]
 
 mod batch;
+mod chunks;
 mod numbers;
 mod volume;
 
 pub use batch::BatchBuf;
+pub use chunks::Chunks;
 pub use numbers::NumberSet;
 pub use volume::Volume;
 

@@ -1,16 +1,18 @@
 //! A stage over a cache.
 
-ghost use Rattle.std.specs.Prelude.{◌≡◌, ◌⊎◌, ◌↔◌, ℕ, ◌+◌, ◌*◌, ◌^◌, ◌<◌, ◌≤◌, List, [], length, slice_index_or, IfOk};
+ghost use Rattle.std.specs.Prelude.{◌≡◌, ◌⊎◌, ◌↔◌, ℕ, ◌*◌, ◌<◌, ◌≤◌, List, [], length, slice_index_or, IfOk};
 ghost use Rattle.std.specs.Prelude.{◌∷◌, ◌++◌, is_ok, if◌then◌else◌};
 ghost use Rattle.std.specs.List.{All, Contains, flat_map};
 ghost use Rattle.model.specs.Volume.{AreDistinct, blocks_from, laid_over};
 ghost use Rattle.disk.specs.Image.{overwritten};
+ghost use Rattle.volume.specs.Chunks.{HasOctets};
 ghost use Rattle.volume.specs.Numbers.{IsNumbers};
 ghost use Rattle.volume.specs.Volume.{VolumeView, Differs, AgreeOutside, IsVolume, seen_over};
 
 use crate::batch::BatchBuf;
+use crate::chunks::Chunks;
 use crate::numbers::NumberSet;
-use blocks::{BLOCK_SIZE, Blocks, block_of, put_block, put_in_block, put_part};
+use blocks::{Blocks, block_of, put_block, put_in_block, put_part};
 use std::alloc::{AllocError, Global};
 use std::marker::Model;
 
@@ -18,7 +20,7 @@ use std::marker::Model;
 /// its octets since the last `copy_dirty`.
 #[derive(Drop)]
 pub struct Volume {
-    cache: Vec<u8>,
+    cache: Chunks,
     staged: NumberSet,
     images: Vec<u8>,
     dirty: NumberSet,
@@ -28,12 +30,12 @@ impl Model for Volume {
     ghost Value = { VolumeView };
 
     ghost view = { λ v. record {
-      cache = blocks_from 0 v.staged.bound v.cache.items;
-      seen = seen_over v.staged.bound v.cache.items v.staged.members v.images.items;
+      cache = v.cache.blocks;
+      seen = seen_over v.cache.blocks v.staged.members v.images.items;
       dirty = v.dirty.members;
     } };
 
-    ghost invariant = { λ v. IsVolume v.cache.items v.images.items v.staged v.dirty };
+    ghost invariant = { λ v. IsVolume v.cache v.images.items v.staged v.dirty };
 }
 
 impl Volume {
@@ -44,26 +46,24 @@ impl Volume {
         ensures seen { IfOk result (λ v. v.seen ≡ v.cache) }
         ensures dirty { IfOk result (λ v. v.dirty ≡ []) }
     {
+        let cache = Chunks::of(alloc, &octets, count)?;
         let staged = NumberSet::new(alloc, count)?;
         let dirty = NumberSet::new(alloc, count)?;
-        Ok(Volume::with_sets(alloc, octets, staged, dirty))
+        Ok(Volume::with_sets(alloc, cache, staged, dirty))
     }
 
-    /// The same with sets that were made before: it allocates nothing.
-    pub fn with_sets(alloc: Global, octets: Vec<u8>, staged: NumberSet, dirty: NumberSet) -> Volume
-        requires few { staged.bound < 2 ^ 32 }
-        requires octets { length octets.items ≡ 4096 * staged.bound }
+    /// The same with blocks and sets that were made before: it allocates nothing.
+    pub fn with_sets(alloc: Global, cache: Chunks, staged: NumberSet, dirty: NumberSet) -> Volume
+        requires count { length cache.blocks ≡ staged.bound }
         requires none { staged.members ≡ [] }
         requires valid { IsNumbers staged }
         requires same { dirty ≡ staged }
-        ensures { result ≡ record {
-          cache = blocks_from 0 staged.bound octets.items;
-          seen = blocks_from 0 staged.bound octets.items;
-          dirty = [];
-        } }
+        ensures { result ≡ record { cache = cache.blocks; seen = cache.blocks; dirty = [] } }
     {
+        // its clauses state that each block is whole
+        let _count = cache.len();
         Volume {
-            cache: octets,
+            cache,
             staged,
             images: Vec::new(alloc),
             dirty,
@@ -125,23 +125,23 @@ impl Volume {
 }
 
 // Moves the staged blocks into the cache, and marks those whose octets change.
-fn lay_over(cache: &mut [u8], staged: &[u32], images: &[u8], dirty: &mut NumberSet)
-    requires whole { length cache.old ≡ 4096 * dirty.old.bound }
+fn lay_over(cache: &mut Chunks, staged: &[u32], images: &[u8], dirty: &mut NumberSet)
+    requires count { length cache.old.blocks ≡ dirty.old.bound }
+    requires room { All (λ n. HasOctets cache.old.made n) staged.now }
     requires images { length images.now ≡ 4096 * length staged.now }
     requires staged { IsNumbers (record { bound = dirty.old.bound; members = staged.now }) }
     requires dirty { IsNumbers dirty.old }
-    ensures cache { blocks_from 0 dirty.old.bound cache.new ≡ seen_over dirty.old.bound cache.old staged.now images.now }
-    ensures size { length cache.new ≡ length cache.old }
+    ensures cache { cache.new.blocks ≡ seen_over cache.old.blocks staged.now images.now }
+    ensures made { cache.new.made ≡ cache.old.made }
     ensures bound { dirty.new.bound ≡ dirty.old.bound }
     ensures valid { IsNumbers dirty.new }
     ensures dirty { (k : ℕ) → Contains dirty.new.members k
-        ↔ (Contains dirty.old.members k ⊎ Differs (blocks_from 0 dirty.old.bound cache.old) (blocks_from 0 dirty.old.bound cache.new) k) }
+        ↔ (Contains dirty.old.members k ⊎ Differs cache.old.blocks cache.new.blocks k) }
 {
     for (place, number) in staged.iter().enumerate() {
         let image = block_of(images, place);
-        let at = *number as usize;
-        if block_of(cache, at) != image {
-            put_block(cache, at, image);
+        if cache.block(*number) != image {
+            cache.put(*number, image);
             mark(dirty, *number);
         }
     }
@@ -186,20 +186,23 @@ impl Blocks for Volume {
     ghost applied = { λ v. (v.cache, v.dirty) };
 
     fn len(&self) -> u32 {
-        (self.cache.len() / BLOCK_SIZE) as u32
+        self.cache.len()
     }
 
     fn block(&self, number: u32) -> &[u8] {
         match self.staged.place(number) {
             Some(place) => block_of(&self.images, place),
-            None => block_of(&self.cache, number as usize),
+            None => self.cache.block(number),
         }
     }
 
     fn put(&mut self, number: u32, from: &[u8]) -> Result<(), AllocError> {
         match self.staged.place(number) {
             Some(place) => put_block(&mut self.images, place, from),
-            None => stage_block(&mut self.staged, &mut self.images, number, from)?,
+            None => {
+                self.cache.make_room(number)?;
+                stage_block(&mut self.staged, &mut self.images, number, from)?;
+            }
         }
         Ok(())
     }
@@ -208,8 +211,9 @@ impl Blocks for Volume {
         match self.staged.place(number) {
             Some(place) => put_in_block(&mut self.images, place, at, part),
             None => {
+                self.cache.make_room(number)?;
                 let end = self.images.len();
-                let cached = block_of(&self.cache, number as usize);
+                let cached = self.cache.block(number);
                 stage_block(&mut self.staged, &mut self.images, number, cached)?;
                 put_part(&mut self.images, end + at, part);
             }

@@ -28,7 +28,7 @@ is_zero_block xs size zero =
 
 -- the superblock, written part by part
 module _ (old label : List ℕ) (segments blocks gate : ℕ) (counts : (segments ≡ 1) ⊎ (segments ≡ 8)) (whole : length old ≡ 4096)
-    (zero : All IsZero old) (label_size : length label ≡ 128) (low : 1024 ≤ blocks) (high : blocks ≤ 65536) where
+    (zero : All IsZero old) (label_size : length label ≡ 128) (low : 1024 ≤ blocks) (high : blocks ≤ 4194304) where
   abbrev first : List ℕ
   first = overwritten 0 magic old
 

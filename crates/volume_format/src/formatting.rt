@@ -1,6 +1,6 @@
 //! Writes a new volume.
 
-ghost use Rattle.std.specs.Prelude.{◌≡◌, ◌^◌, ◌⊎◌, ◌+◌, ◌*◌, ◌<◌, ◌≤◌, ℕ, [], length, OnOk, IfOk, IsTrue};
+ghost use Rattle.std.specs.Prelude.{◌≡◌, ◌^◌, ◌⊎◌, ◌+◌, ◌*◌, ◌<◌, ◌≤◌, ℕ, [], length, OnOk, IsTrue};
 ghost use Rattle.std.specs.List.{All};
 ghost use Rattle.disk.specs.Device.{Elapses, LeavesOnly};
 ghost use Rattle.disk.specs.Image.{overwritten};
@@ -11,10 +11,11 @@ use crate::FormatError;
 use crate::layout::{BLOCK, SEGMENTS, home_block, start_of};
 use crate::superblock::describe_in;
 use disk::{Disk, DiskError};
-use std::alloc::{AllocError, Global};
+use octet_numbers::zeros;
+use std::alloc::Global;
 
 /// Writes a volume of zeroed logical blocks with this label, eight closed segments and this format, and syncs. `label`
-/// has 128 octets, which the journal does not read. The volume has 1,024 to 65,536 blocks. `format` is 1 or 2.
+/// has 128 octets, which the journal does not read. The volume has 1,024 to 4,194,304 blocks. `format` is 1 or 2.
 ///
 /// `Fault` or `Memory` may leave anything on the device.
 pub fn format<D: Disk>(
@@ -25,7 +26,7 @@ pub fn format<D: Disk>(
     format: u32,
 ) -> Result<(), FormatError>
     requires low { 1024 ≤ blocks }
-    requires high { blocks ≤ 65536 }
+    requires high { blocks ≤ 4194304 }
     requires label { length label.now ≡ 128 }
     requires format { (format ≡ 1) ⊎ (format ≡ 2) }
     requires size { (D.device disk.old).size ≡ 4096 * home_place 8 blocks }
@@ -51,7 +52,7 @@ pub fn format_with<D: Disk>(
 ) -> Result<(), FormatError>
     requires segments { (segments ≡ 1) ⊎ (segments ≡ 8) }
     requires low { 1024 ≤ blocks }
-    requires high { blocks ≤ 65536 }
+    requires high { blocks ≤ 4194304 }
     requires label { length label.now ≡ 128 }
     requires format { (format ≡ 1) ⊎ (format ≡ 2) }
     requires size { (D.device disk.old).size ≡ 4096 * home_place segments blocks }
@@ -80,7 +81,7 @@ fn write_volume<D: Disk>(
 ) -> Result<(), FormatError>
     requires segments { (segments ≡ 1) ⊎ (segments ≡ 8) }
     requires low { 1024 ≤ blocks }
-    requires high { blocks ≤ 65536 }
+    requires high { blocks ≤ 4194304 }
     requires label { length label.now ≡ 128 }
     requires format { (format ≡ 1) ⊎ (format ≡ 2) }
     requires size { (D.device disk.old).size ≡ 4096 * home_place segments blocks }
@@ -141,12 +142,4 @@ fn sync_last<D: Disk>(disk: &mut D) -> Result<(), FormatError>
         Err(DiskError::Fault) => Err(FormatError::Fault),
         Err(DiskError::Memory) => Err(FormatError::Memory),
     }
-}
-
-/// This many zeros. Refused only for want of memory.
-pub fn zeros(alloc: Global, size: usize) -> Result<Vec<u8>, AllocError>
-    ensures size { IfOk result (λ octets. length octets.items ≡ size) }
-    ensures zero { IfOk result (λ octets. All (λ octet. octet ≡ 0) octets.items) }
-{
-    vec![in alloc; 0; size]
 }

@@ -21,7 +21,7 @@ pub const SEGMENT_BLOCKS: u64 = 514;
 /// The fewest logical blocks that a volume may have.
 pub const FEWEST_BLOCKS: u64 = 1024;
 /// The most logical blocks that a volume may have.
-pub const MOST_BLOCKS: u64 = 65536;
+pub const MOST_BLOCKS: u64 = 4_194_304;
 /// The octets that a superblock begins with: `XNNTPFS1`.
 pub const MAGIC: [u8; 8] = [0x58, 0x4e, 0x4e, 0x54, 0x50, 0x46, 0x53, 0x31];
 /// The version of the layout, as the superblock states it.

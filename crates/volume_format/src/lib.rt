@@ -8,7 +8,7 @@ pub mod layout;
 mod superblock;
 
 pub use descriptor::{are_below, are_distinct, describe_batch, read_descriptor};
-pub use formatting::{format, format_with, zeros};
+pub use formatting::{format, format_with};
 pub use superblock::{Sizes, read_format, read_superblock};
 use thiserror::Error;
 

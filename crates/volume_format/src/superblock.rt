@@ -22,7 +22,7 @@ pub(crate) fn describe_in(
     requires format { (format ≡ 1) ⊎ (format ≡ 2) }
     requires segments { (segments ≡ 1) ⊎ (segments ≡ 8) }
     requires low { 1024 ≤ blocks }
-    requires high { blocks ≤ 65536 }
+    requires high { blocks ≤ 4194304 }
     requires whole { length octets.old.items ≡ 4096 }
     requires zero { All (λ octet. octet ≡ 0) octets.old.items }
     requires label { length label.now ≡ 128 }
@@ -40,7 +40,7 @@ fn describe_volume(octets: &mut [u8], segments: u32, blocks: u32, label: &[u8], 
     requires format { (format ≡ 1) ⊎ (format ≡ 2) }
     requires segments { (segments ≡ 1) ⊎ (segments ≡ 8) }
     requires low { 1024 ≤ blocks }
-    requires high { blocks ≤ 65536 }
+    requires high { blocks ≤ 4194304 }
     requires whole { length octets.old ≡ 4096 }
     requires zero { All (λ octet. octet ≡ 0) octets.old }
     requires label { length label.now ≡ 128 }
@@ -86,7 +86,7 @@ pub fn read_format(octets: &[u8]) -> u32
 /// The numbers of logical blocks and segments of a volume.
 #[derive(Clone, Copy, Debug, PartialEq, Eq)]
 pub struct Sizes {
-    /// 1,024 to 65,536.
+    /// 1,024 to 4,194,304.
     pub blocks: u64,
     /// 1 or 8.
     pub segments: u32,

@@ -4,6 +4,7 @@
 ghost use Rattle.std.specs.Prelude.{◌≡◌, ◌==◌, ◌↔◌, IsTrue, IsNone, IfSome};
 ghost use Rattle.std.specs.List.{list_all};
 ghost use Rattle.volume_label.specs.Label.{HasRoom, IsNoLabel};
+ghost use Rattle.model.specs.Files.{bitmap_blocks};
 ghost use Rattle.model.specs.Layout.{IsLabel};
 
 use byteorder::{ByteOrder, LittleEndian};
@@ -46,7 +47,17 @@ pub fn read_label(octets: &[u8], blocks: u64) -> Option<Label<'_>>
 fn has_room(inodes: u64, blocks: u64) -> bool
     ensures { IsTrue result ↔ HasRoom inodes blocks }
 {
-    64 <= inodes && inodes <= 32768 && inodes % 64 == 0 && 2 + 2 * (inodes / 64) + 256 <= blocks
+    64 <= inodes
+        && inodes <= 4_194_304
+        && inodes % 64 == 0
+        && bitmap_of(blocks) + 2 * (inodes / 64) + 256 <= blocks
+}
+
+// The blocks of the bitmap of a volume with this many blocks.
+fn bitmap_of(blocks: u64) -> u64
+    ensures { result ≡ bitmap_blocks blocks }
+{
+    2 + (blocks.saturating_sub(65_536) + 32_767) / 32_768
 }
 
 fn are_zeros(octets: &[u8]) -> bool

@@ -1,15 +1,12 @@
 -- Loads one after the other.
-use Rattle.std.proofs.Common.{◌≡◌, inl, inr, ◌<◌, ◌≤◌, ℕ, ◌+◌, ◌*◌, [], get_or, false, IsTrue, List, length, refl, sym, ◌∙◌, ap, subst}
+use Rattle.std.proofs.Common.{◌≡◌, inl, inr, ◌<◌, ◌≤◌, ℕ, ◌+◌, [], get_or, set, false, IsTrue, List, length, refl, sym, ◌∙◌, ap, subst}
 use Rattle.std.proofs.Common.{arith}
 use Rattle.disk.specs.Device.{Device}
 use Rattle.journal.specs.Inside.{IsAdmitted}
 use Rattle.journal.specs.declared.Next.{Next}
-use Rattle.std.proofs.lemmas.List.{ext_get_or}
+use Rattle.std.proofs.lemmas.List.{ext_get_or, get_or-set_same, get_or-set_other}
 use Rattle.std.proofs.lemmas.Bool.{cases_eq}
-use Rattle.disk.specs.Image.{overwritten}
-use Rattle.model.specs.Volume.{laid_over, block, blocks_from}
-use Rattle.model.proofs.Blocks.{get_or-blocks_from}
-use Rattle.blocks.proofs.Octets.{block-put, block-put_other, length-blocks_from}
+use Rattle.model.specs.Volume.{laid_over}
 use Rattle.journal.specs.Journal.{JournalView, IsIdle, LeavesAdmitted, Admits, HasWholeBlocks, with_batch}
 use Rattle.journal.proofs.During.{same_itself, same_then}
 use Rattle.volume_loading.specs.Opening.{Loads}
@@ -72,41 +69,37 @@ module _ {D : Type 0} (device : D → Device) where
       told tells = first.time.tells ∙ tells
 
   -- as far as the first blocks
-  pub record AreLoaded (number : ℕ) (octets start : List ℕ) (old now : JournalView D) : Type 0 where
+  pub record AreLoaded (number : ℕ) (start cache : List (List ℕ)) (old now : JournalView D) : Type 0 where
     pub loads : Loads device old now
     pub running : now.halted ≡ false
     pub failures : (device now.disk).failures ≡ (device old.disk).failures
-    pub room : length octets ≡ length start
-    pub blocks : IsTrue (device old.disk).tells → (k : ℕ) → k < number → block k octets ≡ get_or old.blocks k []
+    pub room : length cache ≡ length start
+    pub blocks : IsTrue (device old.disk).tells → (k : ℕ) → k < number → get_or cache k [] ≡ get_or old.blocks k []
 
-  pub loaded_more : (number count : ℕ) (octets start octets' : List ℕ) (old now new : JournalView D) → AreLoaded number octets start old now
-      → HasWholeBlocks device old → old.size ≡ count → length start ≡ 4096 * count → number < count → length octets' ≡ length octets
-      → (IsTrue (device now.disk).tells → octets' ≡ overwritten (4096 * number) (get_or now.blocks number []) octets) → Loads device now new
-      → new.halted ≡ false → (device new.disk).failures ≡ (device now.disk).failures → AreLoaded (number + 1) octets' start old new
-  loaded_more number count octets start octets' old now new so_far whole counted room low size put loads running failures = record {
+  pub loaded_more : (number : ℕ) (start cache cache' : List (List ℕ)) (old now new : JournalView D) → AreLoaded number start cache old now
+      → number < length start → length cache' ≡ length cache
+      → (IsTrue (device now.disk).tells → cache' ≡ set cache number (get_or now.blocks number [])) → Loads device now new
+      → new.halted ≡ false → (device new.disk).failures ≡ (device now.disk).failures → AreLoaded (number + 1) start cache' old new
+  loaded_more number start cache cache' old now new so_far low size put loads running failures = record {
     loads = loads_then old now new so_far.loads loads;
     running = running;
     failures = failures ∙ so_far.failures;
     room = size ∙ so_far.room;
     blocks = λ tells k below.
-        let was = so_far.loads.blocks tells in
-        let octets_is : octets' ≡ overwritten (4096 * number) (get_or old.blocks number []) octets = put (so_far.loads.time.tells ∙ tells)
-        ∙ ap (λ (b : List (List ℕ)). overwritten (4096 * number) (get_or b number []) octets) was in
-        let sizes = whole tells in
-        let long : length (get_or old.blocks number []) ≡ 4096 = sizes.whole number [] (omega (arith, sizes.count)) in
-        let fits : 4096 * number + 4096 ≤ length octets = omega (arith, so_far.room) in
-        ap (λ (o : List ℕ). block k o) octets_is ∙ elim (cases_eq k number) [
-          | inl same ↦ ap (λ (j : ℕ). block j (overwritten (4096 * number) (get_or old.blocks number []) octets)) same
-              ∙ block-put number (get_or old.blocks number []) octets long fits ∙ ap (λ (j : ℕ). get_or old.blocks j []) (sym same)
-          | inr other ↦ block-put_other number (get_or old.blocks number []) octets long fits k other ∙ so_far.blocks tells k (omega arith)
+        let put_is : cache' ≡ set cache number (get_or old.blocks number []) = put (so_far.loads.time.tells ∙ tells)
+        ∙ ap (λ (b : List (List ℕ)). set cache number (get_or b number [])) (so_far.loads.blocks tells) in
+        ap (λ (b : List (List ℕ)). get_or b k []) put_is ∙ elim (cases_eq k number) [
+          | inl same ↦ ap (λ (j : ℕ). get_or (set cache number (get_or old.blocks number [])) j []) same
+              ∙ get_or-set_same cache number (get_or old.blocks number []) [] (omega (arith, so_far.room))
+              ∙ ap (λ (j : ℕ). get_or old.blocks j []) (sym same)
+          | inr other ↦ get_or-set_other cache number k (get_or old.blocks number []) [] other ∙ so_far.blocks tells k (omega arith)
         ];
   }
 
-  pub loaded_all : (number count : ℕ) (octets start : List ℕ) (old now : JournalView D) → AreLoaded number octets start old now
-      → HasWholeBlocks device old → old.size ≡ count → count ≤ number → IsTrue (device old.disk).tells
-      → blocks_from 0 count octets ≡ old.blocks
-  loaded_all number count octets start old now so_far whole counted ends tells =
+  pub loaded_all : (number count : ℕ) (start cache : List (List ℕ)) (old now : JournalView D) → AreLoaded number start cache old now
+      → HasWholeBlocks device old → old.size ≡ count → length start ≡ count → count ≤ number → IsTrue (device old.disk).tells
+      → cache ≡ old.blocks
+  loaded_all number count start cache old now so_far whole counted room ends tells =
       let sizes = whole tells in
-      ext_get_or [] (blocks_from 0 count octets) old.blocks (length-blocks_from count octets ∙ sym (sizes.count ∙ counted)) (λ k low.
-      let inside : k < count = omega (arith, length-blocks_from count octets) in
-      get_or-blocks_from count k octets inside ∙ so_far.blocks tells k (omega arith))
+      let size : length cache ≡ count = so_far.room ∙ room in
+      ext_get_or [] cache old.blocks (size ∙ sym (sizes.count ∙ counted)) (λ k low. so_far.blocks tells k (omega arith))

@@ -12,7 +12,7 @@ pub enum LoadError {
     /// The device failed in this call. This halts the journal for good.
     #[error("E1 Fault")]
     Fault,
-    /// An allocation was refused in this call, and nothing changed.
+    /// An allocation was refused in this call. The journal was at most read, and stays ready.
     #[error("E2 Memory")]
     Memory,
 }

@@ -16,6 +16,16 @@ pub enum ReadStop {
     Unseen,
 }
 
+impl ReadStop {
+    /// The end of a look that found what this text says. `Unseen` if memory for the text was refused.
+    pub fn of(text: Result<String, AllocError>) -> ReadStop {
+        match text {
+            Ok(text) => ReadStop::Wrong(text),
+            Err(_) => ReadStop::Unseen,
+        }
+    }
+}
+
 impl From<AllocError> for ReadStop {
     fn from(_error: AllocError) -> ReadStop {
         ReadStop::Unseen

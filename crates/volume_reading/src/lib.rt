@@ -8,7 +8,7 @@
 #[macro_export]
 macro_rules! wrong {
     ($alloc:expr; $($text:tt)+) => {
-        return Err($crate::ReadStop::Wrong(format!(in $alloc; $($text)+)?))
+        return Err($crate::ReadStop::of(format!(in $alloc; $($text)+)))
     };
 }
 

@@ -5,8 +5,8 @@ use crate::device::{Block, ReadStop, read};
 use crate::superblock::{self, ReadSizes};
 use disk::Disk;
 use fs_layout::inodes::{
-    BLOCK_POINTERS, DIRECT_POINTERS, DOUBLE_AT, FILE_KIND, INDIRECT_AT, INODES_AT, MOST_OCTETS,
-    POINTERS_AT, SIZE_AT, content_blocks,
+    BLOCK_POINTERS, DIRECT_POINTERS, DOUBLE_AT, FILE_KIND, INDIRECT_AT, MOST_OCTETS, POINTERS_AT,
+    SIZE_AT, bitmap_blocks, content_blocks, first_data,
 };
 use fs_layout::records::RECORD_SIZE;
 use fs_layout::slots::NAME_MAX;
@@ -182,9 +182,14 @@ impl<D: Disk + Drop> ReadVolume<D> {
 }
 
 impl<D: Disk> ReadVolume<D> {
+    /// The first block of the inodes, which is the number of blocks of the bitmap.
+    pub fn inodes_at(&self) -> u32 {
+        bitmap_blocks(self.sizes.blocks)
+    }
+
     /// The first block of the data.
     pub fn data_start(&self) -> u32 {
-        INODES_AT + 2 * (self.sizes.inodes / IN_A_BLOCK)
+        first_data(self.sizes.blocks, self.sizes.inodes)
     }
 
     /// Fills `into` with the octets of a logical block from a place in it on.
@@ -204,12 +209,13 @@ impl<D: Disk> ReadVolume<D> {
 
     /// The inode of this number, and its slot.
     pub fn entry(&mut self, number: u32) -> Result<DirectoryEntry, ReadStop> {
-        let table = INODES_AT + number / IN_A_BLOCK;
+        let table = self.inodes_at().saturating_add(number / IN_A_BLOCK);
         let at = RECORD_SIZE * (number % IN_A_BLOCK) as usize;
         let mut inode = [0; RECORD_SIZE];
         self.read(table, at, &mut inode)?;
         let mut slot = [0; RECORD_SIZE];
-        self.read(table + self.sizes.inodes / IN_A_BLOCK, at, &mut slot)?;
+        let directory = table.saturating_add(self.sizes.inodes / IN_A_BLOCK);
+        self.read(directory, at, &mut slot)?;
         Ok(DirectoryEntry {
             number,
             inode,

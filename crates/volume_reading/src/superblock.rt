@@ -4,6 +4,7 @@ use crate::device::{Block, ReadStop, read_block};
 use crate::grouped::Grouped;
 use crate::wrong_unless;
 use disk::Disk;
+use fs_layout::inodes::{FEWEST_DATA, FEWEST_INODES, MOST_INODES, first_data};
 use names::{HOST_LIMIT, is_host};
 use octet_numbers::number32;
 use std::alloc::Global;
@@ -18,14 +19,7 @@ const HOST_SIZE_AT: usize = LABEL_AT + 4;
 
 const HOST_AT: usize = LABEL_AT + 5;
 
-const FEWEST_INODES: u32 = 64;
-
-const MOST_INODES: u32 = 32_768;
-
-const INODES_IN_A_BLOCK: u32 = 64;
-
-/// The blocks of a bitmap, and the least number of blocks of data in a volume.
-const FEWEST_OTHERS: u32 = 2 + 256;
+const INODES_IN_A_BLOCK: u64 = 64;
 
 /// What a superblock says: the numbers of logical blocks, segments and inodes, and the format, which is 1 or 2.
 #[derive(Clone, Copy)]
@@ -57,7 +51,7 @@ fn look_at_front(alloc: Global, superblock: &Block) -> Result<ReadSizes, ReadSto
     let blocks = number32(superblock, 12);
     let count = u64::from(blocks);
     wrong_unless!(alloc; FEWEST_BLOCKS <= count && count <= MOST_BLOCKS,
-        "the superblock says {} blocks, where a volume has 1,024 to 65,536", Grouped(count));
+        "the superblock says {} blocks, where a volume has {} to {}", Grouped(count), Grouped(FEWEST_BLOCKS), Grouped(MOST_BLOCKS));
     let segments = number32(superblock, 16);
     wrong_unless!(alloc; segments == ONE_SEGMENT || segments == SEGMENTS,
         "the superblock says {segments} segments, where a volume has {ONE_SEGMENT} or {SEGMENTS}");
@@ -71,11 +65,15 @@ fn look_at_front(alloc: Global, superblock: &Block) -> Result<ReadSizes, ReadSto
 
 /// Checks the label, and the octets after its host.
 fn look_at_label(alloc: Global, superblock: &Block, sizes: ReadSizes) -> Result<(), ReadStop> {
-    let inodes = sizes.inodes;
+    let inodes = u64::from(sizes.inodes);
     wrong_unless!(alloc; FEWEST_INODES <= inodes && inodes <= MOST_INODES && inodes % INODES_IN_A_BLOCK == 0,
-        "the label says {} inodes, where a volume has a multiple of 64 from 64 to 32,768", Grouped(u64::from(inodes)));
-    wrong_unless!(alloc; 2 * (inodes / INODES_IN_A_BLOCK) + FEWEST_OTHERS <= sizes.blocks,
-        "the label says {} inodes, for which {} blocks are too few", Grouped(u64::from(inodes)), Grouped(u64::from(sizes.blocks)));
+        "the label says {} inodes, where a volume has a multiple of {INODES_IN_A_BLOCK} from {FEWEST_INODES} to {}", Grouped(inodes), Grouped(MOST_INODES));
+    let (first, blocks) = (
+        u64::from(first_data(sizes.blocks, sizes.inodes)),
+        u64::from(sizes.blocks),
+    );
+    wrong_unless!(alloc; first + FEWEST_DATA <= blocks,
+        "the label says {} inodes, for which {} blocks are too few", Grouped(inodes), Grouped(blocks));
     let size = superblock[HOST_SIZE_AT] as usize;
     wrong_unless!(alloc; 1 <= size && size <= HOST_LIMIT,
         "the label's host has {size} octets, where a host has 1 to {HOST_LIMIT}");

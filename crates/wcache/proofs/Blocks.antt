@@ -14,7 +14,7 @@ use Rattle.disk.proofs.Images.{length-part, get_or-part}
 use Rattle.wcache.specs.Runs.{Run, runs_from, writes_of}
 use Rattle.wcache.specs.Slots.{IsNextRun, cell, places}
 use Rattle.wcache.proofs.RunLaws.{runs_front, runs_same, runs_skip, runs_split}
-use Rattle.wcache.proofs.Putting.{cell_collected}
+use Rattle.wcache.proofs.Slots.{cell_collected}
 
 pub length-places : (taken : ℕ → Option ℕ) (n : ℕ) → length (places taken n) ≡ n
 length-places taken n = length-map-range_with_len taken 0 n
@@ -164,40 +164,6 @@ module _ (flags octets : List ℕ) (start from : ℕ) (whole : length flags ≡ 
               ∙ cell_none flags octets past (λ is. omega (arith, is, zero_flag))
           behind (inr above) = get_or_past (drop past cs) 0 None (omega (arith, length-drop past cs, size, above))
 
--- the runs of a block and those behind it
-pub block_split : (taken : ℕ → Option ℕ) (n block : ℕ) (xs : List (Option ℕ)) → length xs ≡ 4096 → 4096 * block + 4096 ≤ n
-    → ((i : ℕ) → i < 4096 → taken (4096 * block + i) ≡ get_or xs i None)
-    → runs_from (4096 * block) (drop (4096 * block) (places taken n)) ≡ runs_from (4096 * block) xs ++ runs_from (4096 * (block + 1))
-    (drop (4096 * (block + 1)) (places taken n))
-block_split taken n block xs whole fits each =
-    let behind : 4096 * block + length xs ≡ 4096 * (block + 1) = omega (arith, whole) in
-    runs_same (drop (4096 * block) (places taken n)) (xs ++ drop (4096 * (block + 1)) (places taken n)) (4096 * block)
-    (λ k. same k (cases_lt k 4096))
-    ∙ runs_split xs (drop (4096 * (block + 1)) (places taken n)) (4096 * block) (omega (arith, whole))
-    ∙ ap (λ (m : ℕ). runs_from (4096 * block) xs ++ runs_from m (drop (4096 * (block + 1)) (places taken n))) behind
-  where
-    same : (k : ℕ) → (k < 4096) ⊎ (4096 ≤ k)
-        → get_or (drop (4096 * block) (places taken n)) k None ≡ get_or (xs ++ drop (4096 * (block + 1)) (places taken n)) k None
-    same k (inl low) =
-        get_or-drop (4096 * block) (places taken n) k None ∙ places_at taken n (4096 * block + k) (omega (arith, low, fits)) ∙ each k low
-        ∙ sym (get_or_append_left xs (drop (4096 * (block + 1)) (places taken n)) None k (omega (arith, low, whole)))
-    same k (inr high) =
-        let place : 4096 * block + k ≡ 4096 * (block + 1) + (k - 4096) = omega (arith, high) in
-        get_or-drop (4096 * block) (places taken n) k None
-        ∙ ap (λ (m : ℕ). get_or (places taken n) m None) place
-        ∙ sym (get_or-drop (4096 * (block + 1)) (places taken n) (k - 4096) None)
-        ∙ sym (get_or-append_right xs (drop (4096 * (block + 1)) (places taken n)) 4096 k None whole high)
-
-pub block_skipped : (taken : ℕ → Option ℕ) (n block : ℕ) → 4096 * block + 4096 ≤ n → ((i : ℕ) → i < 4096 → taken (4096 * block + i) ≡ None)
-    → runs_from (4096 * block) (drop (4096 * block) (places taken n)) ≡ runs_from (4096 * (block + 1))
-    (drop (4096 * (block + 1)) (places taken n))
-block_skipped taken n block fits none =
-    let place : 4096 * block + 4096 ≡ 4096 * (block + 1) = omega arith in
-    runs_skip 4096 (4096 * block) (drop (4096 * block) (places taken n)) (λ k low. get_or-drop (4096 * block) (places taken n) k None
-    ∙ places_at taken n (4096 * block + k) (omega (arith, low, fits)) ∙ none k low)
-    ∙ ap (λ (l : List (Option ℕ)). runs_from (4096 * block + 4096) l) (drop-drop 4096 (4096 * block) (places taken n))
-    ∙ ap (λ (m : ℕ). runs_from m (drop m (places taken n))) place
-
 -- ---- calls one after the other
 
 module _ {D : Type 0} (device : D → Device) where
@@ -278,24 +244,71 @@ module _ {D : Type 0} (device : D → Device) where
       so_far.continues (Err e) next (subst (λ (calls : List Call). Makes device calls (Err e) now next) (sym (writes_append xs ys))
       (makes_cut (writes_of xs) (writes_of ys) e now next did))
 
--- ---- a block of a table
+-- ---- blocks of a table
 
-module _ (taken : ℕ → Option ℕ) (n block : ℕ) (fits : 4096 * block + 4096 ≤ n) where
+module _ (taken : ℕ → Option ℕ) (block : ℕ) where
+  -- the octets of a block
   abbrev pub cells_of : List (Option ℕ)
-  cells_of = take 4096 (drop (4096 * block) (places taken n))
+  cells_of = drop (4096 * block) (places taken (4096 * block + 4096))
 
   pub cells_size : length cells_of ≡ 4096
-  cells_size = let size = length-places taken n in
-      omega (arith, length-take 4096 (drop (4096 * block) (places taken n)), length-drop (4096 * block) (places taken n), size, fits)
+  cells_size = let size = length-places taken (4096 * block + 4096) in
+      omega (arith, length-drop (4096 * block) (places taken (4096 * block + 4096)), size)
 
   pub cells_at : (i : ℕ) → i < 4096 → taken (4096 * block + i) ≡ get_or cells_of i None
   cells_at i low =
-      sym (get_or-take 4096 (drop (4096 * block) (places taken n)) i None low ∙ get_or-drop (4096 * block) (places taken n) i None
-      ∙ places_at taken n (4096 * block + i) (omega (arith, low, fits)))
+      sym (get_or-drop (4096 * block) (places taken (4096 * block + 4096)) i None
+      ∙ places_at taken (4096 * block + 4096) (4096 * block + i) (omega (arith, low)))
 
-  pub cells_split : runs_from (4096 * block) (drop (4096 * block) (places taken n)) ≡ runs_from (4096 * block) cells_of ++ runs_from
-      (4096 * (block + 1)) (drop (4096 * (block + 1)) (places taken n))
-  cells_split = block_split taken n block cells_of cells_size fits cells_at
+module _ (taken : ℕ → Option ℕ) (n : ℕ) (past : (k : ℕ) → n ≤ k → taken k ≡ None) where
+  -- the octets from a block on
+  abbrev pub cells_from : ℕ → List (Option ℕ)
+  cells_from block = drop (4096 * block) (places taken n)
+
+  from_at : (block k : ℕ) → get_or (cells_from block) k None ≡ taken (4096 * block + k)
+  from_at block k = get_or-drop (4096 * block) (places taken n) k None ∙ places_all taken n past (4096 * block + k)
+
+  -- the runs of a block, and those behind it
+  pub block_split : (block : ℕ)
+      → runs_from (4096 * block) (cells_from block) ≡ runs_from (4096 * block) (cells_of taken block) ++ runs_from (4096 * (block + 1))
+      (cells_from (block + 1))
+  block_split block =
+      let size = cells_size taken block in
+      let behind : 4096 * block + length (cells_of taken block) ≡ 4096 * (block + 1) = omega (arith, size) in
+      runs_same (cells_from block) (cells_of taken block ++ cells_from (block + 1)) (4096 * block) (λ k. same k (cases_lt k 4096))
+      ∙ runs_split (cells_of taken block) (cells_from (block + 1)) (4096 * block) (omega (arith, size))
+      ∙ ap (λ (m : ℕ). runs_from (4096 * block) (cells_of taken block) ++ runs_from m (cells_from (block + 1))) behind
+    where
+      same : (k : ℕ) → (k < 4096) ⊎ (4096 ≤ k)
+          → get_or (cells_from block) k None ≡ get_or (cells_of taken block ++ cells_from (block + 1)) k None
+      same k (inl low) =
+          let size = cells_size taken block in
+          from_at block k ∙ cells_at taken block k low
+          ∙ sym (get_or_append_left (cells_of taken block) (cells_from (block + 1)) None k (omega (arith, low, size)))
+      same k (inr high) =
+          let place : 4096 * block + k ≡ 4096 * (block + 1) + (k - 4096) = omega (arith, high) in
+          from_at block k
+          ∙ ap (λ (m : ℕ). taken m) place
+          ∙ sym (from_at (block + 1) (k - 4096))
+          ∙ sym (get_or-append_right (cells_of taken block) (cells_from (block + 1)) 4096 k None (cells_size taken block) high)
+
+  -- blocks without an octet are passed over
+  pub blocks_skipped : (from block : ℕ) → from ≤ block → ((k : ℕ) → 4096 * from ≤ k → k < 4096 * block → taken k ≡ None)
+      → runs_from (4096 * from) (cells_from from) ≡ runs_from (4096 * block) (cells_from block)
+  blocks_skipped from block order none =
+      let place : 4096 * from + (4096 * block - 4096 * from) ≡ 4096 * block = omega (arith, order) in
+      runs_skip (4096 * block - 4096 * from) (4096 * from) (cells_from from) (λ k low. from_at from k
+      ∙ none (4096 * from + k) (omega arith) (omega (arith, low)))
+      ∙ ap (λ (l : List (Option ℕ)). runs_from (4096 * from + (4096 * block - 4096 * from)) l)
+      (drop-drop (4096 * block - 4096 * from) (4096 * from) (places taken n))
+      ∙ ap (λ (m : ℕ). runs_from m (drop m (places taken n))) place
+
+  pub no_more : (from : ℕ) → ((k : ℕ) → 4096 * from ≤ k → taken k ≡ None) → runs_from (4096 * from) (cells_from from) ≡ []
+  no_more from none = runs_same (cells_from from) [] (4096 * from) (λ k. from_at from k ∙ none (4096 * from + k) (omega arith))
+
+  -- the runs of another table
+  pub other_table : (m : ℕ) → ((k : ℕ) → m ≤ k → taken k ≡ None) → runs_from 0 (places taken n) ≡ runs_from 0 (places taken m)
+  other_table m none = runs_same (places taken n) (places taken m) 0 (λ k. places_all taken n past k ∙ sym (places_all taken m none k))
 
 -- a block without an octet has no run
 pub none_given : (xs : List (Option ℕ)) (at : ℕ) → length xs ≡ 4096 → ((i : ℕ) → i < 4096 → get_or xs i None ≡ None) → runs_from at xs ≡ []

@@ -7,4 +7,5 @@ pub mod Putting
 pub mod RunLaws
 pub mod Showing
 pub mod Sizes
+pub mod Slots
 pub mod Written

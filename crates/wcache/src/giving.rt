@@ -32,9 +32,10 @@ fn give<D: Disk>(disk: &mut D, collected: &Collected) -> Result<(), DiskError>
         → Makes D.device (writes_of (runs_from 0 (places (taken collected.now) n))) result disk.old disk.new }
     ensures memory { IfErr result (λ error. error ≡ DiskError.Memory → IsTrue D.write_grows) }
 {
-    for block in 0..collected.blocks() {
+    let mut from = 0;
+    while let Some(block) = collected.next_block(from) {
         match give_slot(disk, collected, block) {
-            Ok(()) => {}
+            Ok(()) => from = block + 1,
             Err(error) => return Err(error),
         }
     }

@@ -20,7 +20,7 @@ use Rattle.journal.specs.Journal.{IsReady, JournalView, sizes, still_open}
 use Rattle.journal.specs.declared.Next.TheVariants.{Descriptor}
 use Rattle.kernel.specs.Errors.{of_exec}
 use Rattle.kernel.specs.Kernel.{AgreesBehind, KernelView, halted_for_good, made_durable, Refusal, Takes, Tested, TestedOrMemory, buffered}
-use Rattle.kernel.specs.Kernel.{exec_refusal, first_failing, has_batch, is_block, mode_at, taken}
+use Rattle.kernel.specs.Kernel.{exec_refusal, first_failing, has_batch, is_block, mode_at, most_dirty, taken}
 use Rattle.seats.specs.Seats.{Seat}
 use Rattle.kernel.specs.Kept.{IsKept}
 use Rattle.shared_kernel.specs.declared.ticket.Ticket.{Ticket}
@@ -204,7 +204,7 @@ did_exec old served number moment (Some mode) (Some found) (Err e) d = (
 
     told_as : (r : Refusal) → exec_refusal (kernel_of old) number found.0 ≡ Some r → of_exec_error (of_exec r) ≡ of_kernel r
     told_as r is = pick (is_none (mode_at (kernel_of old) number)) (nat_le 1048576 (buffered (kernel_of old) number))
-        (not (kernel_of old).halted && is_block found.0 && nat_lt 256 (length (kernel_of old).dirty)) r is
+        (not (kernel_of old).halted && is_block found.0 && nat_lt (most_dirty (length (kernel_of old).blocks)) (length (kernel_of old).dirty)) r is
 
 -- ---- Dev
 

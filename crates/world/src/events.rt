@@ -65,7 +65,7 @@ pub enum StepError {
     /// 64 sessions exist, or the greatest u64 was used as a session's number.
     #[error("E7 TooManySessions")]
     TooManySessions,
-    /// More than 256 blocks are dirty: ask again after a batch is taken.
+    /// Too many blocks are dirty: ask again after a batch is taken.
     #[error("E8 LaterDirty")]
     LaterDirty,
     /// The session has 1,048,576 or more buffered octets: ask again after a release.

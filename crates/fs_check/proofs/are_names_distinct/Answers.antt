@@ -12,12 +12,12 @@ pub returns-then-not-branch : goal.returns-then-not-branch
 returns-then-not-branch g c =
     let blocks = g.B.Blocks.blocks c.args.blocks.now in
     let at = c.loop-at.at in
-    let slot = c.get_record.new.into in
-    let file = file_from_slot (first_data c.args.inodes) (length blocks) c.args.inodes at blocks slot c.get_record.ensures
+    let slot = c.get_slot.new.into in
+    let file = file_from_slot (first_data (length (g.B.Blocks.blocks c.args.blocks.now)) c.args.inodes) (length blocks) c.args.inodes at blocks slot c.get_slot.ensures
     (c.requires.entries at c.loop-at-test.true) c.if-slot-gt0.true in (
       (λ distinct. absurd (false≢true distinct)),
       (λ distinct. absurd (
-          slots_twice at c.args.inodes blocks c.loop-at.slots c.loop-at.invariant slot c.get_record.ensures file c.loop-at-test.true
+          slots_twice at c.args.inodes blocks c.loop-at.slots c.loop-at.invariant slot c.get_slot.ensures file c.loop-at-test.true
           (not-false (has c.loop-at.slots slot) (sym c.in_ok-insert.ensures.added ∙ c.if-not-branch.true)) distinct)),
     )
 
@@ -28,18 +28,18 @@ pub loop-at-preserved : goal.loop-at-preserved
 loop-at-preserved g c =
     let blocks = g.B.Blocks.blocks c.args.blocks.now in
     let at = c.loop-at.at in
-    let slot = c.get_record.new.into in
+    let slot = c.get_slot.new.into in
     elim c.else-slot-gt0.branch [
       | else-slot-gt0-via-then-slot-gt0+in_ok-insert+else-not-branch w ↦
-          let file = file_from_slot (first_data c.args.inodes) (length blocks) c.args.inodes at blocks slot c.get_record.ensures
+          let file = file_from_slot (first_data (length (g.B.Blocks.blocks c.args.blocks.now)) c.args.inodes) (length blocks) c.args.inodes at blocks slot c.get_slot.ensures
           (c.requires.entries at c.loop-at-test.true) w.if-slot-gt0.true in
           subst (λ (s : BTreeSet (List ℕ)). HasSlots (at + 1) c.args.inodes blocks s) (sym w.slots-is)
-          (slots_more at c.args.inodes blocks c.loop-at.slots c.loop-at.invariant slot c.get_record.ensures file w.insert.new.self
+          (slots_more at c.args.inodes blocks c.loop-at.slots c.loop-at.invariant slot c.get_slot.ensures file w.insert.new.self
           (not-true (has c.loop-at.slots slot) (sym w.in_ok-insert.ensures.added ∙ w.if-not-branch.false)) w.in_ok-insert.ensures.updates)
       | else-slot-gt0-via-else-slot-gt0 w ↦
           subst (λ (s : BTreeSet (List ℕ)). HasSlots (at + 1) c.args.inodes blocks s) (sym w.slots-is)
           (slots_same at c.args.inodes blocks c.loop-at.slots c.loop-at.invariant
-          (no_file_from_slot (first_data c.args.inodes) (length blocks) c.args.inodes at blocks slot c.get_record.ensures
+          (no_file_from_slot (first_data (length (g.B.Blocks.blocks c.args.blocks.now)) c.args.inodes) (length blocks) c.args.inodes at blocks slot c.get_slot.ensures
           (omega (arith, w.if-slot-gt0.false))))
     ]
 

@@ -3,7 +3,7 @@ use Rattle.std.specs.Prelude.{◌≡◌, ℕ, ◌+◌, ◌-◌, ◌*◌, ◌^◌
 use Rattle.std.specs.Prelude.{slice_set, Option, Some, None, IsPermutation}
 use Rattle.std.specs.List.{All, Contains, count_by}
 use Rattle.model.specs.Stream.{Octets}
-use Rattle.model.specs.Files.{File, HoldsFiles, IsFileSystem, files_in, table}
+use Rattle.model.specs.Files.{File, HoldsFiles, IsFileSystem, files_in, most_inodes, table}
 use Rattle.model.specs.Spool.{Spool, first, groups}
 use Rattle.model.specs.Lawful.{IsLawful, MayFollow}
 use Rattle.model.specs.Layout.{Holds}
@@ -16,7 +16,7 @@ use Rattle.model.specs.declared.change.Change.{Change}
 
 -- Blocks hold at most one spool, under any hosts.
 abbrev pub BlocksHoldOne : Type 0
-BlocksHoldOne = (host other : Octets) (inodes : ℕ) (blocks : List Octets) (S R : Spool) → inodes ≤ 32768 →
+BlocksHoldOne = (host other : Octets) (inodes : ℕ) (blocks : List Octets) (S R : Spool) → inodes ≤ most_inodes →
     Holds host inodes blocks S → Holds other inodes blocks R → S ≡ R
 
 -- A spool that blocks hold has at most as many changes as there are inodes.
@@ -45,14 +45,14 @@ SpoolsGrow = (host : Octets) (inodes : ℕ) (blocks : List Octets) (files : List
 
 -- The change that a change's file holds is in every spool that the blocks hold, at its serial.
 abbrev pub ChangesAreRead : Type 0
-ChangesAreRead = (host : Octets) (inodes : ℕ) (blocks : List Octets) (S : Spool) (n : ℕ) (c : Change) → inodes ≤ 32768
+ChangesAreRead = (host : Octets) (inodes : ℕ) (blocks : List Octets) (S : Spool) (n : ℕ) (c : Change) → inodes ≤ most_inodes
     → Holds host inodes blocks S →
     HasRoomInFile n c → Contains (files_in (table inodes blocks)) (change_file (record { serial = n; change = c }))
     → (1 ≤ n) × (slice_get S (n - 1) ≡ Some c)
 
 -- So the changes that were read, by rising serial, are the first ones of every spool that the blocks hold.
 abbrev pub FrontsAreRead : Type 0
-FrontsAreRead = (host : Octets) (inodes : ℕ) (blocks : List Octets) (S R : Spool) → inodes ≤ 32768 → Holds host inodes blocks S →
+FrontsAreRead = (host : Octets) (inodes : ℕ) (blocks : List Octets) (S R : Spool) → inodes ≤ most_inodes → Holds host inodes blocks S →
     ((n : ℕ) (c : Change) → slice_get R n ≡ Some c
     → HasRoomInFile (n + 1) c × Contains (files_in (table inodes blocks)) (change_file (record { serial = n + 1; change = c }))) →
     R ≡ first S (length R)

@@ -10,7 +10,7 @@ use Rattle.fs.proofs.directory.names.Goals.{then-slot-gt0+in_ok-name_of+in_ok-pu
 pub name_of-requires-clause-few : goal.name_of-requires-clause-few
 name_of-requires-clause-few g c =
     small_name c.args.inodes (g.B.Blocks.blocks c.args.blocks.now) c.requires.rule c.loop-at.at
-    (omega arith) c.get_record.new.into c.get_record.ensures
+    (omega arith) c.get_slot.new.into c.get_slot.ensures
 
 pub loop-at-preserved : goal.loop-at-preserved
 loop-at-preserved g c =
@@ -24,11 +24,11 @@ loop-at-preserved g c =
           ∙ map-append (λ (name : Vec ℕ Global). name.items) c.loop-at.names.items (w.in_ok-name_of.field-0 ∷ [])
           ∙ ap (λ (l : List (List ℕ)). l ++ w.in_ok-name_of.field-0.items ∷ []) c.loop-at.invariant
           ∙ ap (λ (n : List ℕ). file_names (take at (table c.args.inodes blocks)) ++ n ∷ []) w.in_ok-name_of.ensures
-          ∙ sym (one_name c.args.inodes blocks c.requires.rule at low c.get_record.new.into c.get_record.ensures w.if-slot-gt0.true)
+          ∙ sym (one_name c.args.inodes blocks c.requires.rule at low c.get_slot.new.into c.get_slot.ensures w.if-slot-gt0.true)
       | else-slot-gt0 w ↦
           ap (λ (v : Vec (Vec ℕ Global) Global). map (λ name. name.items) v.items) w.names-is
           ∙ c.loop-at.invariant
-          ∙ sym (no_name c.args.inodes blocks c.requires.rule at low c.get_record.new.into c.get_record.ensures
+          ∙ sym (no_name c.args.inodes blocks c.requires.rule at low c.get_slot.new.into c.get_slot.ensures
           (omega (arith, w.if-slot-gt0.false)))
     ]
 

@@ -83,4 +83,5 @@ returns-clause-touches g c k content is =
     subst (λ (n : ℕ). TouchesInode at (content_blocks 0) (content_blocks n) old mid) sized c.in_ok-shrink_to.ensures.touches in
     inode_and_slot at (length content) 0 old mid (omega arith)
     (λ less. names.no_double (omega (arith, less, sized))) (λ less. names.none 0 (omega (arith, less, sized))) touches
-    c.args.inodes (g.B.Blocks.blocks c.remove_empty.new.blocks) c.in_ok-remove_empty.ensures.touches
+    c.args.inodes (g.B.Blocks.blocks c.remove_empty.new.blocks) c.in_ok-remove_empty.ensures.count
+    c.in_ok-remove_empty.ensures.touches

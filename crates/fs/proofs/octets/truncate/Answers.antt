@@ -30,9 +30,9 @@ module _ (inodes at end was : ℕ) (name : List ℕ) (old new : List (List ℕ))
       read
       ∙ sym (content_size old (entry inodes old at) room.blocks_whole (λ b owns. (fs.within at b low owns).1))
 
-  shorter : end ≤ was → ReplacesContent inodes at (take end content) old new → TakesNone old new
+  shorter : end ≤ was → length new ≡ length old → ReplacesContent inodes at (take end content) old new → TakesNone old new
       → Rewrites inodes name (λ content. take end content ++ replicate (end - length content) 0) old new
-  shorter less done none =
+  shorter less count done none =
       let nothing : end - length content ≡ 0 = omega (arith, long) in
       let is : take end content ≡ take end content ++ replicate (end - length content) 0 =
       sym (ap (λ (n : ℕ). take end content ++ replicate n 0) nothing ∙ append-nil (take end content)) in (
@@ -41,7 +41,7 @@ module _ (inodes at end was : ℕ) (name : List ℕ) (old new : List (List ℕ))
         there,
         replaces_same inodes at (take end content) (take end content ++ replicate (end - length content) 0) old new is
             done,
-        lowest_none old new done.makes.room.count_few none,
+        lowest_none old new count none,
       )
 
   longer : was < end → GrowsBy inodes at (replicate (end - was) 0) old new
@@ -75,7 +75,7 @@ returns-then-size-was-clause-truncated g c =
     (g.B.Blocks.blocks c.shrink_to.new.blocks) c.requires.room c.requires.rule found.below
     (there_from_slot c.args.inodes old c.requires.rule c.in-Some.at c.args.name.now found.below c.requires.name.0 (found.is
     ∙ c.slot_for.ensures))
-    c.size_of-was.ensures (omega arith) c.in_ok-shrink_to.ensures.done c.in_ok-shrink_to.ensures.none_taken
+    c.size_of-was.ensures (omega arith) c.in_ok-shrink_to.ensures.touches.count c.in_ok-shrink_to.ensures.done c.in_ok-shrink_to.ensures.none_taken
 
 pub returns-then-not-has_room_for-clause-full : goal.returns-then-not-has_room_for-clause-full
 returns-then-not-has_room_for-clause-full g c =

@@ -84,7 +84,7 @@ returns-then-end-size-clause-written g c =
       there_from_slot c.args.inodes old c.requires.rule c.in-Some.at c.args.name.now found.below c.requires.name.0 (found.is
           ∙ c.slot_for.ensures),
       done,
-      lowest_same old (g.B.Blocks.blocks c.overwrite.new.blocks) done.makes.room.count_few c.in_ok-overwrite.ensures.marks,
+      lowest_same old (g.B.Blocks.blocks c.overwrite.new.blocks) c.in_ok-overwrite.ensures.marks,
     )
 
 pub returns-then-not-has_room_for-clause-full : goal.returns-then-not-has_room_for-clause-full
@@ -173,7 +173,7 @@ returns-clause-written g c =
       written_past c.args.inodes c.in-Some.at c.args.place c.args.octets.now c.args.name.now old mid c.requires.room c.requires.rule
           found.below low (omega (arith, is)) c.size_of-size.result (c.size_of-size.result - c.args.place) is refl
           c.in_ok-overwrite-2.ensures.done c.in_ok-overwrite-2.ensures.marks new grows,
-      lowest_after old mid new grows.makes.room.count_few c.in_ok-overwrite-2.ensures.marks grows.lowest,
+      lowest_after old mid new grows.count c.in_ok-overwrite-2.ensures.marks grows.lowest,
     )
 
 -- the length of the content of the file of a name

@@ -6,7 +6,7 @@ use Rattle.byteorder.specs.Endian.{little_bytes}
 use Rattle.disk.specs.Image.{overwritten}
 use Rattle.model.specs.Volume.{number_at}
 use Rattle.model.specs.Files.{FileEntry, entry, entry_of, free_blocks, inode_of, size, pointer, first_data, indirect_for, indirect_pointer}
-use Rattle.model.specs.Files.{block_count}
+use Rattle.model.specs.Files.{bitmap_blocks, block_count}
 use Rattle.model.proofs.Owning.{owns_pointer}
 use Rattle.fs_layout.specs.Blocks.{IsThere, PutsRecord}
 use Rattle.fs_inodes.specs.Growing.{inode_entry, with_indirect, AddsBlock, NamesBlocks}
@@ -20,10 +20,10 @@ pub add_block-requires-clause-names : goal.add_block-requires-clause-names
 add_block-requires-clause-names g c =
     let blocks = g.B.Blocks.blocks c.args.blocks.now in
     let e : FileEntry = entry c.args.inodes blocks c.args.at in
-    let sized : c.number64-size.result ≡ size e = c.number64-size.ensures ∙ ap (λ (o : List ℕ). number_at 4 8 o) c.get_record.ensures in
+    let sized : c.number64-size.result ≡ size e = c.number64-size.ensures ∙ ap (λ (o : List ℕ). number_at 4 8 o) c.get_inode.ensures in
     let count : block_count e ≡ c.number64-size.result / 4096 = omega (arith, sized, c.if-within-eq0.true) in
     subst (λ (o : List ℕ). NamesBlocks (indirect_for (c.number64-size.result / 4096)) (inode_entry blocks o) blocks)
-    (sym c.get_record.ensures)
+    (sym c.get_inode.ensures)
     (subst (λ (m : ℕ). NamesBlocks (indirect_for m) (inode_entry blocks (inode_of blocks c.args.at)) blocks) count
     (file_names c.args.inodes c.args.at blocks c.requires.room c.requires.rule c.requires.below c.requires.file))
 
@@ -32,7 +32,7 @@ add_block-requires-clause-free g c =
     let blocks = g.B.Blocks.blocks c.args.blocks.now in
     let e : FileEntry = entry c.args.inodes blocks c.args.at in
     let piece = c.args.piece.now in
-    let sized : c.number64-size.result ≡ size e = c.number64-size.ensures ∙ ap (λ (o : List ℕ). number_at 4 8 o) c.get_record.ensures in
+    let sized : c.number64-size.result ≡ size e = c.number64-size.ensures ∙ ap (λ (o : List ℕ). number_at 4 8 o) c.get_inode.ensures in
     let was : block_count e ≡ c.number64-size.result / 4096 = omega (arith, sized, c.if-within-eq0.true) in
     let now : (size e + length piece + 4095) / 4096 ≡ c.number64-size.result / 4096 + 1 =
     omega (arith, sized, c.if-within-eq0.true, c.requires.some, c.requires.within) in
@@ -43,8 +43,8 @@ pub pointer_at-number-requires-clause-double : goal.pointer_at-number-requires-c
 pointer_at-number-requires-clause-double g c =
     let blocks = g.B.Blocks.blocks c.args.blocks.now in
     let e : FileEntry = entry c.args.inodes blocks c.args.at in
-    let sized : c.number64-size.result ≡ size e = c.number64-size.ensures ∙ ap (λ (o : List ℕ). number_at 4 8 o) c.get_record.ensures in
-    subst (λ (o : List ℕ). 1034 ≤ c.number64-size.result / 4096 → IsThere (number_at 56 4 o) blocks) (sym c.get_record.ensures)
+    let sized : c.number64-size.result ≡ size e = c.number64-size.ensures ∙ ap (λ (o : List ℕ). number_at 4 8 o) c.get_inode.ensures in
+    subst (λ (o : List ℕ). 1034 ≤ c.number64-size.result / 4096 → IsThere (number_at 56 4 o) blocks) (sym c.get_inode.ensures)
     (double_is_there c.args.inodes c.args.at blocks c.requires.room c.requires.rule c.requires.below c.requires.file
     (c.number64-size.result / 4096) (omega (arith, c.if-within-eq0.false)))
 
@@ -52,9 +52,9 @@ pub pointer_at-number-requires-clause-indirect : goal.pointer_at-number-requires
 pointer_at-number-requires-clause-indirect g c =
     let blocks = g.B.Blocks.blocks c.args.blocks.now in
     let e : FileEntry = entry c.args.inodes blocks c.args.at in
-    let sized : c.number64-size.result ≡ size e = c.number64-size.ensures ∙ ap (λ (o : List ℕ). number_at 4 8 o) c.get_record.ensures in
+    let sized : c.number64-size.result ≡ size e = c.number64-size.ensures ∙ ap (λ (o : List ℕ). number_at 4 8 o) c.get_inode.ensures in
     subst (λ (o : List ℕ). 10 ≤ c.number64-size.result / 4096
-    → IsThere (indirect_pointer (entry_of blocks o []) ((c.number64-size.result / 4096 - 10) / 1024)) blocks) (sym c.get_record.ensures)
+    → IsThere (indirect_pointer (entry_of blocks o []) ((c.number64-size.result / 4096 - 10) / 1024)) blocks) (sym c.get_inode.ensures)
     (table_is_there c.args.inodes c.args.at blocks c.requires.room c.requires.rule c.requires.below c.requires.file
     (c.number64-size.result / 4096) (omega (arith, c.if-within-eq0.false)))
 
@@ -63,7 +63,7 @@ put_piece-requires-clause-there g c =
     let blocks = g.B.Blocks.blocks c.args.blocks.now in
     let e : FileEntry = entry c.args.inodes blocks c.args.at in
     let i = c.number64-size.result / 4096 in
-    let sized : c.number64-size.result ≡ size e = c.number64-size.ensures ∙ ap (λ (o : List ℕ). number_at 4 8 o) c.get_record.ensures in
+    let sized : c.number64-size.result ≡ size e = c.number64-size.ensures ∙ ap (λ (o : List ℕ). number_at 4 8 o) c.get_inode.ensures in
     elim c.if-within-eq0.branch [
       | then-within-eq0+in_ok-number w ↦
           let adds = w.in_ok-number.ensures.done in
@@ -75,7 +75,7 @@ put_piece-requires-clause-there g c =
       | else-within-eq0 w ↦
           let low : i < block_count e = omega (arith, w.if-within-eq0.false) in
           let is : w.pointer_at-number.result ≡ pointer e i = w.pointer_at-number.ensures
-          ∙ ap (λ (o : List ℕ). pointer (entry_of blocks o []) i) c.get_record.ensures in
+          ∙ ap (λ (o : List ℕ). pointer (entry_of blocks o []) i) c.get_inode.ensures in
           let count = ap (λ (b : g.row.B.Denot). length (g.B.Blocks.blocks b)) w.blocks-is in
           let inside = (c.requires.rule.within c.args.at (pointer e i) c.requires.below (owns_pointer e i low)).1 in
           omega (arith, count, w.number-is, is, inside)
@@ -85,7 +85,7 @@ pub returns-clause-grown : goal.returns-clause-grown
 returns-clause-grown g c =
     let old = g.B.Blocks.blocks c.args.blocks.now in
     let mid = g.B.Blocks.blocks c.if-within-eq0.blocks in
-    let new = g.B.Blocks.blocks c.put_record.new.blocks in
+    let new = g.B.Blocks.blocks c.put_inode.new.blocks in
     let at = c.args.at in
     let e : FileEntry = entry c.args.inodes old at in
     let n = c.number64-size.result / 4096 in
@@ -94,10 +94,10 @@ returns-clause-grown g c =
     let number = c.if-within-eq0.number in
     let puts = c.in_ok-put_piece.ensures.done in
     let piece = c.args.piece.now in
-    let sized : c.number64-size.result ≡ size e = c.number64-size.ensures ∙ ap (λ (o : List ℕ). number_at 4 8 o) c.get_record.ensures in
+    let sized : c.number64-size.result ≡ size e = c.number64-size.ensures ∙ ap (λ (o : List ℕ). number_at 4 8 o) c.get_inode.ensures in
     let parts : size e ≡ 4096 * n + r = omega arith in
-    let few : n < 65536 = omega (arith, sized, c.requires.enough.0, c.requires.some) in
-    let ready : Extends (first_data c.args.inodes) n number e (inode_entry mid inode) old mid
+    let few : n < 1048576 = omega (arith, sized, c.requires.enough.0, c.requires.some) in
+    let ready : Extends (first_data (length (g.B.Blocks.blocks c.args.blocks.now)) c.args.inodes) n number e (inode_entry mid inode) old mid
     × (take r (get_or mid number []) ≡ take r (get_or old (pointer e n) [])) = (elim c.if-within-eq0.branch [
       | then-within-eq0+in_ok-number w ↦
           let none : r ≡ 0 = w.if-within-eq0.true in
@@ -108,7 +108,7 @@ returns-clause-grown g c =
           (subst (λ (m : ℕ). AddsBlock n m (inode_of old at) w.add_block.new.inode old (g.B.Blocks.blocks w.add_block.new.blocks))
           (sym w.number-is)
           (subst (λ (o : List ℕ). AddsBlock n w.in_ok-number.number o w.add_block.new.inode old (g.B.Blocks.blocks w.add_block.new.blocks))
-          c.get_record.ensures w.in_ok-number.ensures.done))) in (
+          c.get_inode.ensures w.in_ok-number.ensures.done))) in (
             extends_new c.args.inodes at n old c.requires.room c.requires.rule c.requires.below c.requires.file few number inode mid
                 (omega arith) adds,
             ap (λ (m : ℕ). take m (get_or mid number [])) none ∙ sym (ap (λ (m : ℕ). take m (get_or old (pointer e n) [])) none),
@@ -116,11 +116,11 @@ returns-clause-grown g c =
       | else-within-eq0 w ↦
           let low : n < block_count e = omega (arith, w.if-within-eq0.false) in
           let is : w.pointer_at-number.result ≡ pointer e n = w.pointer_at-number.ensures
-          ∙ ap (λ (o : List ℕ). pointer (entry_of old o []) n) c.get_record.ensures in
+          ∙ ap (λ (o : List ℕ). pointer (entry_of old o []) n) c.get_inode.ensures in
           let blocks_are : mid ≡ old = ap (λ (b : g.row.B.Denot). g.B.Blocks.blocks b) w.blocks-is in (
-            subst (λ (bs : List (List ℕ)). Extends (first_data c.args.inodes) n number e (inode_entry bs inode) old bs) (sym blocks_are)
-                (subst (λ (o : List ℕ). Extends (first_data c.args.inodes) n number e (inode_entry old o) old old)
-                (sym (w.inode-is ∙ c.get_record.ensures))
+            subst (λ (bs : List (List ℕ)). Extends (first_data (length (g.B.Blocks.blocks c.args.blocks.now)) c.args.inodes) n number e (inode_entry bs inode) old bs) (sym blocks_are)
+                (subst (λ (o : List ℕ). Extends (first_data (length (g.B.Blocks.blocks c.args.blocks.now)) c.args.inodes) n number e (inode_entry old o) old old)
+                (sym (w.inode-is ∙ c.get_inode.ensures))
                 (extends_last c.args.inodes at n old c.requires.room c.requires.rule c.requires.below c.requires.file few r number parts
                 (omega (arith, w.if-within-eq0.false)) (omega arith) (w.number-is ∙ is))),
             ap (λ (bs : List (List ℕ)). take r (get_or bs number [])) blocks_are
@@ -130,18 +130,19 @@ returns-clause-grown g c =
     let inside : r + length piece ≤ 4096 = omega (arith, c.requires.within) in
     let octets_are : c.put64.new.octets ≡ overwritten 4 (little_bytes 8 (size e + length piece)) inode = c.put64.ensures
     ∙ ap (λ (m : ℕ). overwritten 4 (little_bytes 8 (m + length piece)) inode) sized in
-    on_ok_weaker c.put_record.result
+    on_ok_weaker c.put_inode.result
     (λ done. grows c.args.inodes at n r number piece puts.block inode old mid new c.requires.room c.requires.rule c.requires.below
     c.requires.file parts inside c.requires.some c.requires.enough.0 ready.0 puts.whole (puts.front ∙ ready.1)
-    (subst (λ (o : List ℕ). PutsRecord 2 at o (set mid number (overwritten r piece puts.block)) new) octets_are
-    (subst (λ (bs : List (List ℕ)). PutsRecord 2 at c.put64.new.octets bs new) puts.puts done)))
-    c.put_record.ensures.done
+    (subst (λ (o : List ℕ). PutsRecord (bitmap_blocks (length (set mid number (overwritten r piece puts.block)))) at o
+    (set mid number (overwritten r piece puts.block)) new) octets_are
+    (subst (λ (bs : List (List ℕ)). PutsRecord (bitmap_blocks (length bs)) at c.put64.new.octets bs new) puts.puts done)))
+    c.put_inode.ensures.done
 
 pub returns-clause-touches : goal.returns-clause-touches
 returns-clause-touches g c =
     let old = g.B.Blocks.blocks c.args.blocks.now in
     let mid = g.B.Blocks.blocks c.if-within-eq0.blocks in
-    let new = g.B.Blocks.blocks c.put_record.new.blocks in
+    let new = g.B.Blocks.blocks c.put_inode.new.blocks in
     let at = c.args.at in
     let e : FileEntry = entry c.args.inodes old at in
     let n = c.number64-size.result / 4096 in
@@ -150,10 +151,10 @@ returns-clause-touches g c =
     let number = c.if-within-eq0.number in
     let puts = c.in_ok-put_piece.ensures.done in
     let piece = c.args.piece.now in
-    let sized : c.number64-size.result ≡ size e = c.number64-size.ensures ∙ ap (λ (o : List ℕ). number_at 4 8 o) c.get_record.ensures in
+    let sized : c.number64-size.result ≡ size e = c.number64-size.ensures ∙ ap (λ (o : List ℕ). number_at 4 8 o) c.get_inode.ensures in
     let parts : size e ≡ 4096 * n + r = omega arith in
-    let few : n < 65536 = omega (arith, sized, c.requires.enough.0, c.requires.some) in
-    let ready : Extends (first_data c.args.inodes) n number e (inode_entry mid inode) old mid
+    let few : n < 1048576 = omega (arith, sized, c.requires.enough.0, c.requires.some) in
+    let ready : Extends (first_data (length (g.B.Blocks.blocks c.args.blocks.now)) c.args.inodes) n number e (inode_entry mid inode) old mid
     × (take r (get_or mid number []) ≡ take r (get_or old (pointer e n) [])) = (elim c.if-within-eq0.branch [
       | then-within-eq0+in_ok-number w ↦
           let none : r ≡ 0 = w.if-within-eq0.true in
@@ -164,7 +165,7 @@ returns-clause-touches g c =
           (subst (λ (m : ℕ). AddsBlock n m (inode_of old at) w.add_block.new.inode old (g.B.Blocks.blocks w.add_block.new.blocks))
           (sym w.number-is)
           (subst (λ (o : List ℕ). AddsBlock n w.in_ok-number.number o w.add_block.new.inode old (g.B.Blocks.blocks w.add_block.new.blocks))
-          c.get_record.ensures w.in_ok-number.ensures.done))) in (
+          c.get_inode.ensures w.in_ok-number.ensures.done))) in (
             extends_new c.args.inodes at n old c.requires.room c.requires.rule c.requires.below c.requires.file few number inode mid
                 (omega arith) adds,
             ap (λ (m : ℕ). take m (get_or mid number [])) none ∙ sym (ap (λ (m : ℕ). take m (get_or old (pointer e n) [])) none),
@@ -172,11 +173,11 @@ returns-clause-touches g c =
       | else-within-eq0 w ↦
           let low : n < block_count e = omega (arith, w.if-within-eq0.false) in
           let is : w.pointer_at-number.result ≡ pointer e n = w.pointer_at-number.ensures
-          ∙ ap (λ (o : List ℕ). pointer (entry_of old o []) n) c.get_record.ensures in
+          ∙ ap (λ (o : List ℕ). pointer (entry_of old o []) n) c.get_inode.ensures in
           let blocks_are : mid ≡ old = ap (λ (b : g.row.B.Denot). g.B.Blocks.blocks b) w.blocks-is in (
-            subst (λ (bs : List (List ℕ)). Extends (first_data c.args.inodes) n number e (inode_entry bs inode) old bs) (sym blocks_are)
-                (subst (λ (o : List ℕ). Extends (first_data c.args.inodes) n number e (inode_entry old o) old old)
-                (sym (w.inode-is ∙ c.get_record.ensures))
+            subst (λ (bs : List (List ℕ)). Extends (first_data (length (g.B.Blocks.blocks c.args.blocks.now)) c.args.inodes) n number e (inode_entry bs inode) old bs) (sym blocks_are)
+                (subst (λ (o : List ℕ). Extends (first_data (length (g.B.Blocks.blocks c.args.blocks.now)) c.args.inodes) n number e (inode_entry old o) old old)
+                (sym (w.inode-is ∙ c.get_inode.ensures))
                 (extends_last c.args.inodes at n old c.requires.room c.requires.rule c.requires.below c.requires.file few r number parts
                 (omega (arith, w.if-within-eq0.false)) (omega arith) (w.number-is ∙ is))),
             ap (λ (bs : List (List ℕ)). take r (get_or bs number [])) blocks_are
@@ -186,18 +187,19 @@ returns-clause-touches g c =
     let inside : r + length piece ≤ 4096 = omega (arith, c.requires.within) in
     let octets_are : c.put64.new.octets ≡ overwritten 4 (little_bytes 8 (size e + length piece)) inode = c.put64.ensures
     ∙ ap (λ (m : ℕ). overwritten 4 (little_bytes 8 (m + length piece)) inode) sized in
-    on_ok_weaker c.put_record.result
+    on_ok_weaker c.put_inode.result
     (λ done. (
       number,
       touches c.args.inodes at n r number piece puts.block inode old mid new c.requires.room c.requires.rule c.requires.below
           c.requires.file parts inside c.requires.some c.requires.enough.0 ready.0 puts.whole (puts.front ∙ ready.1)
-          (subst (λ (o : List ℕ). PutsRecord 2 at o (set mid number (overwritten r piece puts.block)) new) octets_are
-          (subst (λ (bs : List (List ℕ)). PutsRecord 2 at c.put64.new.octets bs new) puts.puts done)),
+          (subst (λ (o : List ℕ). PutsRecord (bitmap_blocks (length (set mid number (overwritten r piece puts.block)))) at o
+          (set mid number (overwritten r piece puts.block)) new) octets_are
+          (subst (λ (bs : List (List ℕ)). PutsRecord (bitmap_blocks (length bs)) at c.put64.new.octets bs new) puts.puts done)),
     ))
-    c.put_record.ensures.done
+    c.put_inode.ensures.done
 
-pub put_record-requires-clause-there : goal.put_record-requires-clause-there
-put_record-requires-clause-there g c =
+pub put_inode-requires-clause-there : goal.put_inode-requires-clause-there
+put_inode-requires-clause-there g c =
     let puts = c.in_ok-put_piece.ensures.done in
     let count : length (g.B.Blocks.blocks c.put_piece.new.blocks) ≡ length (g.B.Blocks.blocks c.args.blocks.now) =
     ap (λ (bs : List (List ℕ)). length bs) puts.puts
@@ -210,8 +212,8 @@ put_record-requires-clause-there g c =
     ] in
     omega (arith, count, c.requires.room.room, c.requires.room.whole, c.requires.below)
 
-pub put_record-requires-clause-few : goal.put_record-requires-clause-few
-put_record-requires-clause-few g c =
+pub put_inode-requires-clause-few : goal.put_inode-requires-clause-few
+put_inode-requires-clause-few g c =
     let puts = c.in_ok-put_piece.ensures.done in
     let count : length (g.B.Blocks.blocks c.put_piece.new.blocks) ≡ length (g.B.Blocks.blocks c.args.blocks.now) =
     ap (λ (bs : List (List ℕ)). length bs) puts.puts
@@ -226,7 +228,7 @@ put_record-requires-clause-few g c =
 
 pub returns-clause-kept : goal.returns-clause-kept
 returns-clause-kept g c =
-    c.put_record.ensures.kept ∙ c.put_piece.ensures.kept ∙ elim c.if-within-eq0.branch [
+    c.put_inode.ensures.kept ∙ c.put_piece.ensures.kept ∙ elim c.if-within-eq0.branch [
       | then-within-eq0+in_ok-number w ↦ ap (λ (b : g.row.B.Denot). g.B.Blocks.applied b) w.blocks-is ∙ w.in_ok-number.ensures.kept
       | else-within-eq0 w ↦ ap (λ (b : g.row.B.Denot). g.B.Blocks.applied b) w.blocks-is
     ]

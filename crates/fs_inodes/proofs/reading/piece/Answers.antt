@@ -38,7 +38,7 @@ pub returns-then-size-place : goal.returns-then-size-place
 returns-then-size-place g c =
     let blocks = g.B.Blocks.blocks c.args.blocks.now in
     let e : FileEntry = entry c.args.inodes blocks c.args.at in
-    let sized : c.number64-size.result ≡ size e = c.number64-size.ensures ∙ ap (λ (o : List ℕ). number_at 4 8 o) c.get_record.ensures in
+    let sized : c.number64-size.result ≡ size e = c.number64-size.ensures ∙ ap (λ (o : List ℕ). number_at 4 8 o) c.get_inode.ensures in
     let long = content_size blocks e c.requires.room.blocks_whole (λ b owns. (c.requires.rule.within c.args.at b c.requires.below owns).1)
     in
     nothing (drop c.args.place (content_of blocks e)) (min c.args.count (4096 - c.args.place % 4096))
@@ -48,8 +48,8 @@ pub pointer_at-number-requires-clause-double : goal.pointer_at-number-requires-c
 pointer_at-number-requires-clause-double g c =
     let blocks = g.B.Blocks.blocks c.args.blocks.now in
     let e : FileEntry = entry c.args.inodes blocks c.args.at in
-    let sized : c.number64-size.result ≡ size e = c.number64-size.ensures ∙ ap (λ (o : List ℕ). number_at 4 8 o) c.get_record.ensures in
-    subst (λ (o : List ℕ). 1034 ≤ c.args.place / 4096 → IsThere (number_at 56 4 o) blocks) (sym c.get_record.ensures)
+    let sized : c.number64-size.result ≡ size e = c.number64-size.ensures ∙ ap (λ (o : List ℕ). number_at 4 8 o) c.get_inode.ensures in
+    subst (λ (o : List ℕ). 1034 ≤ c.args.place / 4096 → IsThere (number_at 56 4 o) blocks) (sym c.get_inode.ensures)
     (double_is_there c.args.inodes c.args.at blocks c.requires.room c.requires.rule c.requires.below c.requires.file (c.args.place / 4096)
     (omega arith))
 
@@ -57,9 +57,9 @@ pub pointer_at-number-requires-clause-indirect : goal.pointer_at-number-requires
 pointer_at-number-requires-clause-indirect g c =
     let blocks = g.B.Blocks.blocks c.args.blocks.now in
     let e : FileEntry = entry c.args.inodes blocks c.args.at in
-    let sized : c.number64-size.result ≡ size e = c.number64-size.ensures ∙ ap (λ (o : List ℕ). number_at 4 8 o) c.get_record.ensures in
+    let sized : c.number64-size.result ≡ size e = c.number64-size.ensures ∙ ap (λ (o : List ℕ). number_at 4 8 o) c.get_inode.ensures in
     subst (λ (o : List ℕ). 10 ≤ c.args.place / 4096
-    → IsThere (indirect_pointer (entry_of blocks o []) ((c.args.place / 4096 - 10) / 1024)) blocks) (sym c.get_record.ensures)
+    → IsThere (indirect_pointer (entry_of blocks o []) ((c.args.place / 4096 - 10) / 1024)) blocks) (sym c.get_inode.ensures)
     (table_is_there c.args.inodes c.args.at blocks c.requires.room c.requires.rule c.requires.below c.requires.file (c.args.place / 4096)
     (omega arith))
 
@@ -68,10 +68,10 @@ block-requires g c =
     let blocks = g.B.Blocks.blocks c.args.blocks.now in
     let e : FileEntry = entry c.args.inodes blocks c.args.at in
     let i = c.args.place / 4096 in
-    let sized : c.number64-size.result ≡ size e = c.number64-size.ensures ∙ ap (λ (o : List ℕ). number_at 4 8 o) c.get_record.ensures in
+    let sized : c.number64-size.result ≡ size e = c.number64-size.ensures ∙ ap (λ (o : List ℕ). number_at 4 8 o) c.get_inode.ensures in
     let low : i < block_count e = omega arith in
     let is : c.pointer_at-number.result ≡ pointer e i = c.pointer_at-number.ensures
-    ∙ ap (λ (o : List ℕ). pointer (entry_of blocks o []) i) c.get_record.ensures in
+    ∙ ap (λ (o : List ℕ). pointer (entry_of blocks o []) i) c.get_inode.ensures in
     subst (λ (n : ℕ). n < length blocks) (sym is)
     ((c.requires.rule.within c.args.at (pointer e i) c.requires.below (owns_pointer e i low)).1)
 
@@ -81,9 +81,9 @@ returns g c =
     let e : FileEntry = entry c.args.inodes blocks c.args.at in
     let place = c.args.place in
     let some = c.min-some.result in
-    let sized : c.number64-size.result ≡ size e = c.number64-size.ensures ∙ ap (λ (o : List ℕ). number_at 4 8 o) c.get_record.ensures in
+    let sized : c.number64-size.result ≡ size e = c.number64-size.ensures ∙ ap (λ (o : List ℕ). number_at 4 8 o) c.get_inode.ensures in
     let is : c.pointer_at-number.result ≡ pointer e (place / 4096) = c.pointer_at-number.ensures
-    ∙ ap (λ (o : List ℕ). pointer (entry_of blocks o []) (place / 4096)) c.get_record.ensures in
+    ∙ ap (λ (o : List ℕ). pointer (entry_of blocks o []) (place / 4096)) c.get_inode.ensures in
     let long = content_size blocks e c.requires.room.blocks_whole (λ b owns. (c.requires.rule.within c.args.at b c.requires.below owns).1)
     in
     let width : place % 4096 + some - place % 4096 ≡ some = omega arith in

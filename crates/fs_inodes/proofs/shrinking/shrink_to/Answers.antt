@@ -58,7 +58,7 @@ module _ (inodes at end keep : ℕ) (old : List (List ℕ)) (room : HasRoom inod
           at_most = omega (arith, so_far.at_most);
           counted = omega (arith, size_then, front);
           replaced = replaced;
-          none_taken = λ b small marked. so_far.none_taken b small (taken b small marked);
+          none_taken = λ b small marked. so_far.none_taken b small (taken b (omega (arith, small, so_far.touched.count)) marked);
           touched = inode_then at last left (block_count (entry inodes old at)) old new newer
               (omega (arith, is)) so_far.at_most so_far.touched (subst (λ (n : ℕ). TouchesInode at last n new newer) is touches);
         }
@@ -83,7 +83,7 @@ pub loop-left-init : goal.loop-left-init
 loop-left-init g c =
     let old = g.B.Blocks.blocks c.args.blocks.now in
     let e : FileEntry = entry c.args.inodes old c.args.at in
-    let sized : c.number64.result ≡ size e = c.number64.ensures ∙ ap (λ (o : List ℕ). number_at 4 8 o) c.get_record.ensures in
+    let sized : c.number64.result ≡ size e = c.number64.ensures ∙ ap (λ (o : List ℕ). number_at 4 8 o) c.get_inode.ensures in
     let counted : c.content_blocks-left.result ≡ block_count e =
     c.content_blocks-left.ensures ∙ ap (λ (n : ℕ). (n + 4095) / 4096) sized in (
       none c.args.inodes c.args.at c.args.end c.content_blocks-keep.result old c.requires.room c.requires.rule c.requires.below
@@ -155,5 +155,6 @@ returns-clause-none_taken g c =
     let mid = g.B.Blocks.blocks c.loop-left.blocks in
     let new = g.B.Blocks.blocks c.cut.new.blocks in
     on_ok_weaker {P = SameMarks mid new} {Q = TakesNone old new} c.cut.result
-    (λ same b small marked. c.loop-left.invariant.0.none_taken b small (sym (same.marks b small) ∙ marked))
+    (λ same b small marked. c.loop-left.invariant.0.none_taken b small
+    (sym (same.marks b (omega (arith, small, c.loop-left.invariant.0.touched.count))) ∙ marked))
     c.cut.ensures.marks

@@ -75,9 +75,9 @@ module _ (inodes at place done : ℕ) (octets : List ℕ) (old new : List (List 
               (replaces_then inodes at (overwritten place (take done octets) (content_of old (entry inodes old at))) old new low
               so_far.replaced (overwritten (place + done) (take (done + some - done) (drop done octets))
               (content_of new (entry inodes new at))) newer then);
-          marks = record { count = marks.count ∙ so_far.marks.count; marks = λ b small. marks.marks b small ∙ so_far.marks.marks b small };
+          marks = record { count = marks.count ∙ so_far.marks.count; marks = λ b small. marks.marks b (omega (arith, small, so_far.marks.count)) ∙ so_far.marks.marks b small };
           blocks = block ∷ so_far.blocks;
-          touched = same_then so_far.blocks (block ∷ []) old new newer so_far.touched touches;
+          touched = same_then so_far.blocks (block ∷ []) old new newer so_far.marks.count so_far.touched touches;
           reached = reached_more place done some (length octets) block so_far.blocks so_far.reached early positive whole left;
         }
 
@@ -128,6 +128,7 @@ pub returns-clause-touches : goal.returns-clause-touches
 returns-clause-touches g c =
     let wrote = c.loop-done.invariant.0 in
     record {
+      count = wrote.marks.count;
       others = wrote.blocks;
       few = reached_all c.args.place c.loop-done.done (length c.args.octets.now) (length wrote.blocks) wrote.reached wrote.within;
       same = wrote.touched;

@@ -15,7 +15,7 @@ use Rattle.fs_inodes.proofs.writing.overwrite_part.Goals as goal
 pub pointer_at-number-requires-clause-double : goal.pointer_at-number-requires-clause-double
 pointer_at-number-requires-clause-double g c =
     let blocks = g.B.Blocks.blocks c.args.blocks.now in
-    subst (λ (o : List ℕ). 1034 ≤ c.args.place / 4096 → IsThere (number_at 56 4 o) blocks) (sym c.get_record.ensures)
+    subst (λ (o : List ℕ). 1034 ≤ c.args.place / 4096 → IsThere (number_at 56 4 o) blocks) (sym c.get_inode.ensures)
     (double_is_there c.args.inodes c.args.at blocks c.requires.room c.requires.rule c.requires.below c.requires.file (c.args.place / 4096)
     (omega arith))
 
@@ -23,7 +23,7 @@ pub pointer_at-number-requires-clause-indirect : goal.pointer_at-number-requires
 pointer_at-number-requires-clause-indirect g c =
     let blocks = g.B.Blocks.blocks c.args.blocks.now in
     subst (λ (o : List ℕ). 10 ≤ c.args.place / 4096
-    → IsThere (indirect_pointer (entry_of blocks o []) ((c.args.place / 4096 - 10) / 1024)) blocks) (sym c.get_record.ensures)
+    → IsThere (indirect_pointer (entry_of blocks o []) ((c.args.place / 4096 - 10) / 1024)) blocks) (sym c.get_inode.ensures)
     (table_is_there c.args.inodes c.args.at blocks c.requires.room c.requires.rule c.requires.below c.requires.file (c.args.place / 4096)
     (omega arith))
 
@@ -34,7 +34,7 @@ put_at-requires-clause-there g c =
     let i = c.args.place / 4096 in
     let low : i < block_count e = omega arith in
     let is : c.pointer_at-number.result ≡ pointer e i = c.pointer_at-number.ensures
-    ∙ ap (λ (o : List ℕ). pointer (entry_of blocks o []) i) c.get_record.ensures in
+    ∙ ap (λ (o : List ℕ). pointer (entry_of blocks o []) i) c.get_inode.ensures in
     subst (λ (n : ℕ). n < length blocks) (sym is)
     ((c.requires.rule.within c.args.at (pointer e i) c.requires.below (owns_pointer e i low)).1)
 
@@ -53,7 +53,7 @@ returns-clause-done g c =
     let octets = c.args.octets.now in
     let number = c.pointer_at-number.result in
     let is : c.pointer_at-number.result ≡ pointer e i = c.pointer_at-number.ensures
-    ∙ ap (λ (o : List ℕ). pointer (entry_of old o []) i) c.get_record.ensures in
+    ∙ ap (λ (o : List ℕ). pointer (entry_of old o []) i) c.get_inode.ensures in
     on_put c.put_at.result (ReplacesContent c.args.inodes c.args.at (overwritten c.args.place octets (content_of old e)) old new) new old
     (set old number (overwritten (c.args.place % 4096) octets (get_or old number []))) c.put_at.ensures.put
     (λ put. subst (λ (bs : List (List ℕ)). ReplacesContent c.args.inodes c.args.at (overwritten c.args.place octets (content_of old e)) old
@@ -71,7 +71,7 @@ returns-clause-marks g c =
     let octets = c.args.octets.now in
     let number = c.pointer_at-number.result in
     let is : c.pointer_at-number.result ≡ pointer e i = c.pointer_at-number.ensures
-    ∙ ap (λ (o : List ℕ). pointer (entry_of old o []) i) c.get_record.ensures in
+    ∙ ap (λ (o : List ℕ). pointer (entry_of old o []) i) c.get_inode.ensures in
     on_put c.put_at.result (SameMarks old new) new old
     (set old number (overwritten (c.args.place % 4096) octets (get_or old number []))) c.put_at.ensures.put
     (λ put. subst (λ (bs : List (List ℕ)). SameMarks old bs)

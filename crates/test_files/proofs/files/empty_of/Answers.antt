@@ -6,7 +6,7 @@ pub make_empty-requires-clause-room : goal.make_empty-requires-clause-room
 make_empty-requires-clause-room c =
     has_room 64 c.args.count c.in_ok-octets.octets.items c.in_ok-volume.volume.seen (c.in_ok-volume.ensures.seen
     ∙ c.in_ok-volume.ensures.cache)
-    (omega arith) (omega arith) refl (omega (arith, c.requires.some)) c.requires.few
+    (omega arith) (omega arith) refl (omega (arith, c.requires.some)) (omega (arith, c.requires.few))
     (omega (arith, c.in_ok-octets.ensures.len, c.in_ok-octets.octets.ok.0))
 
 pub make_empty-requires-clause-zeros : goal.make_empty-requires-clause-zeros

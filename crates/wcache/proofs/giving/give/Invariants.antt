@@ -1,4 +1,4 @@
-use Rattle.std.proofs.Common.{◌*◌, drop}
+use Rattle.std.proofs.Common.{◌-◌, ◌*◌, ◌^◌, drop}
 use Rattle.wcache.specs.Runs.{runs_from, writes_of}
 use Rattle.wcache.specs.Slots.{places}
 use Rattle.wcache.specs.Taken.{taken}
@@ -7,6 +7,9 @@ use Rattle.wcache.proofs.giving.give.Given as goal
 
 abbrev pub invariant-loop-block : goal.invariant-loop-block
 invariant-loop-block g l =
-    IsGivingTo g.D.Disk.device (writes_of (runs_from 0 (places (taken l.collected) (4096 * l.block-end))))
-    (writes_of (runs_from (4096 * l.block) (drop (4096 * l.block) (places (taken l.collected) (4096 * l.block-end))))) l.initial.disk
-    l.disk
+    let n = (g.D.Disk.device l.initial.disk).size in
+    IsGivingTo g.D.Disk.device (writes_of (runs_from 0 (places (taken l.collected) n)))
+    (writes_of (runs_from (4096 * l.from) (drop (4096 * l.from) (places (taken l.collected) n)))) l.initial.disk l.disk
+
+abbrev pub decreases-loop-block : goal.decreases-loop-block
+decreases-loop-block g l = 2 ^ 52 - l.from

@@ -5,7 +5,7 @@ use Rattle.wcache.specs.Runs.{Run, writes_of}
 use Rattle.wcache.specs.Slots.{cell}
 use Rattle.wcache.specs.Taken.{taken}
 use Rattle.wcache.proofs.Blocks.{none_given, slot_runs}
-use Rattle.wcache.proofs.Putting.{cell_collected}
+use Rattle.wcache.proofs.Slots.{cell_collected}
 use Rattle.wcache.proofs.giving.give_slot.Goals as goal
 
 -- a collected octet is within the device

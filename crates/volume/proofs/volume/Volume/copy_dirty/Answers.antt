@@ -1,27 +1,22 @@
 use Rattle.std.proofs.Common.{rules, ◌≡◌, ◌<◌, ℕ, List, [], length, get_or, sym, ◌∙◌, ap, subst}
 use Rattle.std.specs.List.{All, flat_map}
-use Rattle.model.specs.Volume.{block, blocks_from, laid_over}
+use Rattle.model.specs.Volume.{blocks_from, laid_over}
 use Rattle.volume.specs.Volume.{VolumeView, BatchView, AgreeOutside}
-use Rattle.blocks.proofs.Octets.{length-blocks_from}
-use Rattle.volume.proofs.Copied.{copied_images, copied_laid}
+use Rattle.volume.proofs.Copied.{copied_laid}
 use Rattle.volume.proofs.volume.Volume.copy_dirty.Goals as goal
 
 pub returns-clause-images : goal.returns-clause-images
 returns-clause-images c =
     let inside = c.self.inside in
-    let below = subst (λ (n : ℕ). All (λ m. m < n) inside.dirty.members) c.self.invariant.same_bound c.self.invariant.dirty_numbers.below in
     ap (λ (b : BatchView). b.images) c.fill.ensures
-    ∙ ap (λ (l : List ℕ). flat_map (λ n. block n c.deref.result.now) l) c.as_slice.ensures
-    ∙ ap (λ (l : List ℕ). flat_map (λ n. block n l) inside.dirty.members) c.deref.ensures.value
-    ∙ copied_images inside.staged.bound inside.cache.items inside.dirty.members c.self.invariant.cache_size below
+    ∙ ap (λ (l : List ℕ). flat_map (λ n. get_or inside.cache.blocks n []) l) c.as_slice.ensures
     ∙ ap (λ (v : VolumeView). flat_map (λ n. get_or v.cache n []) v.dirty) c.self.view_is
 
 pub returns-clause-below : goal.returns-clause-below
 returns-clause-below c =
     let inside = c.self.inside in
     let count : inside.dirty.bound ≡ length c.args.self.now.cache =
-    c.self.invariant.same_bound ∙ sym (length-blocks_from inside.staged.bound inside.cache.items)
-    ∙ ap (λ (v : VolumeView). length v.cache) c.self.view_is in
+    c.self.invariant.same_bound ∙ sym c.self.invariant.count ∙ ap (λ (v : VolumeView). length v.cache) c.self.view_is in
     let numbers : c.fill.new.self.numbers ≡ inside.dirty.members = ap (λ (b : BatchView). b.numbers) c.fill.ensures ∙ c.as_slice.ensures in
     subst (λ (l : List ℕ). All (λ m. m < length c.args.self.now.cache) l) (sym numbers)
     (subst (λ (n : ℕ). All (λ m. m < n) inside.dirty.members) count c.self.invariant.dirty_numbers.below)
@@ -29,19 +24,18 @@ returns-clause-below c =
 pub returns-clause-laid : goal.returns-clause-laid
 returns-clause-laid c =
     let inside = c.self.inside in
-    let below = subst (λ (n : ℕ). All (λ m. m < n) inside.dirty.members) c.self.invariant.same_bound c.self.invariant.dirty_numbers.below in
+    let cache = inside.cache.blocks in
+    let below = subst (λ (n : ℕ). All (λ m. m < n) inside.dirty.members) (c.self.invariant.same_bound ∙ sym c.self.invariant.count)
+    c.self.invariant.dirty_numbers.below in
     let numbers : c.fill.new.self.numbers ≡ inside.dirty.members = ap (λ (b : BatchView). b.numbers) c.fill.ensures ∙ c.as_slice.ensures in
-    let images : c.fill.new.self.images ≡ flat_map (λ n. block n inside.cache.items) inside.dirty.members =
-    ap (λ (b : BatchView). b.images) c.fill.ensures
-    ∙ ap (λ (l : List ℕ). flat_map (λ n. block n c.deref.result.now) l) c.as_slice.ensures
-    ∙ ap (λ (l : List ℕ). flat_map (λ n. block n l) inside.dirty.members) c.deref.ensures.value in
-    let P : List ℕ → List ℕ → List (List ℕ) → Type 0 = λ ns octets cache. (blocks : List (List ℕ)) → AgreeOutside ns blocks cache
-    → laid_over blocks ns (blocks_from 0 (length ns) octets) ≡ cache in
+    let images : c.fill.new.self.images ≡ flat_map (λ n. get_or cache n []) inside.dirty.members =
+    ap (λ (b : BatchView). b.images) c.fill.ensures ∙ ap (λ (l : List ℕ). flat_map (λ n. get_or cache n []) l) c.as_slice.ensures in
+    let P : List ℕ → List ℕ → List (List ℕ) → Type 0 = λ ns octets blocks_are. (blocks : List (List ℕ)) → AgreeOutside ns blocks blocks_are
+    → laid_over blocks ns (blocks_from 0 (length ns) octets) ≡ blocks_are in
     subst (λ (l : List ℕ). P l c.fill.new.self.images c.args.self.now.cache) (sym numbers)
     (subst (λ (l : List ℕ). P inside.dirty.members l c.args.self.now.cache) (sym images)
-    (subst (λ (v : VolumeView). P inside.dirty.members (flat_map (λ n. block n inside.cache.items) inside.dirty.members) v.cache)
-    c.self.view_is
-    (copied_laid inside.staged.bound inside.cache.items inside.dirty.members c.self.invariant.cache_size below)))
+    (subst (λ (v : VolumeView). P inside.dirty.members (flat_map (λ n. get_or cache n []) inside.dirty.members) v.cache) c.self.view_is
+    (copied_laid cache inside.dirty.members c.self.invariant.whole below)))
 
 pub returns-clause-clean : goal.returns-clause-clean
 returns-clause-clean c = search rules
