@@ -17,7 +17,7 @@ from newsd import (
 from playing import Skipped, main
 
 # the octets of an overview up to which its group takes articles
-ROOM = 268423168
+ROOM = 4294950912
 BLOCK = 4096
 POSTERS = 16
 # a server that is told to stop may wait so long for what is under way

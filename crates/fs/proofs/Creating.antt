@@ -34,7 +34,8 @@ module _ (inodes : ℕ) (blocks : List Octets) (room : HasRoom inodes blocks) (f
   free_slot_is k low free =
       let there : 2 + inodes / 64 + k / 64 < length blocks = omega (arith, room.room, room.whole) in
       let whole = room.blocks_whole (2 + inodes / 64 + k / 64) [] there in
-      zeros_are (slot_of inodes blocks k) 64 (length-part (k % 64 * 64) 64 (get_or blocks (bitmap_blocks (length blocks) + inodes / 64 + k / 64) []) (omega arith))
+      zeros_are (slot_of inodes blocks k) 64 (length-part (k % 64 * 64) 64
+          (get_or blocks (bitmap_blocks (length blocks) + inodes / 64 + k / 64) []) (omega arith))
       free.slot_zeros
 
   pub no_free_inode : ((k : ℕ) → k < inodes → slot_of inodes blocks k ≢ replicate 64 0) → HasNoFreeInode inodes blocks
@@ -124,7 +125,8 @@ module _ (inodes at : ℕ) (name : Octets) (a b c : List Octets) (room : HasRoom
         slot_is = then.slot_is ∙ slotted.slot_is;
         inodes_other = λ l below other. then.inodes_other l below other ∙ slotted.inodes_other l below other;
         slots_other = λ l below other. then.slots_other l below other ∙ slotted.slots_other l below other;
-        data_same = λ n high untouched. then.data_same n (omega (arith, high, slotted.count)) untouched ∙ slotted.data_same n high untouched;
+        data_same = λ n high untouched. then.data_same n (omega (arith, high, slotted.count)) untouched
+            ∙ slotted.data_same n high untouched;
       }
 
   untouched : (l b : ℕ) → l < inodes → l ≢ at → Contains (owned (entry inodes a l)) b → ¬ ⊥

@@ -1,5 +1,6 @@
 -- The bitmap, block by block.
-use Rattle.std.proofs.Common.{◌≡◌, ◌<◌, ◌≤◌, ℕ, ◌+◌, ◌-◌, ◌*◌, ◌/◌, ◌%◌, ◌^◌, eqb, List, [], length, get_or, take, drop, sym, ◌∙◌, ap, arith}
+use Rattle.std.proofs.Common.{◌≡◌, ◌<◌, ◌≤◌, ℕ, ◌+◌, ◌-◌, ◌*◌, ◌/◌, ◌%◌, ◌^◌, eqb, List, [], length, get_or, take, drop, sym, ◌∙◌, ap}
+use Rattle.std.proofs.Common.{arith}
 use Rattle.std.proofs.lemmas.List.{get_or-take, get_or-drop}
 use Rattle.model.specs.Stream.{Octets}
 use Rattle.model.specs.Files.{is_marked_used}
@@ -7,7 +8,8 @@ use Rattle.fs_layout.specs.Bits.{bit_of}
 use Rattle.fs_layout.proofs.Counts.{mark_is_bit}
 
 -- the bits of a part of the marks
-bit_in_part : (marks : Octets) (table b : ℕ) → b < 32768 → bit_of (take 4096 (drop (4096 * table) marks)) b ≡ bit_of marks (32768 * table + b)
+bit_in_part : (marks : Octets) (table b : ℕ) → b < 32768
+    → bit_of (take 4096 (drop (4096 * table) marks)) b ≡ bit_of marks (32768 * table + b)
 bit_in_part marks table b low =
     let octet : 4096 * table + b / 8 ≡ (32768 * table + b) / 8 = omega arith in
     let bit : b % 8 ≡ (32768 * table + b) % 8 = omega arith in
@@ -38,4 +40,5 @@ pub all_marks : (blocks : List Octets) (marks : Octets) (tables : ℕ)
     → (b : ℕ) → b < 32768 * tables → is_marked_used blocks b ≡ bit_of marks b
 all_marks blocks marks tables each b low =
     let is : 32768 * (b / 32768) + b % 32768 ≡ b = omega arith in
-    ap (λ (n : ℕ). is_marked_used blocks n) (sym is) ∙ each (b / 32768) (b % 32768) (omega arith) (omega arith) ∙ ap (λ (n : ℕ). bit_of marks n) is
+    ap (λ (n : ℕ). is_marked_used blocks n) (sym is) ∙ each (b / 32768) (b % 32768) (omega arith) (omega arith)
+        ∙ ap (λ (n : ℕ). bit_of marks n) is

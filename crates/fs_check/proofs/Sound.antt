@@ -28,7 +28,8 @@ module _ (inodes : ℕ) (blocks : List Octets) where
         → is_marked_used blocks b ≡ bit_of marks b
     bitmap_from_rule marks used b small = same_from_decides (is_marked_used blocks b) (bit_of marks b) (fs.bits b small) (used b)
 
-  pub rule_from_passes : (marks : Octets) → ((k : ℕ) → k < inodes → IsEntry (first_data (length blocks) inodes) (length blocks) (entry inodes blocks k))
+  pub rule_from_passes : (marks : Octets) → ((k : ℕ) → k < inodes
+      → IsEntry (first_data (length blocks) inodes) (length blocks) (entry inodes blocks k))
       → HasOwners inodes inodes blocks → MarksUsed inodes inodes blocks marks
       → ((b : ℕ) → b < bitmap_bits (length blocks) → is_marked_used blocks b ≡ bit_of marks b) → HasDistinctNames inodes inodes blocks
       → IsFileSystem inodes blocks

@@ -27,7 +27,8 @@ module _ (inodes at : ℕ) (blocks : List Octets) (inode : Octets) (is : inode �
   tables_e = tables_is ∙ ap indirect_for count_e
 
   pub count_few : count ≤ 1048575
-  count_few = let small = entry_small (first_data (length blocks) inodes) (length blocks) (entry inodes blocks at) has in omega (arith, small, count_e)
+  count_few = let small = entry_small (first_data (length blocks) inodes) (length blocks) (entry inodes blocks at) has in
+      omega (arith, small, count_e)
 
   pub tables_few : tables ≤ 1024
   tables_few = omega (arith, count_few, tables_is)
@@ -35,14 +36,16 @@ module _ (inodes at : ℕ) (blocks : List Octets) (inode : Octets) (is : inode �
   pub double_there : 1 < tables → (number_at 56 4 inode ≢ 0) × (number_at 56 4 inode < length blocks)
   double_there more =
       subst (λ (o : Octets). (number_at 56 4 o ≢ 0) × (number_at 56 4 o < length blocks)) (sym is)
-      (entry_double (first_data (length blocks) inodes) (length blocks) (entry inodes blocks at) (omega arith) has (omega (arith, more, tables_e)))
+      (entry_double (first_data (length blocks) inodes) (length blocks) (entry inodes blocks at) (omega arith) has
+          (omega (arith, more, tables_e)))
 
   pub table_there : (p : ℕ) → p < tables
       → (indirect_pointer (entry_of blocks inode []) p ≢ 0) × (indirect_pointer (entry_of blocks inode []) p < length blocks)
   table_there p less =
       subst (λ (o : Octets). (indirect_pointer (entry_of blocks o []) p ≢ 0) × (indirect_pointer (entry_of blocks o []) p < length blocks))
       (sym is)
-      (entry_table (first_data (length blocks) inodes) (length blocks) (entry inodes blocks at) (omega arith) has p (omega (arith, less, tables_e)))
+      (entry_table (first_data (length blocks) inodes) (length blocks) (entry inodes blocks at) (omega arith) has p
+          (omega (arith, less, tables_e)))
 
   abbrev doubles : List ℕ
   doubles = cond (eqb number 0) [] (number ∷ [])

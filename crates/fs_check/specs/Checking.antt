@@ -60,7 +60,8 @@ pub record Marks (count : ℕ) (numbers : List ℕ) (old new : Octets) : Type 0 
 
 -- what the rule of blocks says of the owners, for the first entries
 pub record HasOwners (at inodes : ℕ) (blocks : List Octets) : Type 0 where
-  pub within : (k b : ℕ) → k < at → Contains (owned (entry inodes blocks k)) b → (first_data (length blocks) inodes ≤ b) × (b < length blocks)
+  pub within : (k b : ℕ) → k < at → Contains (owned (entry inodes blocks k)) b
+      → (first_data (length blocks) inodes ≤ b) × (b < length blocks)
   pub distinct : (k : ℕ) → k < at → AreDistinct (owned (entry inodes blocks k))
   pub one_owner : (k l b : ℕ) → k < at → l < at → Contains (owned (entry inodes blocks k)) b → Contains (owned (entry inodes blocks l)) b
       → k ≡ l

@@ -3,7 +3,8 @@
 ghost use Rattle.std.specs.Prelude.{◌≡◌, ◌⊎◌, ℕ, ◌-◌, ◌/◌, ◌<◌, ◌≤◌, ◌↔◌, [], length, IsTrue};
 ghost use Rattle.std.specs.List.{All};
 ghost use Rattle.model.specs.Volume.{number_at};
-ghost use Rattle.model.specs.Files.{HasRoom, entry_of, indirect_for, indirect_pointer, pointer, first_data, most_blocks, most_inodes, most_octets};
+ghost use Rattle.model.specs.Files.{HasRoom, entry_of, indirect_for, indirect_pointer, pointer, first_data, most_blocks, most_inodes};
+ghost use Rattle.model.specs.Files.{most_octets};
 ghost use Rattle.fs_layout.specs.Blocks.{IsThere};
 ghost use Rattle.fs_check.specs.Checking.{IsSlot, HasNumber, HasTables, HasPointers, HasSmallEntry};
 
@@ -64,7 +65,8 @@ fn is_slot(slot: &[u8]) -> bool
 fn has_pointers<B: Blocks>(blocks: &B, inodes: u32, format: u32, inode: &[u8]) -> bool
     requires room { HasRoom inodes (B.blocks blocks.now) }
     requires whole { length inode.now ≡ 64 }
-    ensures { IsTrue result ↔ HasPointers (most_octets format) (first_data (length (B.blocks blocks.now)) inodes) (length (B.blocks blocks.now))
+    ensures { IsTrue result ↔ HasPointers (most_octets format) (first_data (length (B.blocks blocks.now)) inodes)
+        (length (B.blocks blocks.now))
         (entry_of (B.blocks blocks.now) inode.now []) }
 {
     let size = number64(inode, SIZE_AT);
@@ -99,7 +101,8 @@ fn is_within<B: Blocks>(blocks: &B, inodes: u32, number: u32) -> bool
 fn has_double<B: Blocks>(blocks: &B, inodes: u32, inode: &[u8], tables: u32) -> bool
     requires room { HasRoom inodes (B.blocks blocks.now) }
     requires whole { length inode.now ≡ 64 }
-    ensures { IsTrue result ↔ HasNumber (first_data (length (B.blocks blocks.now)) inodes) (length (B.blocks blocks.now)) 1 tables (number_at 56 4 inode.now) }
+    ensures { IsTrue result ↔ HasNumber (first_data (length (B.blocks blocks.now)) inodes) (length (B.blocks blocks.now)) 1 tables
+        (number_at 56 4 inode.now) }
 {
     let double = number32(inode, DOUBLE_AT);
     if 1 < tables {
@@ -121,7 +124,8 @@ fn has_tables<B: Blocks>(blocks: &B, inodes: u32, inode: &[u8], tables: u32) -> 
     requires room { HasRoom inodes (B.blocks blocks.now) }
     requires whole { length inode.now ≡ 64 }
     requires few { tables ≤ 1024 }
-    requires double { HasNumber (first_data (length (B.blocks blocks.now)) inodes) (length (B.blocks blocks.now)) 1 tables (number_at 56 4 inode.now) }
+    requires double { HasNumber (first_data (length (B.blocks blocks.now)) inodes) (length (B.blocks blocks.now)) 1 tables
+        (number_at 56 4 inode.now) }
     ensures { IsTrue result ↔ HasTables (first_data (length (B.blocks blocks.now)) inodes) (length (B.blocks blocks.now)) tables
         (entry_of (B.blocks blocks.now) inode.now []) }
 {
@@ -154,7 +158,8 @@ fn ends_at<B: Blocks>(blocks: &B, inodes: u32, inode: &[u8], from: u32) -> bool
     requires room { HasRoom inodes (B.blocks blocks.now) }
     requires whole { length inode.now ≡ 64 }
     requires few { from ≤ 1048575 }
-    requires double { HasNumber (first_data (length (B.blocks blocks.now)) inodes) (length (B.blocks blocks.now)) 1 (indirect_for from) (number_at 56 4 inode.now) }
+    requires double { HasNumber (first_data (length (B.blocks blocks.now)) inodes) (length (B.blocks blocks.now)) 1 (indirect_for from)
+        (number_at 56 4 inode.now) }
     requires tables { HasTables (first_data (length (B.blocks blocks.now)) inodes) (length (B.blocks blocks.now)) (indirect_for from)
         (entry_of (B.blocks blocks.now) inode.now []) }
     ensures { IsTrue result ↔ ((i : ℕ) → from ≤ i → pointer (entry_of (B.blocks blocks.now) inode.now []) i ≡ 0) }

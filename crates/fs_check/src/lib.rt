@@ -52,7 +52,8 @@ fn are_marked<B: Blocks>(blocks: &B, inodes: u32, marks: &mut [u8]) -> bool
     requires entries { (k : ℕ) → k < inodes → HasEntry inodes (B.blocks blocks.now) k }
     requires whole { length marks.old ≡ 4096 * bitmap_blocks (length (B.blocks blocks.now)) }
     requires clear { All (λ octet. octet ≡ 0) marks.old }
-    ensures owners { OnTrue result (HasOwners inodes inodes (B.blocks blocks.now) × MarksUsed inodes inodes (B.blocks blocks.now) marks.new) }
+    ensures owners { OnTrue result (HasOwners inodes inodes (B.blocks blocks.now)
+        × MarksUsed inodes inodes (B.blocks blocks.now) marks.new) }
     ensures bits { OnTrue result ((b : ℕ) → b < bitmap_bits (length (B.blocks blocks.now))
         → is_marked_used (B.blocks blocks.now) b ≡ bit_of marks.new b) }
     ensures refused { OnFalse result (¬ (IsFileSystem inodes (B.blocks blocks.now))) }

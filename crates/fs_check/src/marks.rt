@@ -4,7 +4,8 @@ ghost use Rattle.std.specs.Prelude.{◌≡◌, ℕ, ◌<◌, ◌≤◌, ◌↔�
 ghost use Rattle.std.specs.List.{range_with_len};
 ghost use Rattle.std.specs.Bool.{OnTrue, OnFalse};
 ghost use Rattle.model.specs.Volume.{number_at};
-ghost use Rattle.model.specs.Files.{HasRoom, entry, entry_of, indirect_for, indirect_pointer, owned, pointer, first_data, is_marked_used, bitmap_bits, bitmap_blocks, most_blocks};
+ghost use Rattle.model.specs.Files.{HasRoom, entry, entry_of, indirect_for, indirect_pointer, owned, pointer, first_data, is_marked_used};
+ghost use Rattle.model.specs.Files.{bitmap_bits, bitmap_blocks, most_blocks};
 ghost use Rattle.fs_layout.specs.Blocks.{IsThere};
 ghost use Rattle.fs_layout.specs.Bits.{bit_of, SetsBit, IsFront};
 ghost use Rattle.fs_check.specs.Checking.{HasEntry, CanMark, Marks, HasOwners, MarksUsed};
@@ -146,7 +147,8 @@ pub fn is_bitmap<B: Blocks>(blocks: &B, marks: &[u8]) -> bool
 fn is_bitmap_block<B: Blocks>(blocks: &B, marks: &[u8], table: u32) -> bool
     requires there { table < length (B.blocks blocks.now) }
     requires whole { 4096 * table + 4096 ≤ length marks.now }
-    ensures { IsTrue result ↔ ((b : ℕ) → b < 32768 → is_marked_used (B.blocks blocks.now) (32768 * table + b) ≡ bit_of marks.now (32768 * table + b)) }
+    ensures { IsTrue result ↔ ((b : ℕ) → b < 32768 → is_marked_used (B.blocks blocks.now) (32768 * table + b)
+        ≡ bit_of marks.now (32768 * table + b)) }
 {
     has_bits(blocks.block(table), block_of(marks, table as usize))
 }

@@ -61,7 +61,8 @@ module _ (inodes k n r number : ℕ) (piece block inode : Octets) (old mid new :
     (fs : IsFileSystem inodes old) (low : k < inodes) (file : IsFile (entry inodes old k))
     (sized : size (entry inodes old k) ≡ 4096 * n + r) (inside : r + length piece ≤ 4096) (some : 0 < length piece)
     (small : size (entry inodes old k) + length piece ≤ largest_file)
-    (ext : Extends (first_data (length old) inodes) n number (entry inodes old k) (inode_entry mid inode) old mid) (block_size : length block ≡ 4096)
+    (ext : Extends (first_data (length old) inodes) n number (entry inodes old k) (inode_entry mid inode) old mid)
+        (block_size : length block ≡ 4096)
     (front : take r block ≡ take r (get_or old (pointer (entry inodes old k) n) []))
     (put_now : PutsRecord (bitmap_blocks (length (set mid number (overwritten r piece block)))) k
     (overwritten 4 (little_bytes 8 (size (entry inodes old k) + length piece)) inode)
@@ -197,7 +198,8 @@ module _ (inodes k n r number : ℕ) (piece block inode : Octets) (old mid new :
       same_inode old new l (put.count ∙ length-set mid number (overwritten r piece block) ∙ ext.count)
       ∙ put.other l other
       ∙ ap (λ (b : Octets). part (l % 64 * 64) 64 b) (
-      get_or-set_other mid number (bitmap_blocks (length old) + l / 64) (overwritten r piece block) [] (omega (arith, number_within.0, room.whole))
+      get_or-set_other mid number (bitmap_blocks (length old) + l / 64) (overwritten r piece block) []
+          (omega (arith, number_within.0, room.whole))
       ∙ mid_reserved (bitmap_blocks (length old) + l / 64) (omega arith) (omega (arith, room.whole)))
 
   entry_is : entry inodes new k ≡ after
@@ -316,7 +318,8 @@ module _ (inodes k n r number : ℕ) (piece block inode : Octets) (old mid new :
   -- ---- the rule of blocks
 
   mark_new : (b : ℕ) → b < bitmap_bits (length old) → is_marked_used new b ≡ is_marked_used mid b
-  mark_new = marks_same mid new (bitmap_blocks (length old)) (λ t few_t. elsewhere t (omega (arith, few_t)) (omega (arith, number_within.0, few_t)))
+  mark_new = marks_same mid new (bitmap_blocks (length old))
+      (λ t few_t. elsewhere t (omega (arith, few_t)) (omega (arith, number_within.0, few_t)))
 
   abbrev touched : ℕ → Type 0
   touched b = Contains (owned_to f (n + 1)) b

@@ -39,7 +39,8 @@ pub record Reowns (inodes k : ℕ) (touched : ℕ → Type 0) (old new : List Oc
   pub taken : (b : ℕ) → Contains (owned (entry inodes new k)) b → is_marked_used new b ≡ true
   pub left : (b : ℕ) → b < bitmap_bits (length old) → Contains (owned (entry inodes old k)) b → ¬ (Contains (owned (entry inodes new k)) b)
       → is_marked_used new b ≡ false
-  pub same : (b : ℕ) → b < bitmap_bits (length old) → ¬ (Contains (owned (entry inodes old k)) b) → ¬ (Contains (owned (entry inodes new k)) b)
+  pub same : (b : ℕ) → b < bitmap_bits (length old) → ¬ (Contains (owned (entry inodes old k)) b)
+      → ¬ (Contains (owned (entry inodes new k)) b)
       → is_marked_used new b ≡ is_marked_used old b
 
 abbrev pub HasDistinctNames : ℕ → List Octets → Type 0
@@ -110,7 +111,8 @@ module _ (inodes k : ℕ) (inode slot : Octets) (touched : ℕ → Type 0) (old 
         owns.same b small (λ had. absurd (omega (arith, (fs.within k b low had).0))) (λ has. absurd (omega (arith, (owns.within b has).0)))
         ∙ was_marked b small (inl reserved)
 
-    other_marked : (l b : ℕ) → b < bitmap_bits (length old) → l < inodes → l ≢ k → Contains (owned (entry inodes old l)) b → is_marked_used new b ≡ true
+    other_marked : (l b : ℕ) → b < bitmap_bits (length old) → l < inodes → l ≢ k → Contains (owned (entry inodes old l)) b
+        → is_marked_used new b ≡ true
     other_marked l b small below other has =
         owns.same b small (λ had. other (fs.one_owner l k b below low has had)) (apart room l b below other has)
         ∙ was_marked b small (inr (l, below, has))

@@ -112,8 +112,9 @@ adds_no_double p inode old other = record {
   blocks = λ b some apart. refl;
 }
 
-module _ (number : ℕ) (inode : Octets) (old mid : List Octets) (size : length inode ≡ 64) (few : length old ≤ most_blocks) (reserved : (b : ℕ)
-    → b < bitmap_blocks (length old) → is_marked_used old b ≡ true) (names : NamesBlocks 1 (inode_entry old inode) old) (zeros : TakesZeros number old mid) where
+module _ (number : ℕ) (inode : Octets) (old mid : List Octets) (size : length inode ≡ 64) (few : length old ≤ most_blocks)
+    (reserved : (b : ℕ) → b < bitmap_blocks (length old) → is_marked_used old b ≡ true)
+    (names : NamesBlocks 1 (inode_entry old inode) old) (zeros : TakesZeros number old mid) where
   abbrev with_number : Octets
   with_number = overwritten 56 (little_bytes 4 number) inode
 
@@ -190,8 +191,9 @@ module _ (i : ℕ) (inode : Octets) (old : List Octets) (other : i % 1024 ≢ 10
     blocks = λ b some apart second. refl;
   }
 
-module _ (i p table : ℕ) (inode inode1 : Octets) (old mid then : List Octets) (few : length old ≤ most_blocks) (reserved : (b : ℕ) → b < bitmap_blocks (length old)
-    → is_marked_used old b ≡ true) (is : i ≡ 1024 * p + 10) (named : NamesBlocks (indirect_for i) (inode_entry old inode) old)
+module _ (i p table : ℕ) (inode inode1 : Octets) (old mid then : List Octets) (few : length old ≤ most_blocks)
+    (reserved : (b : ℕ) → b < bitmap_blocks (length old) → is_marked_used old b ≡ true) (is : i ≡ 1024 * p + 10)
+    (named : NamesBlocks (indirect_for i) (inode_entry old inode) old)
     (zeros : TakesZeros table old mid) (double : AddsDouble p inode inode1 mid then) where
   count_is : indirect_for i ≡ p
   count_is = omega (arith, is)
@@ -445,6 +447,7 @@ module _ (i p table : ℕ) (inode inode1 : Octets) (old mid then : List Octets) 
           ∙ ap (λ (n : ℕ). free_blocks old + with_double n) (sym count_is);
       blocks = λ b some apart second.
           let place : (i - 10) / 1024 ≡ p = omega (arith, is) in
-          puts.blocks b (λ same. apart (same ∙ sym double_is)) ∙ double.blocks b (omega (arith, some, zeros.count)) (λ same. apart (same ∙ sym double_is))
+          puts.blocks b (λ same. apart (same ∙ sym double_is))
+              ∙ double.blocks b (omega (arith, some, zeros.count)) (λ same. apart (same ∙ sym double_is))
           ∙ zeros.blocks b some (λ same. second (same ∙ sym (ap (indirect_pointer f) place ∙ puts.here)));
     }

@@ -16,7 +16,8 @@ use Rattle.model.proofs.Distinct.{distinct_append, distinct_none, distinct_one}
 use Rattle.fs_layout.proofs.Touching.{one_number}
 use Rattle.fs_inodes.proofs.Owners.{contained}
 
-pub takes_one : (number : ℕ) (old mid : List Octets) → length old ≤ most_blocks → TakesBlock number old mid → TakesBlocks (number ∷ []) old mid
+pub takes_one : (number : ℕ) (old mid : List Octets) → length old ≤ most_blocks → TakesBlock number old mid
+    → TakesBlocks (number ∷ []) old mid
 takes_one number old mid few first = record {
   free = λ b has. let is = one_number number b has in
       (omega (arith, first.lowest.below), ap (λ (n : ℕ). is_marked_used old n) is ∙ first.lowest.free);
@@ -49,7 +50,8 @@ takes_none old = record {
 }
 
 -- what was marked stays marked
-pub takes_keep : (fresh : List ℕ) (old new : List Octets) → TakesBlocks fresh old new → (b : ℕ) → b < bitmap_bits (length old) → is_marked_used old b ≡ true
+pub takes_keep : (fresh : List ℕ) (old new : List Octets) → TakesBlocks fresh old new → (b : ℕ) → b < bitmap_bits (length old)
+    → is_marked_used old b ≡ true
     → is_marked_used new b ≡ true
 takes_keep fresh old new takes b small marked = elim (contained fresh b) [
   | inl has ↦ takes.marked b has
@@ -95,7 +97,8 @@ takes_both xs ys old mid new few count_mid count first second = record {
 
 -- blocks after the bitmap change
 pub takes_then : (fresh : List ℕ) (old mid new : List Octets) → length old ≤ most_blocks → length mid ≡ length old → length new ≡ length mid
-    → ((b : ℕ) → b < bitmap_bits (length old) → is_marked_used new b ≡ is_marked_used mid b) → TakesBlocks fresh old mid → TakesBlocks fresh old new
+    → ((b : ℕ) → b < bitmap_bits (length old) → is_marked_used new b ≡ is_marked_used mid b) → TakesBlocks fresh old mid
+        → TakesBlocks fresh old new
 takes_then fresh old mid new few count_mid count same takes = record {
   free = takes.free;
   marked = λ b has. same b (omega (arith, few, (takes.free b has).0)) ∙ takes.marked b has;
@@ -109,13 +112,15 @@ takes_then fresh old mid new few count_mid count same takes = record {
 }
 
 -- still no block below this number is free
-pub none_still : (n : ℕ) (fresh : List ℕ) (old new : List Octets) → length old ≤ most_blocks → length new ≡ length old → TakesBlocks fresh old new
+pub none_still : (n : ℕ) (fresh : List ℕ) (old new : List Octets) → length old ≤ most_blocks → length new ≡ length old
+    → TakesBlocks fresh old new
     → NoneFreeBelow n old → NoneFreeBelow n new
 none_still n fresh old new few count takes none b less low =
     takes_keep fresh old new takes b (omega (arith, few, count, low)) (none b less (omega (arith, count, low)))
 
 -- no block of the bitmap is free
-pub taken_past : (fresh : List ℕ) (old new : List Octets) → TakesBlocks fresh old new → ((b : ℕ) → b < bitmap_blocks (length old) → is_marked_used old b ≡ true)
+pub taken_past : (fresh : List ℕ) (old new : List Octets) → TakesBlocks fresh old new
+    → ((b : ℕ) → b < bitmap_blocks (length old) → is_marked_used old b ≡ true)
     → (b : ℕ) → Contains fresh b → bitmap_blocks (length old) ≤ b
 taken_past fresh old new takes reserved b has = elim (cases_lt b (bitmap_blocks (length old))) [
   | inr past ↦ past

@@ -38,7 +38,8 @@ module _ (p : ℕ) (inode : Octets) (old mid : List Octets) (few : length old �
   taken = names.there p (omega arith)
 
   pub double_there : 0 < p → (bitmap_blocks (length mid) ≤ number_at 56 4 inode) × (number_at 56 4 inode < length mid)
-  double_there some = let double = names.double (omega (arith, some)) in (omega (arith, double.some, first.count), omega (arith, double.there, first.count))
+  double_there some = let double = names.double (omega (arith, some)) in
+      (omega (arith, double.some, first.count), omega (arith, double.there, first.count))
 
   pub double_apart : 0 < p → (q : ℕ) → q ≢ p → indirect_pointer (inode_entry mid inode) q ≢ number_at 56 4 inode
   double_apart some q other same = elim (cases_lt q (p + 1)) [

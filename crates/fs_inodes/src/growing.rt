@@ -34,7 +34,8 @@ pub(crate) fn put_pointer<B: Blocks>(
     requires whole { length inode.old ≡ 64 }
     requires few { i < 1048576 }
     requires double { 1034 ≤ i → IsThere (number_at 56 4 inode.old) (B.blocks blocks.old) }
-    requires indirect { 10 ≤ i → (bitmap_blocks (length (B.blocks blocks.old)) ≤ indirect_pointer (inode_entry (B.blocks blocks.old) inode.old) ((i - 10) / 1024))
+    requires indirect { 10 ≤ i → (bitmap_blocks (length (B.blocks blocks.old))
+            ≤ indirect_pointer (inode_entry (B.blocks blocks.old) inode.old) ((i - 10) / 1024))
         × (indirect_pointer (inode_entry (B.blocks blocks.old) inode.old) ((i - 10) / 1024) < length (B.blocks blocks.old)) }
     requires apart { 10 ≤ i → IsApart ((i - 10) / 1024) (inode_entry (B.blocks blocks.old) inode.old) }
     ensures done { OnOk result (PutsPointer i number inode.old inode.new (B.blocks blocks.old) (B.blocks blocks.new)) }
@@ -59,7 +60,8 @@ pub(crate) fn put_indirect<B: Blocks>(
 ) -> Result<(), AllocError>
     requires whole { length inode.old ≡ 64 }
     requires few { p < 1025 }
-    requires double { 0 < p → (bitmap_blocks (length (B.blocks blocks.old)) ≤ number_at 56 4 inode.old) × (number_at 56 4 inode.old < length (B.blocks blocks.old)) }
+    requires double { 0 < p → (bitmap_blocks (length (B.blocks blocks.old)) ≤ number_at 56 4 inode.old)
+        × (number_at 56 4 inode.old < length (B.blocks blocks.old)) }
     requires apart { 0 < p → (q : ℕ) → q ≢ p → indirect_pointer (inode_entry (B.blocks blocks.old) inode.old) q ≢ number_at 56 4 inode.old }
     ensures done { OnOk result (PutsIndirect p number inode.old inode.new (B.blocks blocks.old) (B.blocks blocks.new)) }
     ensures kept { B.applied blocks.new ≡ B.applied blocks.old }

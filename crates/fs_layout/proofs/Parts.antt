@@ -21,7 +21,8 @@ number_in_part from a n octets fits =
     ∙ ap (λ (l : Octets). little_number n l) (drop-drop a from octets)
 
 -- the kind of an inode in its block
-pub kind_in_block : (inodes : ℕ) (blocks : List Octets) (block : Octets) (t i : ℕ) → i < 64 → block ≡ get_or blocks (bitmap_blocks (length blocks) + t) []
+pub kind_in_block : (inodes : ℕ) (blocks : List Octets) (block : Octets) (t i : ℕ) → i < 64
+    → block ≡ get_or blocks (bitmap_blocks (length blocks) + t) []
     → eqb (kind (entry inodes blocks (0 + 64 * t + i))) 0 ≡ eqb (number_at (64 * (0 + i)) 4 block) 0
 kind_in_block inodes blocks block t i low is =
     let k : ℕ = 0 + 64 * t + i in

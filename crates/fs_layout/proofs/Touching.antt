@@ -31,9 +31,11 @@ not_two x y b other another has =
 
 -- ---- the law
 
-pub same_then : (xs ys : List ℕ) (old mid new : List Octets) → length mid ≡ length old → SameBut xs old mid → SameBut ys mid new → SameBut (ys ++ xs) old new
+pub same_then : (xs ys : List ℕ) (old mid new : List Octets) → length mid ≡ length old → SameBut xs old mid → SameBut ys mid new
+    → SameBut (ys ++ xs) old new
 same_then xs ys old mid new count first second b some lacks =
-    second b (omega (arith, some, count)) (λ has. lacks (Contains-append_left ys xs b has)) ∙ first b some (λ has. lacks (Contains-append_right ys xs b has))
+    second b (omega (arith, some, count)) (λ has. lacks (Contains-append_left ys xs b has))
+        ∙ first b some (λ has. lacks (Contains-append_right ys xs b has))
 
 -- a change that reaches m blocks and then one that reaches n reach m + n
 pub touches_then : (m n : ℕ) (old mid new : List Octets) → Touches m old mid → Touches n mid new → Touches (m + n) old new
@@ -45,14 +47,16 @@ touches_then m n old mid new first second = record {
 }
 
 pub touches_more : (m n : ℕ) (old new : List Octets) → m ≤ n → Touches m old new → Touches n old new
-touches_more m n old new less touches = record { count = touches.count; others = touches.others; few = omega (arith, less, touches.few); same = touches.same }
+touches_more m n old new less touches = record
+    { count = touches.count; others = touches.others; few = omega (arith, less, touches.few); same = touches.same }
 
 pub same_put : (number : ℕ) (block : Octets) (old : List Octets) → SameBut (number ∷ []) old (set old number block)
 same_put number block old b some lacks = get_or-set_other old number b block [] (λ is. lacks (is_first number [] b is))
 
 -- ---- the bitmap alone
 
-pub put_in_bitmap : (number : ℕ) (block : Octets) (old : List Octets) → number < bitmap_blocks (length old) → Touches 0 old (set old number block)
+pub put_in_bitmap : (number : ℕ) (block : Octets) (old : List Octets) → number < bitmap_blocks (length old)
+    → Touches 0 old (set old number block)
 put_in_bitmap number block old low = record {
   count = length-set old number block;
   others = [];
@@ -62,7 +66,8 @@ put_in_bitmap number block old low = record {
 
 -- ---- an inode and its slot
 
-pub inode_then_slot : (inodes k : ℕ) (octets slot : Octets) (old mid new : List Octets) → PutsRecord (bitmap_blocks (length old)) k octets old mid
+pub inode_then_slot : (inodes k : ℕ) (octets slot : Octets) (old mid new : List Octets)
+    → PutsRecord (bitmap_blocks (length old)) k octets old mid
     → PutsRecord (bitmap_blocks (length mid) + inodes / 64) k slot mid new
     → SameBut (inode_block (length old) k ∷ slot_block (length old) inodes k ∷ []) old new
 inode_then_slot inodes k octets slot old mid new first second b some lacks =
@@ -70,7 +75,8 @@ inode_then_slot inodes k octets slot old mid new first second b some lacks =
     (is_first (slot_block (length old) inodes k) [] b (is ∙ ap (λ (n : ℕ). slot_block n inodes k) first.count))))
     ∙ first.blocks b (λ is. lacks (is_first (inode_block (length old) k) (slot_block (length old) inodes k ∷ []) b is))
 
-pub slot_then_inode : (inodes k : ℕ) (octets slot : Octets) (old mid new : List Octets) → PutsRecord (bitmap_blocks (length old) + inodes / 64) k slot old mid
+pub slot_then_inode : (inodes k : ℕ) (octets slot : Octets) (old mid new : List Octets)
+    → PutsRecord (bitmap_blocks (length old) + inodes / 64) k slot old mid
     → PutsRecord (bitmap_blocks (length mid)) k octets mid new → Touches 2 old new
 slot_then_inode inodes k octets slot old mid new first second = record {
   count = second.count ∙ first.count;
@@ -79,7 +85,8 @@ slot_then_inode inodes k octets slot old mid new first second = record {
   same = λ b some lacks.
       second.blocks b (λ is. lacks (is_first (inode_block (length old) k) (slot_block (length old) inodes k ∷ []) b
       (is ∙ ap (λ (n : ℕ). inode_block n k) first.count)))
-      ∙ first.blocks b (λ is. lacks (is_later (inode_block (length old) k) (slot_block (length old) inodes k ∷ []) b (is_first (slot_block (length old) inodes k) [] b is)));
+      ∙ first.blocks b (λ is. lacks (is_later (inode_block (length old) k) (slot_block (length old) inodes k ∷ []) b
+          (is_first (slot_block (length old) inodes k) [] b is)));
 }
 
 -- ---- an inode, and the blocks that name blocks
@@ -227,13 +234,17 @@ module _ (k was size : ℕ) (old new : List Octets) (less : size ≤ was) (no_do
     others = slot_block (length old) inodes k ∷ inode_block (length old) k ∷ named.blocks;
     few = omega (arith, named.few);
     same = λ b some lacks.
-        let slot : b ≢ slot_block (length old) inodes k = λ is. lacks (is_first (slot_block (length old) inodes k) (inode_block (length old) k ∷ named.blocks) b is) in
+        let slot : b ≢ slot_block (length old) inodes k =
+            λ is. lacks (is_first (slot_block (length old) inodes k) (inode_block (length old) k ∷ named.blocks) b is) in
         let other : b ≢ inode_block (length old) k =
-        λ is. lacks (is_later (slot_block (length old) inodes k) (inode_block (length old) k ∷ named.blocks) b (is_first (inode_block (length old) k) named.blocks b is)) in
+        λ is. lacks (is_later (slot_block (length old) inodes k) (inode_block (length old) k ∷ named.blocks) b
+            (is_first (inode_block (length old) k) named.blocks b is)) in
         second b (omega (arith, some, touches.count)) (not_two (inode_block (length new) k) (slot_block (length new) inodes k) b
-        (λ is. other (is ∙ ap (λ (n : ℕ). inode_block n k) touches.count)) (λ is. slot (is ∙ ap (λ (n : ℕ). slot_block n inodes k) touches.count)))
+        (λ is. other (is ∙ ap (λ (n : ℕ). inode_block n k) touches.count))
+            (λ is. slot (is ∙ ap (λ (n : ℕ). slot_block n inodes k) touches.count)))
         ∙ touches.same b some other (named.apart b (omega (arith, some))
-        (λ has. lacks (is_later (slot_block (length old) inodes k) (inode_block (length old) k ∷ named.blocks) b (is_later (inode_block (length old) k) named.blocks b has))));
+        (λ has. lacks (is_later (slot_block (length old) inodes k) (inode_block (length old) k ∷ named.blocks) b
+            (is_later (inode_block (length old) k) named.blocks b has))));
   }
 
 -- ---- data
@@ -246,7 +257,8 @@ pub data_then : (k : ℕ) (xs ys : List ℕ) (from mid_at to : ℕ) (old mid new
 data_then k xs ys from mid_at to old mid new low high first second = record {
   count = second.count ∙ first.count;
   same = λ b some other named lacks.
-      second.same b (omega (arith, some, first.count)) (λ is. other (is ∙ ap (λ (n : ℕ). inode_block n k) first.count)) (λ i above below. named i (omega (arith, above, low)) below)
+      second.same b (omega (arith, some, first.count)) (λ is. other (is ∙ ap (λ (n : ℕ). inode_block n k) first.count))
+          (λ i above below. named i (omega (arith, above, low)) below)
       (λ has. lacks (Contains-append_left ys xs b has))
       ∙ first.same b some other (λ i above below. (
         elim second.double [

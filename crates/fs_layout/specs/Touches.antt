@@ -8,7 +8,8 @@ use Rattle.model.specs.Room.{content_blocks}
 
 -- no block changes except those of the bitmap and these
 abbrev pub SameBut : List ℕ → List Octets → List Octets → Type 0
-SameBut others old new = (b : ℕ) → bitmap_blocks (length old) ≤ b → ¬ (Contains others b) → slice_index_or new b [] ≡ slice_index_or old b []
+SameBut others old new = (b : ℕ) → bitmap_blocks (length old) ≤ b → ¬ (Contains others b)
+    → slice_index_or new b [] ≡ slice_index_or old b []
 
 -- no block changes except those of the bitmap and at most this many others
 pub record Touches (n : ℕ) (old new : List Octets) : Type 0 where
@@ -67,7 +68,8 @@ touched_by_write size place count =
 -- names blocks stays or is freed
 pub record TouchesInode (k from to : ℕ) (old new : List Octets) : Type 0 where
   pub count : length new ≡ length old
-  pub same : (b : ℕ) → bitmap_blocks (length old) ≤ b → b ≢ inode_block (length old) k → NamesNone k from to old b → slice_index_or new b [] ≡ slice_index_or old b []
+  pub same : (b : ℕ) → bitmap_blocks (length old) ≤ b → b ≢ inode_block (length old) k → NamesNone k from to old b
+      → slice_index_or new b [] ≡ slice_index_or old b []
   pub double : (double_of new k ≡ double_of old k) ⊎ (double_of new k ≡ 0)
   pub tables : (p : ℕ) → (table_of new k p ≡ table_of old k p) ⊎ (table_of new k p ≡ 0)
 

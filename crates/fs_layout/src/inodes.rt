@@ -5,7 +5,8 @@ ghost use Rattle.std.specs.List.{range_with_len};
 ghost use Rattle.model.specs.Volume.{number_at};
 ghost use Rattle.fs_layout.specs.Blocks.{IsThere};
 ghost use Rattle.model.specs.Files as files;
-ghost use Rattle.model.specs.Files.{HasRoom, bitmap_blocks, entry, entry_of, first_data, free_inodes, indirect_pointer, pointer, largest_file};
+ghost use Rattle.model.specs.Files.{HasRoom, bitmap_blocks, entry, entry_of, first_data, free_inodes, indirect_pointer, pointer};
+ghost use Rattle.model.specs.Files.{largest_file};
 ghost use Rattle.model.specs.Files.{most_octets};
 
 use crate::marks::BLOCK_BITS;

@@ -86,7 +86,8 @@ pub fn put_slot<B: Blocks>(
     requires few { length (B.blocks blocks.old) ≤ most_blocks }
     requires whole { length octets.now ≡ 64 }
     ensures done { OnOk result
-        (PutsRecord (bitmap_blocks (length (B.blocks blocks.old)) + inodes / 64) at octets.now (B.blocks blocks.old) (B.blocks blocks.new)) }
+        (PutsRecord (bitmap_blocks (length (B.blocks blocks.old)) + inodes / 64) at octets.now (B.blocks blocks.old)
+            (B.blocks blocks.new)) }
     ensures kept { B.applied blocks.new ≡ B.applied blocks.old }
 {
     let first = bitmap_blocks(blocks.len()) + inodes / 64;

@@ -157,7 +157,7 @@ impl<D: Disk> Journal<D> {
         read_format(&self.superblock)
     }
 
-    /// The number of logical blocks, 1,024 to 65,536.
+    /// The number of logical blocks, 1,024 to 4,194,304.
     pub fn blocks(&self) -> u64
         ensures size { result ≡ self.now.size }
         ensures low { 1024 ≤ result }

@@ -43,7 +43,8 @@ early_first k c r is = go k.halted refl (nat_lt (most_dirty (length k.blocks)) (
     go false halted false late = absurd (let none : None ≡ Some r = rw (halted, late) at is in cc none)
 
 -- where no early test fails, the kernel is not halted, and few blocks are dirty
-pub early_none : (k : KernelView) → early_refusal k ≡ None → (k.halted ≡ false) × (nat_lt (most_dirty (length k.blocks)) (length k.dirty) ≡ false)
+pub early_none : (k : KernelView) → early_refusal k ≡ None → (k.halted ≡ false)
+    × (nat_lt (most_dirty (length k.blocks)) (length k.dirty) ≡ false)
 early_none k is = go k.halted refl (nat_lt (most_dirty (length k.blocks)) (length k.dirty)) refl
   where
     go : (h : Bool) → k.halted ≡ h → (b : Bool) → nat_lt (most_dirty (length k.blocks)) (length k.dirty) ≡ b

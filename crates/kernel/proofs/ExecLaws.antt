@@ -30,7 +30,8 @@ use Rattle.spool.specs.View as changed
 use Rattle.std.specs.Cmp.{both_ways}
 use Rattle.std.specs.List.{Contains}
 use Rattle.volume.specs.Volume.{Differs}
-use Rattle.kernel.specs.Kernel.{most_dirty, KernelView, Refusal, NoSession, LaterOut, LaterDirty, Dirties, Executed, Execs, Tested, exec_refusal}
+use Rattle.kernel.specs.Kernel.{most_dirty, KernelView, Refusal, NoSession, LaterOut, LaterDirty, Dirties, Executed, Execs, Tested}
+use Rattle.kernel.specs.Kernel.{exec_refusal}
 use Rattle.kernel.specs.Kernel.{first_failing, is_block, is_dirty, mark_for, mode_at, seat_of, buffered}
 use Rattle.seats.specs.Seats.{Seat, answered_by, with_seat}
 use Rattle.seats.specs.Kept.{RiseFrom}
@@ -67,10 +68,12 @@ module _ (k : KernelView) (sid : ℕ) (m : Message) where
       (not k.halted && is_block m && nat_lt (most_dirty (length k.blocks)) (length k.dirty))) is
 
   pub later_out : is_none (mode_at k sid) ≡ false → nat_le 1048576 (buffered k sid) ≡ true → exec_refusal k sid m ≡ Some LaterOut
-  later_out there many = λ i. by_tests (there i) (many i) (not k.halted && is_block m && nat_lt (most_dirty (length k.blocks)) (length k.dirty))
+  later_out there many = λ i. by_tests (there i) (many i)
+      (not k.halted && is_block m && nat_lt (most_dirty (length k.blocks)) (length k.dirty))
 
   pub later_dirty : is_none (mode_at k sid) ≡ false → nat_le 1048576 (buffered k sid) ≡ false
-      → (not k.halted && is_block m && nat_lt (most_dirty (length k.blocks)) (length k.dirty)) ≡ true → exec_refusal k sid m ≡ Some LaterDirty
+      → (not k.halted && is_block m && nat_lt (most_dirty (length k.blocks)) (length k.dirty)) ≡ true → exec_refusal k sid m
+          ≡ Some LaterDirty
   later_dirty there few many = λ i. by_tests (there i) (few i) (many i)
 
   pub none_fails : is_none (mode_at k sid) ≡ false → nat_le 1048576 (buffered k sid) ≡ false
@@ -271,7 +274,8 @@ module _ (k : Case) where
 
   -- what the kernel keeps, it still keeps after the answer
   pub kept_answered : (s : SpoolView) (seat : Seat) (mark : Mark) → IsSome (mode_of k.seat.session.awaits)
-      → (IsSome (answer_in i.spool k.seat.session k.message k.moment mark).change → length i.spool.dirty ≤ most_dirty (length i.spool.blocks))
+      → (IsSome (answer_in i.spool k.seat.session k.message k.moment mark).change
+          → length i.spool.dirty ≤ most_dirty (length i.spool.blocks))
       → (IsSome (answer_in i.spool k.seat.session k.message k.moment mark).change → IsSpool s)
       → Grows i.spool s (answer_in i.spool k.seat.session k.message k.moment mark).change
       → seat ≡ answered_by i.spool.host i.spool.changes k.message k.moment mark k.read → IsKept was → IsKept (with_one s seat)
@@ -364,11 +368,13 @@ stopped_mode s m t before after is =
     ∙ ap (λ (a : Answer). mode_of a.next.awaits) (stopped_answer s.host s.changes before.session m t))
 
 -- where an article comes, there are few dirty blocks
-pub room_for : (s : SpoolView) (x : Session) (m : Message) (t : ℕ) (mark : Mark) → (is_block m && nat_lt (most_dirty (length s.blocks)) (length s.dirty)) ≡ false
+pub room_for : (s : SpoolView) (x : Session) (m : Message) (t : ℕ) (mark : Mark)
+    → (is_block m && nat_lt (most_dirty (length s.blocks)) (length s.dirty)) ≡ false
     → IsSome (answer_in s x m t mark).change → length s.dirty ≤ most_dirty (length s.blocks)
 room_for s x m t mark early some = go (is_block m) (nat_lt (most_dirty (length s.blocks)) (length s.dirty)) refl refl early
   where
-    go : (a b : Bool) → is_block m ≡ a → nat_lt (most_dirty (length s.blocks)) (length s.dirty) ≡ b → (a && b) ≡ false → length s.dirty ≤ most_dirty (length s.blocks)
+    go : (a b : Bool) → is_block m ≡ a → nat_lt (most_dirty (length s.blocks)) (length s.dirty) ≡ b → (a && b) ≡ false
+        → length s.dirty ≤ most_dirty (length s.blocks)
     go true true is lt both = absurd (cc both)
     go true false is lt both = ltb-false (most_dirty (length s.blocks)) (length s.dirty) lt
     go false b is lt both = absurd (only_blocks_change s x m t mark is some)

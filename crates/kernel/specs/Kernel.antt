@@ -214,7 +214,8 @@ pub record Execs (old new : KernelView) (number : ℕ) (m : Message) (t : ℕ) (
 
 -- the tests of admin and expire that come before any growth
 abbrev pub early_refusal : KernelView → Option Refusal
-early_refusal kernel = first_failing ((kernel.halted, Halted) ∷ (nat_lt (most_dirty (length kernel.blocks)) (length kernel.dirty), LaterDirty) ∷ [])
+early_refusal kernel = first_failing ((kernel.halted, Halted)
+    ∷ (nat_lt (most_dirty (length kernel.blocks)) (length kernel.dirty), LaterDirty) ∷ [])
 
 -- whether a group with the name that the change gives exists already
 abbrev pub makes_again : Spool → Change → Bool
@@ -226,7 +227,8 @@ makes_again S (change.Expire e) = false
 abbrev pub admin_refusal_of : KernelView → Change → Option Refusal
 admin_refusal_of kernel c =
     first_failing (
-    (kernel.halted, Halted) ∷ (nat_lt (most_dirty (length kernel.blocks)) (length kernel.dirty), LaterDirty) ∷ (makes_again kernel.spool c, Exists)
+    (kernel.halted, Halted) ∷ (nat_lt (most_dirty (length kernel.blocks)) (length kernel.dirty), LaterDirty)
+        ∷ (makes_again kernel.spool c, Exists)
     ∷ (is_full (length kernel.blocks) kernel.inodes kernel.spool (Some c), Full) ∷ [])
 
 -- whether the change removes a number that the group does not have
@@ -239,7 +241,8 @@ takes_none S (change.Expire e) = not (has_number S e.group e.number)
 abbrev pub expire_refusal_of : KernelView → Change → Option Refusal
 expire_refusal_of kernel c =
     first_failing (
-    (kernel.halted, Halted) ∷ (nat_lt (most_dirty (length kernel.blocks)) (length kernel.dirty), LaterDirty) ∷ (takes_none kernel.spool c, NotFound)
+    (kernel.halted, Halted) ∷ (nat_lt (most_dirty (length kernel.blocks)) (length kernel.dirty), LaterDirty)
+        ∷ (takes_none kernel.spool c, NotFound)
     ∷ (is_full (length kernel.blocks) kernel.inodes kernel.spool (Some c), Full) ∷ [])
 
 -- the operator's change is accepted: a group is made, or articles are removed from one

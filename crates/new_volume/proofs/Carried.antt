@@ -267,7 +267,8 @@ marks_none device first journal ready = record {
   failures = refl;
 }
 
-module _ {D : Type 0} (device : D → Device) (first tables : ℕ) (old now : JournalView D) (so_far : IsMarking device first tables old now) where
+module _ {D : Type 0} (device : D → Device) (first tables : ℕ) (old now : JournalView D)
+    (so_far : IsMarking device first tables old now) where
   tells_now : IsTrue (device old.disk).tells → IsTrue (device now.disk).tells
   tells_now t = subst (λ (b : Bool). IsTrue b) (sym so_far.time.tells) t
 

@@ -145,7 +145,8 @@ overview_at inodes blocks S p name k its are =
 
 -- ---- one group
 
-pub few_filed : (S : Spool) (name : Octets) (k : ℕ) (its : IsAt S name k) (i : GroupIndex) → i ≡ group_index S its.group → length S ≤ 4194304
+pub few_filed : (S : Spool) (name : Octets) (k : ℕ) (its : IsAt S name k) (i : GroupIndex) → i ≡ group_index S its.group
+    → length S ≤ 4194304
     → length i.filed ≤ 4194304
 few_filed S name k its i is few =
     omega (arith, ap (λ (j : GroupIndex). length j.filed) is, high_is S its.group, high_few S its.group.name, few)

@@ -1,5 +1,6 @@
 -- How many blocks a change dirties.
-use Rattle.std.proofs.Common.{◌≡◌, ◌⊎◌, inl, inr, ◌<◌, ◌≤◌, ◌↔◌, ℕ, zero, suc, ◌+◌, List, [], ◌∷◌, ◌++◌, length, refl, sym, ◌∙◌, arith, length-append}
+use Rattle.std.proofs.Common.{◌≡◌, ◌⊎◌, inl, inr, ◌<◌, ◌≤◌, ◌↔◌, ℕ, zero, suc, ◌+◌, List, [], ◌∷◌, ◌++◌, length, refl, sym, ◌∙◌, arith}
+use Rattle.std.proofs.Common.{length-append}
 use Rattle.std.specs.List.{Contains, range_with_len, remove}
 use Rattle.std.proofs.lemmas.Bool.{cases_eq, cases_lt}
 use Rattle.std.proofs.lemmas.List.FromFn.{length-range_with_len}
@@ -46,7 +47,8 @@ all_touched old new touches = range_with_len 0 (bitmap_blocks (length old)) ++ t
 
 reached : (old new : List Octets) (touches : Touches 254 old new) (k : ℕ) → Differs old new k → Contains (all_touched old new touches) k
 reached old new touches k differs = elim (cases_lt k (bitmap_blocks (length old))) [
-  | inl low ↦ Contains-append_left (range_with_len 0 (bitmap_blocks (length old))) touches.others k (in_range 0 (bitmap_blocks (length old)) k (omega arith) (omega (arith, low)))
+  | inl low ↦ Contains-append_left (range_with_len 0 (bitmap_blocks (length old))) touches.others k
+      (in_range 0 (bitmap_blocks (length old)) k (omega arith) (omega (arith, low)))
   | inr high ↦ elim (contained touches.others k) [
     | inl has ↦ Contains-append_right (range_with_len 0 (bitmap_blocks (length old))) touches.others k has
     | inr none ↦ absurd (differs (sym (touches.same k high none)))

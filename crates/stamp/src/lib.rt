@@ -118,7 +118,8 @@ fn push_date_digits(text: &mut Vec<u8>, date: Parts) -> Result<(), AllocError>
 
 /// Appends the six digits of a moment's time of day, as 014640.
 fn push_clock_digits(text: &mut Vec<u8>, moment: u64) -> Result<(), AllocError>
-    ensures { OnOk result (text.new.items ≡ text.old.items ++ (two_digits (calendar.hour_at moment) ++ two_digits (calendar.minute_at moment)
+    ensures { OnOk result (text.new.items ≡ text.old.items
+        ++ (two_digits (calendar.hour_at moment) ++ two_digits (calendar.minute_at moment)
         ++ two_digits (calendar.second_at moment))) }
 {
     push_two(text, moment % DAY / HOUR)?;

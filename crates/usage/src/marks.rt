@@ -1,6 +1,7 @@
 //! How many blocks a volume's bitmap marks as used, followed from batch to batch.
 
-ghost use Rattle.std.specs.Prelude.{◌≡◌, ◌==◌, ◌<◌, ◌≤◌, ℕ, IfErr, IfOk, IfSome, IsTrue, OnErr, OnOk, length, option_map, position, slice_index_or};
+ghost use Rattle.std.specs.Prelude.{◌≡◌, ◌==◌, ◌<◌, ◌≤◌, ℕ, IfErr, IfOk, IfSome, IsTrue, OnErr, OnOk, length, option_map, position};
+ghost use Rattle.std.specs.Prelude.{slice_index_or};
 ghost use Rattle.std.specs.Prelude.{true};
 ghost use Rattle.journal.specs.Journal.{CountsFailures, IsReady};
 ghost use Rattle.usage.specs.Marks.{AreMarks, IsWhole, image_of, marked_after};

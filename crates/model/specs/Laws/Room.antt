@@ -53,5 +53,5 @@ pub record HasRoomForChange (blocks inodes : ℕ) (S : Spool) (c : Change) : Typ
 
 -- So if the spool is not full, none of a change's calls meets a full file system.
 abbrev pub NotFullHasRoom : Type 0
-NotFullHasRoom = (host : Octets) (blocks inodes : ℕ) (S : Spool) (c : Change) → length S ≤ most_inodes → IsLawful host S → MayFollow host S c →
-    is_full blocks inodes S (Some c) ≡ false → HasRoomForChange blocks inodes S c
+NotFullHasRoom = (host : Octets) (blocks inodes : ℕ) (S : Spool) (c : Change) → length S ≤ most_inodes → IsLawful host S
+    → MayFollow host S c → is_full blocks inodes S (Some c) ≡ false → HasRoomForChange blocks inodes S c

@@ -14,7 +14,8 @@ returns g c =
         | inl less ↦ c.loop-p.invariant p less
         | inr past ↦ inr (
           omega (arith, past, c.table_places-p-end.ensures, c.requires.few),
-          no_table_past (first_data (length (g.B.Blocks.blocks c.args.blocks.now)) c.args.inodes) c.args.tables blocks c.args.inode.now c.requires.room.blocks_whole
+          no_table_past (first_data (length (g.B.Blocks.blocks c.args.blocks.now)) c.args.inodes) c.args.tables blocks c.args.inode.now
+              c.requires.room.blocks_whole
               (omega arith) c.table_places-p-end.result c.table_places-p-end.ensures c.requires.double p (omega (arith, past)),
         )
       ]),

@@ -41,7 +41,8 @@ returns-then-are_zeros g c =
           } in
           (inl free, free_small (most_octets c.args.format) e free)),
       (λ has. c.are_zeros-then-are_zeros.ensures.1
-          (rw c.get_slot.ensures (free_from_entry (first_data (length (g.B.Blocks.blocks c.args.blocks.now)) c.args.inodes) (length blocks) e none has.0).slot_zeros)),
+          (rw c.get_slot.ensures (free_from_entry (first_data (length (g.B.Blocks.blocks c.args.blocks.now)) c.args.inodes)
+              (length blocks) e none has.0).slot_zeros)),
     )
 
 pub returns-else-is_slot : goal.returns-else-is_slot
@@ -51,7 +52,8 @@ returns-else-is_slot g c =
     let is : c.number32.result ≡ kind e = c.number32.ensures ∙ ap (λ (o : List ℕ). number_at 0 4 o) c.get_inode.ensures in (
       (λ slot. absurd (false≢true (sym c.if-is_slot.false ∙ slot))),
       (λ one. c.is_slot.ensures.1 (rw c.get_slot.ensures
-          (slot_from_entry (first_data (length (g.B.Blocks.blocks c.args.blocks.now)) c.args.inodes) (length blocks) e (sym is ∙ c.in-1.is) one.0))),
+          (slot_from_entry (first_data (length (g.B.Blocks.blocks c.args.blocks.now)) c.args.inodes) (length blocks) e
+              (sym is ∙ c.in-1.is) one.0))),
     )
 
 pub returns-in_default : goal.returns-in_default
@@ -62,7 +64,8 @@ returns-in_default g c =
     let other : c.number32.result ≢ 0 = omega arith in
     let another : c.number32.result ≢ 1 = omega arith in (
       (λ slot. absurd (false≢true slot)),
-      (λ one. absurd (no_entry (first_data (length (g.B.Blocks.blocks c.args.blocks.now)) c.args.inodes) (length blocks) e (λ zero. other (is ∙ zero))
+      (λ one. absurd (no_entry (first_data (length (g.B.Blocks.blocks c.args.blocks.now)) c.args.inodes) (length blocks) e
+          (λ zero. other (is ∙ zero))
           (λ first. another (is ∙ first)) one.0)),
     )
 

@@ -14,7 +14,8 @@ content_blocks-count-requires g c =
     omega (
       arith,
       c.number64.ensures ∙ ap (λ (o : List ℕ). number_at 4 8 o) c.get_inode.ensures,
-      entry_small (first_data (length (g.B.Blocks.blocks c.args.blocks.now)) c.args.inodes) (length blocks) (entry c.args.inodes blocks c.args.at) c.requires.entry,
+      entry_small (first_data (length (g.B.Blocks.blocks c.args.blocks.now)) c.args.inodes) (length blocks)
+          (entry c.args.inodes blocks c.args.at) c.requires.entry,
     )
 
 pub returns-then-not-mark_double-clause-refused : goal.returns-then-not-mark_double-clause-refused

@@ -118,8 +118,10 @@ returns-clause-grown g c =
           let is : w.pointer_at-number.result ≡ pointer e n = w.pointer_at-number.ensures
           ∙ ap (λ (o : List ℕ). pointer (entry_of old o []) n) c.get_inode.ensures in
           let blocks_are : mid ≡ old = ap (λ (b : g.row.B.Denot). g.B.Blocks.blocks b) w.blocks-is in (
-            subst (λ (bs : List (List ℕ)). Extends (first_data (length (g.B.Blocks.blocks c.args.blocks.now)) c.args.inodes) n number e (inode_entry bs inode) old bs) (sym blocks_are)
-                (subst (λ (o : List ℕ). Extends (first_data (length (g.B.Blocks.blocks c.args.blocks.now)) c.args.inodes) n number e (inode_entry old o) old old)
+            subst (λ (bs : List (List ℕ)). Extends (first_data (length (g.B.Blocks.blocks c.args.blocks.now)) c.args.inodes) n number e
+                (inode_entry bs inode) old bs) (sym blocks_are)
+                (subst (λ (o : List ℕ). Extends (first_data (length (g.B.Blocks.blocks c.args.blocks.now)) c.args.inodes) n number e
+                    (inode_entry old o) old old)
                 (sym (w.inode-is ∙ c.get_inode.ensures))
                 (extends_last c.args.inodes at n old c.requires.room c.requires.rule c.requires.below c.requires.file few r number parts
                 (omega (arith, w.if-within-eq0.false)) (omega arith) (w.number-is ∙ is))),
@@ -175,8 +177,10 @@ returns-clause-touches g c =
           let is : w.pointer_at-number.result ≡ pointer e n = w.pointer_at-number.ensures
           ∙ ap (λ (o : List ℕ). pointer (entry_of old o []) n) c.get_inode.ensures in
           let blocks_are : mid ≡ old = ap (λ (b : g.row.B.Denot). g.B.Blocks.blocks b) w.blocks-is in (
-            subst (λ (bs : List (List ℕ)). Extends (first_data (length (g.B.Blocks.blocks c.args.blocks.now)) c.args.inodes) n number e (inode_entry bs inode) old bs) (sym blocks_are)
-                (subst (λ (o : List ℕ). Extends (first_data (length (g.B.Blocks.blocks c.args.blocks.now)) c.args.inodes) n number e (inode_entry old o) old old)
+            subst (λ (bs : List (List ℕ)). Extends (first_data (length (g.B.Blocks.blocks c.args.blocks.now)) c.args.inodes) n number e
+                (inode_entry bs inode) old bs) (sym blocks_are)
+                (subst (λ (o : List ℕ). Extends (first_data (length (g.B.Blocks.blocks c.args.blocks.now)) c.args.inodes) n number e
+                    (inode_entry old o) old old)
                 (sym (w.inode-is ∙ c.get_inode.ensures))
                 (extends_last c.args.inodes at n old c.requires.room c.requires.rule c.requires.below c.requires.file few r number parts
                 (omega (arith, w.if-within-eq0.false)) (omega arith) (w.number-is ∙ is))),

@@ -39,7 +39,8 @@ returns-in_default-stop c =
     let held : buffered (was k) c.args.sid ≡ c.buffered.result = size k c.buffered.result c.buffered.ensures in
     let few : nat_le 1048576 (buffered (was k) c.args.sid) ≡ false = lt-leb 1048576 (buffered (was k) c.args.sid) (omega (arith, held)) in
     let passes = none_fails (was k) c.args.sid c.args.received (there k awaited) few
-    (λ j. not (c.if-self.true j) && is_block c.args.received && nat_lt (most_dirty (length c.self.inside.spool.blocks)) (length c.self.inside.spool.dirty)) in
+    (λ j. not (c.if-self.true j) && is_block c.args.received
+        && nat_lt (most_dirty (length c.self.inside.spool.blocks)) (length c.self.inside.spool.dirty)) in
     out_of_memory k c.args.self.now c.self.inside.spool c.stop.new.self c.self.view_is c.in_default-stop.ensures.seat refl passes
 
 pub invariant_of-self-then-self : goal.invariant_of-self-then-self
@@ -62,7 +63,8 @@ returns-then-self c =
     let held : buffered (was k) c.args.sid ≡ c.buffered.result = size k c.buffered.result c.buffered.ensures in
     let few : nat_le 1048576 (buffered (was k) c.args.sid) ≡ false = lt-leb 1048576 (buffered (was k) c.args.sid) (omega (arith, held)) in
     let passes = none_fails (was k) c.args.sid c.args.received (there k awaited) few
-    (λ j. not (c.if-self.true j) && is_block c.args.received && nat_lt (most_dirty (length c.self.inside.spool.blocks)) (length c.self.inside.spool.dirty)) in
+    (λ j. not (c.if-self.true j) && is_block c.args.received
+        && nat_lt (most_dirty (length c.self.inside.spool.blocks)) (length c.self.inside.spool.dirty)) in
     let told = c.in-Ok.ensures.ok s.host s.changes c.args.received c.args.moment in
     done k c.args.self.now s c.stop.new.self (None, mark.Stopped) c.self.view_is passes
     (stopped_mark k c.if-self.true)
@@ -78,7 +80,8 @@ returns-then-is_late c =
     let held : buffered (was k) c.args.sid ≡ c.buffered.result = size k c.buffered.result c.buffered.ensures in
     let few : nat_le 1048576 (buffered (was k) c.args.sid) ≡ false = lt-leb 1048576 (buffered (was k) c.args.sid) (omega (arith, held)) in
     let late : (is_block c.args.received && nat_lt (most_dirty (length s.blocks)) (length s.dirty)) ≡ true =
-    (λ j. is_block (sym c.message.ensures j) && nat_lt (most_dirty (sym c.blocks-2.ensures j)) (sym c.dirty_len.ensures j)) ∙ (sym c.is_late.ensures ∙ c.if-is_late.true) in
+    (λ j. is_block (sym c.message.ensures j) && nat_lt (most_dirty (sym c.blocks-2.ensures j)) (sym c.dirty_len.ensures j))
+        ∙ (sym c.is_late.ensures ∙ c.if-is_late.true) in
     let dirty : (not c.self.inside.halted && is_block c.args.received && nat_lt (most_dirty (length s.blocks)) (length s.dirty)) ≡ true =
     (λ j. not (c.if-self.false j) && is_block c.args.received && nat_lt (most_dirty (length s.blocks)) (length s.dirty)) ∙ late in
     refused k c.args.self.now LaterDirty exec.LaterDirty c.self.view_is
@@ -101,7 +104,8 @@ returns-in_default-serve c =
     let held : buffered (was k) c.args.sid ≡ c.buffered.result = size k c.buffered.result c.buffered.ensures in
     let few : nat_le 1048576 (buffered (was k) c.args.sid) ≡ false = lt-leb 1048576 (buffered (was k) c.args.sid) (omega (arith, held)) in
     let early : (is_block c.args.received && nat_lt (most_dirty (length s.blocks)) (length s.dirty)) ≡ false =
-    (λ j. is_block (sym c.message.ensures j) && nat_lt (most_dirty (sym c.blocks-2.ensures j)) (sym c.dirty_len.ensures j)) ∙ (sym c.is_late.ensures ∙ c.if-is_late.false) in
+    (λ j. is_block (sym c.message.ensures j) && nat_lt (most_dirty (sym c.blocks-2.ensures j)) (sym c.dirty_len.ensures j))
+        ∙ (sym c.is_late.ensures ∙ c.if-is_late.false) in
     let clean : (not c.self.inside.halted && is_block c.args.received && nat_lt (most_dirty (length s.blocks)) (length s.dirty)) ≡ false =
     (λ j. not (c.if-self.false j) && is_block c.args.received && nat_lt (most_dirty (length s.blocks)) (length s.dirty)) ∙ early in
     let passes = none_fails (was k) c.args.sid c.args.received (there k awaited) few clean in
@@ -115,7 +119,8 @@ invariant_of-self-2 c =
     let s = c.self.inside.spool in
     let awaited = awaits k c.is_none.result c.mode.result c.mode.ensures c.is_none.ensures c.if-is_none.false in
     let early : (is_block c.args.received && nat_lt (most_dirty (length s.blocks)) (length s.dirty)) ≡ false =
-    (λ j. is_block (sym c.message.ensures j) && nat_lt (most_dirty (sym c.blocks-2.ensures j)) (sym c.dirty_len.ensures j)) ∙ (sym c.is_late.ensures ∙ c.if-is_late.false) in
+    (λ j. is_block (sym c.message.ensures j) && nat_lt (most_dirty (sym c.blocks-2.ensures j)) (sym c.dirty_len.ensures j))
+        ∙ (sym c.is_late.ensures ∙ c.if-is_late.false) in
     let r = c.in-Ok-serve.ensures.ok in
     let grows : Grows s c.serve.new.spool (answer_in s k.seat.session c.args.received c.args.moment c.in-Ok-serve.done.1).change =
     subst (λ (x : Seat). Grows s c.serve.new.spool (answer_in s x.session c.args.received c.args.moment c.in-Ok-serve.done.1).change)
@@ -133,7 +138,8 @@ returns c =
     let held : buffered (was k) c.args.sid ≡ c.buffered.result = size k c.buffered.result c.buffered.ensures in
     let few : nat_le 1048576 (buffered (was k) c.args.sid) ≡ false = lt-leb 1048576 (buffered (was k) c.args.sid) (omega (arith, held)) in
     let early : (is_block c.args.received && nat_lt (most_dirty (length s.blocks)) (length s.dirty)) ≡ false =
-    (λ j. is_block (sym c.message.ensures j) && nat_lt (most_dirty (sym c.blocks-2.ensures j)) (sym c.dirty_len.ensures j)) ∙ (sym c.is_late.ensures ∙ c.if-is_late.false) in
+    (λ j. is_block (sym c.message.ensures j) && nat_lt (most_dirty (sym c.blocks-2.ensures j)) (sym c.dirty_len.ensures j))
+        ∙ (sym c.is_late.ensures ∙ c.if-is_late.false) in
     let clean : (not c.self.inside.halted && is_block c.args.received && nat_lt (most_dirty (length s.blocks)) (length s.dirty)) ≡ false =
     (λ j. not (c.if-self.false j) && is_block c.args.received && nat_lt (most_dirty (length s.blocks)) (length s.dirty)) ∙ early in
     let passes = none_fails (was k) c.args.sid c.args.received (there k awaited) few clean in
