@@ -35,7 +35,7 @@ module _ (inodes : ℕ) (blocks : List Octets) (room : HasRoom inodes blocks) (f
       let there : 2 + inodes / 64 + k / 64 < length blocks = omega (arith, room.room, room.whole) in
       let whole = room.blocks_whole (2 + inodes / 64 + k / 64) [] there in
       zeros_are (slot_of inodes blocks k) 64 (length-part (k % 64 * 64) 64
-          (get_or blocks (bitmap_blocks (length blocks) + inodes / 64 + k / 64) []) (omega arith))
+      (get_or blocks (bitmap_blocks (length blocks) + inodes / 64 + k / 64) []) (omega arith))
       free.slot_zeros
 
   pub no_free_inode : ((k : ℕ) → k < inodes → slot_of inodes blocks k ≢ replicate 64 0) → HasNoFreeInode inodes blocks

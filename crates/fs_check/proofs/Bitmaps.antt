@@ -41,4 +41,4 @@ pub all_marks : (blocks : List Octets) (marks : Octets) (tables : ℕ)
 all_marks blocks marks tables each b low =
     let is : 32768 * (b / 32768) + b % 32768 ≡ b = omega arith in
     ap (λ (n : ℕ). is_marked_used blocks n) (sym is) ∙ each (b / 32768) (b % 32768) (omega arith) (omega arith)
-        ∙ ap (λ (n : ℕ). bit_of marks n) is
+    ∙ ap (λ (n : ℕ). bit_of marks n) is

@@ -37,7 +37,7 @@ module _ (inodes at : ℕ) (blocks : List Octets) (inode : Octets) (is : inode �
   double_there more =
       subst (λ (o : Octets). (number_at 56 4 o ≢ 0) × (number_at 56 4 o < length blocks)) (sym is)
       (entry_double (first_data (length blocks) inodes) (length blocks) (entry inodes blocks at) (omega arith) has
-          (omega (arith, more, tables_e)))
+      (omega (arith, more, tables_e)))
 
   pub table_there : (p : ℕ) → p < tables
       → (indirect_pointer (entry_of blocks inode []) p ≢ 0) × (indirect_pointer (entry_of blocks inode []) p < length blocks)
@@ -45,7 +45,7 @@ module _ (inodes at : ℕ) (blocks : List Octets) (inode : Octets) (is : inode �
       subst (λ (o : Octets). (indirect_pointer (entry_of blocks o []) p ≢ 0) × (indirect_pointer (entry_of blocks o []) p < length blocks))
       (sym is)
       (entry_table (first_data (length blocks) inodes) (length blocks) (entry inodes blocks at) (omega arith) has p
-          (omega (arith, less, tables_e)))
+      (omega (arith, less, tables_e)))
 
   abbrev doubles : List ℕ
   doubles = cond (eqb number 0) [] (number ∷ [])

@@ -119,6 +119,6 @@ module _ (i number : ℕ) (inode : Octets) (old mid : List Octets) (few : length
         blocks = λ b some apart second.
             puts.blocks b (λ is. second (is ∙ sym (puts.indirect ((i - 10) / 1024))))
             ∙ table.blocks b (omega (arith, some, first.sets.count)) (λ is. apart (is ∙ sym double_is))
-                (λ is. second (is ∙ sym (puts.indirect ((i - 10) / 1024))))
+            (λ is. second (is ∙ sym (puts.indirect ((i - 10) / 1024))))
             ∙ first.sets.blocks b some;
       }

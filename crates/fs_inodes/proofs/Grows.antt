@@ -62,7 +62,7 @@ module _ (inodes k n r number : ℕ) (piece block inode : Octets) (old mid new :
     (sized : size (entry inodes old k) ≡ 4096 * n + r) (inside : r + length piece ≤ 4096) (some : 0 < length piece)
     (small : size (entry inodes old k) + length piece ≤ largest_file)
     (ext : Extends (first_data (length old) inodes) n number (entry inodes old k) (inode_entry mid inode) old mid)
-        (block_size : length block ≡ 4096)
+    (block_size : length block ≡ 4096)
     (front : take r block ≡ take r (get_or old (pointer (entry inodes old k) n) []))
     (put_now : PutsRecord (bitmap_blocks (length (set mid number (overwritten r piece block)))) k
     (overwritten 4 (little_bytes 8 (size (entry inodes old k) + length piece)) inode)
@@ -199,7 +199,7 @@ module _ (inodes k n r number : ℕ) (piece block inode : Octets) (old mid new :
       ∙ put.other l other
       ∙ ap (λ (b : Octets). part (l % 64 * 64) 64 b) (
       get_or-set_other mid number (bitmap_blocks (length old) + l / 64) (overwritten r piece block) []
-          (omega (arith, number_within.0, room.whole))
+      (omega (arith, number_within.0, room.whole))
       ∙ mid_reserved (bitmap_blocks (length old) + l / 64) (omega arith) (omega (arith, room.whole)))
 
   entry_is : entry inodes new k ≡ after

@@ -81,7 +81,7 @@ module _ (i number : ℕ) (inode : Octets) (size : length inode ≡ 64) (fits : 
 
   module _ (blocks : List Octets) (block : Octets) (high : 10 ≤ i) (at : ℕ)
       (at_is : at ≡ indirect_pointer (inode_entry blocks inode) ((i - 10) / 1024)) (some : bitmap_blocks (length blocks) ≤ at)
-          (there : at < length blocks)
+      (there : at < length blocks)
       (apart_from : IsApart ((i - 10) / 1024) (inode_entry blocks inode)) (is : block ≡ get_or blocks at [])
       (whole : length block ≡ 4096) where
     abbrev place : ℕ

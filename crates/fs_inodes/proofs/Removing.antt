@@ -28,7 +28,7 @@ zeros_all = All-replicate (λ o. o ≡ 0) 64 0 refl
 
 module _ (inodes k : ℕ) (a b c : List Octets) (room : HasRoom inodes a) (fs : IsFileSystem inodes a) (low : k < inodes)
     (file : IsFile (entry inodes a k)) (empty : size (entry inodes a k) ≡ 0)
-        (first : PutsRecord (bitmap_blocks (length a)) k (replicate 64 0) a b)
+    (first : PutsRecord (bitmap_blocks (length a)) k (replicate 64 0) a b)
     (second : PutsRecord (bitmap_blocks (length b) + inodes / 64) k (replicate 64 0) b c) where
   puts : PutsEntry inodes k (replicate 64 0) (replicate 64 0) (λ n. ⊥) a c
   puts =

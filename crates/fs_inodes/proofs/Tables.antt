@@ -448,6 +448,6 @@ module _ (i p table : ℕ) (inode inode1 : Octets) (old mid then : List Octets) 
       blocks = λ b some apart second.
           let place : (i - 10) / 1024 ≡ p = omega (arith, is) in
           puts.blocks b (λ same. apart (same ∙ sym double_is))
-              ∙ double.blocks b (omega (arith, some, zeros.count)) (λ same. apart (same ∙ sym double_is))
+          ∙ double.blocks b (omega (arith, some, zeros.count)) (λ same. apart (same ∙ sym double_is))
           ∙ zeros.blocks b some (λ same. second (same ∙ sym (ap (indirect_pointer f) place ∙ puts.here)));
     }

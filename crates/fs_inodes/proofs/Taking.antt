@@ -98,7 +98,7 @@ takes_both xs ys old mid new few count_mid count first second = record {
 -- blocks after the bitmap change
 pub takes_then : (fresh : List ℕ) (old mid new : List Octets) → length old ≤ most_blocks → length mid ≡ length old → length new ≡ length mid
     → ((b : ℕ) → b < bitmap_bits (length old) → is_marked_used new b ≡ is_marked_used mid b) → TakesBlocks fresh old mid
-        → TakesBlocks fresh old new
+    → TakesBlocks fresh old new
 takes_then fresh old mid new few count_mid count same takes = record {
   free = takes.free;
   marked = λ b has. same b (omega (arith, few, (takes.free b has).0)) ∙ takes.marked b has;

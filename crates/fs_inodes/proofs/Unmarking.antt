@@ -27,7 +27,7 @@ puts_both inodes touched a b c first second = record {
 -- and then an inode
 pub puts_then_inode : (inodes k : ℕ) (inode : Octets) (touched : ℕ → Type 0) (a b c : List Octets) → HasRoom inodes a → k < inodes
     → PutsData inodes touched a b → PutsRecord (bitmap_blocks (length b)) k inode b c
-        → PutsEntry inodes k inode (slot_of inodes a k) touched a c
+    → PutsEntry inodes k inode (slot_of inodes a k) touched a c
 puts_then_inode inodes k inode touched a b c room low first second =
     let then = puts_inode inodes k inode b c room.whole low second in
     record {

@@ -46,6 +46,6 @@ pub record DropsPointer (i : ℕ) (inode inode' : Octets) (old new : List Octets
   pub tables : List ℕ
   pub tables_are : tables_to (inode_entry old inode) (indirect_for (i + 1)) ≡ tables_to (inode_entry new inode') (indirect_for i) ++ tables
   pub gives_up : GivesUp (doubles ++ tables) old new
-  pub blocks : (b : ℕ) → bitmap_blocks (length old) ≤ b → b ≢ double_pointer (inode_entry old inode) 
+  pub blocks : (b : ℕ) → bitmap_blocks (length old) ≤ b → b ≢ double_pointer (inode_entry old inode)
       → b ≢ indirect_pointer (inode_entry old inode) ((i - 10) / 1024)
       → slice_index_or new b [] ≡ slice_index_or old b []

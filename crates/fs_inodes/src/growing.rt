@@ -35,7 +35,7 @@ pub(crate) fn put_pointer<B: Blocks>(
     requires few { i < 1048576 }
     requires double { 1034 ≤ i → IsThere (number_at 56 4 inode.old) (B.blocks blocks.old) }
     requires indirect { 10 ≤ i → (bitmap_blocks (length (B.blocks blocks.old))
-            ≤ indirect_pointer (inode_entry (B.blocks blocks.old) inode.old) ((i - 10) / 1024))
+        ≤ indirect_pointer (inode_entry (B.blocks blocks.old) inode.old) ((i - 10) / 1024))
         × (indirect_pointer (inode_entry (B.blocks blocks.old) inode.old) ((i - 10) / 1024) < length (B.blocks blocks.old)) }
     requires apart { 10 ≤ i → IsApart ((i - 10) / 1024) (inode_entry (B.blocks blocks.old) inode.old) }
     ensures done { OnOk result (PutsPointer i number inode.old inode.new (B.blocks blocks.old) (B.blocks blocks.new)) }

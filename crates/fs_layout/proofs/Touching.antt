@@ -35,7 +35,7 @@ pub same_then : (xs ys : List ℕ) (old mid new : List Octets) → length mid �
     → SameBut (ys ++ xs) old new
 same_then xs ys old mid new count first second b some lacks =
     second b (omega (arith, some, count)) (λ has. lacks (Contains-append_left ys xs b has))
-        ∙ first b some (λ has. lacks (Contains-append_right ys xs b has))
+    ∙ first b some (λ has. lacks (Contains-append_right ys xs b has))
 
 -- a change that reaches m blocks and then one that reaches n reach m + n
 pub touches_then : (m n : ℕ) (old mid new : List Octets) → Touches m old mid → Touches n mid new → Touches (m + n) old new
@@ -86,7 +86,7 @@ slot_then_inode inodes k octets slot old mid new first second = record {
       second.blocks b (λ is. lacks (is_first (inode_block (length old) k) (slot_block (length old) inodes k ∷ []) b
       (is ∙ ap (λ (n : ℕ). inode_block n k) first.count)))
       ∙ first.blocks b (λ is. lacks (is_later (inode_block (length old) k) (slot_block (length old) inodes k ∷ []) b
-          (is_first (slot_block (length old) inodes k) [] b is)));
+      (is_first (slot_block (length old) inodes k) [] b is)));
 }
 
 -- ---- an inode, and the blocks that name blocks
@@ -235,16 +235,16 @@ module _ (k was size : ℕ) (old new : List Octets) (less : size ≤ was) (no_do
     few = omega (arith, named.few);
     same = λ b some lacks.
         let slot : b ≢ slot_block (length old) inodes k =
-            λ is. lacks (is_first (slot_block (length old) inodes k) (inode_block (length old) k ∷ named.blocks) b is) in
+        λ is. lacks (is_first (slot_block (length old) inodes k) (inode_block (length old) k ∷ named.blocks) b is) in
         let other : b ≢ inode_block (length old) k =
         λ is. lacks (is_later (slot_block (length old) inodes k) (inode_block (length old) k ∷ named.blocks) b
-            (is_first (inode_block (length old) k) named.blocks b is)) in
+        (is_first (inode_block (length old) k) named.blocks b is)) in
         second b (omega (arith, some, touches.count)) (not_two (inode_block (length new) k) (slot_block (length new) inodes k) b
         (λ is. other (is ∙ ap (λ (n : ℕ). inode_block n k) touches.count))
-            (λ is. slot (is ∙ ap (λ (n : ℕ). slot_block n inodes k) touches.count)))
+        (λ is. slot (is ∙ ap (λ (n : ℕ). slot_block n inodes k) touches.count)))
         ∙ touches.same b some other (named.apart b (omega (arith, some))
         (λ has. lacks (is_later (slot_block (length old) inodes k) (inode_block (length old) k ∷ named.blocks) b
-            (is_later (inode_block (length old) k) named.blocks b has))));
+        (is_later (inode_block (length old) k) named.blocks b has))));
   }
 
 -- ---- data
@@ -258,7 +258,7 @@ data_then k xs ys from mid_at to old mid new low high first second = record {
   count = second.count ∙ first.count;
   same = λ b some other named lacks.
       second.same b (omega (arith, some, first.count)) (λ is. other (is ∙ ap (λ (n : ℕ). inode_block n k) first.count))
-          (λ i above below. named i (omega (arith, above, low)) below)
+      (λ i above below. named i (omega (arith, above, low)) below)
       (λ has. lacks (Contains-append_left ys xs b has))
       ∙ first.same b some other (λ i above below. (
         elim second.double [

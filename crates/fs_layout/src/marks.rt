@@ -35,7 +35,7 @@ fn lowest_free_in<B: Blocks>(blocks: &B, from: u32, table: u32) -> Option<u32>
     requires none { NoneFreeBelow from (B.blocks blocks.now) }
     ensures { MatchOption result
         ((b : ℕ) → 32768 * table ≤ b → b < 32768 * table + 32768 → b < length (B.blocks blocks.now)
-            → is_marked_used (B.blocks blocks.now) b ≡ true)
+        → is_marked_used (B.blocks blocks.now) b ≡ true)
         (λ number. (number < length (B.blocks blocks.now)) × (is_marked_used (B.blocks blocks.now) number ≡ false)
         × ((b : ℕ) → 32768 * table ≤ b → b < number → is_marked_used (B.blocks blocks.now) b ≡ true)) }
 {

@@ -87,7 +87,7 @@ pub fn put_slot<B: Blocks>(
     requires whole { length octets.now ≡ 64 }
     ensures done { OnOk result
         (PutsRecord (bitmap_blocks (length (B.blocks blocks.old)) + inodes / 64) at octets.now (B.blocks blocks.old)
-            (B.blocks blocks.new)) }
+        (B.blocks blocks.new)) }
     ensures kept { B.applied blocks.new ≡ B.applied blocks.old }
 {
     let first = bitmap_blocks(blocks.len()) + inodes / 64;

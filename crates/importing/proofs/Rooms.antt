@@ -91,6 +91,6 @@ used_are s blocks used sound clean agrees is =
     let all : AgreeOutside [] blocks s.blocks = subst (λ (ns : List ℕ). AgreeOutside ns blocks s.blocks) clean agrees in
     let same : all_marked blocks ≡ all_marked s.blocks =
     same_sum (marked blocks) (marked s.blocks) (bitmap_blocks (length blocks))
-        (λ n low. ap used_in (all.same n (λ has. omega (arith, has.1))))
+    (λ n low. ap used_in (all.same n (λ has. omega (arith, has.1))))
     ∙ ap (λ (count : ℕ). sum_of (marked s.blocks) (bitmap_blocks count)) all.count in
     omega (arith, is, same, bits_used s.inodes s.blocks sound.room sound.held.held.rule)

@@ -73,7 +73,7 @@ module _ (k : KernelView) (sid : ℕ) (m : Message) where
 
   pub later_dirty : is_none (mode_at k sid) ≡ false → nat_le 1048576 (buffered k sid) ≡ false
       → (not k.halted && is_block m && nat_lt (most_dirty (length k.blocks)) (length k.dirty)) ≡ true → exec_refusal k sid m
-          ≡ Some LaterDirty
+      ≡ Some LaterDirty
   later_dirty there few many = λ i. by_tests (there i) (few i) (many i)
 
   pub none_fails : is_none (mode_at k sid) ≡ false → nat_le 1048576 (buffered k sid) ≡ false
@@ -275,7 +275,7 @@ module _ (k : Case) where
   -- what the kernel keeps, it still keeps after the answer
   pub kept_answered : (s : SpoolView) (seat : Seat) (mark : Mark) → IsSome (mode_of k.seat.session.awaits)
       → (IsSome (answer_in i.spool k.seat.session k.message k.moment mark).change
-          → length i.spool.dirty ≤ most_dirty (length i.spool.blocks))
+      → length i.spool.dirty ≤ most_dirty (length i.spool.blocks))
       → (IsSome (answer_in i.spool k.seat.session k.message k.moment mark).change → IsSpool s)
       → Grows i.spool s (answer_in i.spool k.seat.session k.message k.moment mark).change
       → seat ≡ answered_by i.spool.host i.spool.changes k.message k.moment mark k.read → IsKept was → IsKept (with_one s seat)

@@ -228,7 +228,7 @@ abbrev pub admin_refusal_of : KernelView → Change → Option Refusal
 admin_refusal_of kernel c =
     first_failing (
     (kernel.halted, Halted) ∷ (nat_lt (most_dirty (length kernel.blocks)) (length kernel.dirty), LaterDirty)
-        ∷ (makes_again kernel.spool c, Exists)
+    ∷ (makes_again kernel.spool c, Exists)
     ∷ (is_full (length kernel.blocks) kernel.inodes kernel.spool (Some c), Full) ∷ [])
 
 -- whether the change removes a number that the group does not have
@@ -242,7 +242,7 @@ abbrev pub expire_refusal_of : KernelView → Change → Option Refusal
 expire_refusal_of kernel c =
     first_failing (
     (kernel.halted, Halted) ∷ (nat_lt (most_dirty (length kernel.blocks)) (length kernel.dirty), LaterDirty)
-        ∷ (takes_none kernel.spool c, NotFound)
+    ∷ (takes_none kernel.spool c, NotFound)
     ∷ (is_full (length kernel.blocks) kernel.inodes kernel.spool (Some c), Full) ∷ [])
 
 -- the operator's change is accepted: a group is made, or articles are removed from one

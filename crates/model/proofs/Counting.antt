@@ -205,8 +205,11 @@ module _ (inodes : ℕ) (blocks : List Octets) (fs : IsFileSystem inodes blocks)
       (range_distinct 0 (first_data (length blocks) inodes))
       (owned_distinct 0 inodes (omega arith)) (λ b reserved later.
       let its = owner 0 inodes b later in
-      omega (arith, (range_has 0 (first_data (length blocks) inodes) b reserved).1,
-          (fs.within its.inode b (omega (arith, its.below)) its.owns).0))
+      omega (
+        arith,
+        (range_has 0 (first_data (length blocks) inodes) b reserved).1,
+        (fs.within its.inode b (omega (arith, its.below)) its.owns).0,
+      ))
 
   used_below : (b : ℕ) → first_data (length blocks) inodes ≤ length blocks → Contains used b → b < length blocks
   used_below b room has = elim (Contains-append_cases (range_with_len 0 (first_data (length blocks) inodes)) (owned_from 0 inodes) b has) [

@@ -189,7 +189,7 @@ shown_apart = (refl, (refl, (refl, (refl, (refl, (refl, tt))))))
 shown_cost : (fs : List Octets)
     → cost fs (codes "Subject") + (cost fs (codes "From") +
     (cost fs (codes "Date") + (cost fs (codes "Message-ID") + (cost fs (codes "References") + cost fs (codes "Newsgroups")))))
-      ≤ length (concat fs)
+    ≤ length (concat fs)
 shown_cost fs =
     omega (
       arith,

@@ -55,7 +55,7 @@ sized blocks inodes are =
     ((leb 64 inodes && leb inodes most_inodes) && (eqb (inodes % 64) 0 && leb (first_data blocks inodes + 256) blocks)) are in
     let bounds = and_parts (leb 1024 blocks) (leb blocks most_blocks) parts.0 in
     let rest = and_parts (leb 64 inodes && leb inodes most_inodes)
-        (eqb (inodes % 64) 0 && leb (first_data blocks inodes + 256) blocks) parts.1 in
+    (eqb (inodes % 64) 0 && leb (first_data blocks inodes + 256) blocks) parts.1 in
     let counts = and_parts (leb 64 inodes) (leb inodes most_inodes) rest.0 in
     let ends = and_parts (eqb (inodes % 64) 0) (leb (first_data blocks inodes + 256) blocks) rest.1 in
     record {

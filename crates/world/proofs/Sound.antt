@@ -205,7 +205,7 @@ did_exec old served number moment (Some mode) (Some found) (Err e) d = (
     told_as : (r : Refusal) → exec_refusal (kernel_of old) number found.0 ≡ Some r → of_exec_error (of_exec r) ≡ of_kernel r
     told_as r is = pick (is_none (mode_at (kernel_of old) number)) (nat_le 1048576 (buffered (kernel_of old) number))
         (not (kernel_of old).halted && is_block found.0
-            && nat_lt (most_dirty (length (kernel_of old).blocks)) (length (kernel_of old).dirty)) r is
+        && nat_lt (most_dirty (length (kernel_of old).blocks)) (length (kernel_of old).dirty)) r is
 
 -- ---- Dev
 

@@ -14,7 +14,7 @@ returns-then-not-branch g c =
     let at = c.loop-at.at in
     let slot = c.get_slot.new.into in
     let file = file_from_slot (first_data (length (g.B.Blocks.blocks c.args.blocks.now)) c.args.inodes)
-        (length blocks) c.args.inodes at blocks slot c.get_slot.ensures
+    (length blocks) c.args.inodes at blocks slot c.get_slot.ensures
     (c.requires.entries at c.loop-at-test.true) c.if-slot-gt0.true in (
       (λ distinct. absurd (false≢true distinct)),
       (λ distinct. absurd (
@@ -33,7 +33,7 @@ loop-at-preserved g c =
     elim c.else-slot-gt0.branch [
       | else-slot-gt0-via-then-slot-gt0+in_ok-insert+else-not-branch w ↦
           let file = file_from_slot (first_data (length (g.B.Blocks.blocks c.args.blocks.now)) c.args.inodes)
-              (length blocks) c.args.inodes at blocks slot c.get_slot.ensures
+          (length blocks) c.args.inodes at blocks slot c.get_slot.ensures
           (c.requires.entries at c.loop-at-test.true) w.if-slot-gt0.true in
           subst (λ (s : BTreeSet (List ℕ)). HasSlots (at + 1) c.args.inodes blocks s) (sym w.slots-is)
           (slots_more at c.args.inodes blocks c.loop-at.slots c.loop-at.invariant slot c.get_slot.ensures file w.insert.new.self
@@ -42,7 +42,7 @@ loop-at-preserved g c =
           subst (λ (s : BTreeSet (List ℕ)). HasSlots (at + 1) c.args.inodes blocks s) (sym w.slots-is)
           (slots_same at c.args.inodes blocks c.loop-at.slots c.loop-at.invariant
           (no_file_from_slot (first_data (length (g.B.Blocks.blocks c.args.blocks.now)) c.args.inodes)
-              (length blocks) c.args.inodes at blocks slot c.get_slot.ensures
+          (length blocks) c.args.inodes at blocks slot c.get_slot.ensures
           (omega (arith, w.if-slot-gt0.false))))
     ]
 

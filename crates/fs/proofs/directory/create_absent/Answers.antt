@@ -41,7 +41,7 @@ returns-clause-created g c =
       there_from_slot c.args.inodes blocks c.requires.rule k c.args.name.now low c.requires.name.0 same,
     )) c.in-Some.ensures
     (subst (λ (s : List ℕ). PutsRecord (bitmap_blocks (length blocks) + c.args.inodes / 64) at s blocks
-        (g.B.Blocks.blocks c.put_slot.new.blocks))
+    (g.B.Blocks.blocks c.put_slot.new.blocks))
     c.slot_for-slot.ensures c.in_ok-put_slot.ensures.done)
     c.in_ok-put_inode.ensures.done
 

@@ -76,7 +76,7 @@ returns-then-size-was-clause-truncated g c =
     (there_from_slot c.args.inodes old c.requires.rule c.in-Some.at c.args.name.now found.below c.requires.name.0 (found.is
     ∙ c.slot_for.ensures))
     c.size_of-was.ensures (omega arith) c.in_ok-shrink_to.ensures.touches.count c.in_ok-shrink_to.ensures.done
-        c.in_ok-shrink_to.ensures.none_taken
+    c.in_ok-shrink_to.ensures.none_taken
 
 pub returns-then-not-has_room_for-clause-full : goal.returns-then-not-has_room_for-clause-full
 returns-then-not-has_room_for-clause-full g c =

@@ -6,5 +6,5 @@ use Rattle.fs.proofs.whole.make_empty.Given as goal
 abbrev pub invariant-loop-table : goal.invariant-loop-table
 invariant-loop-table g l =
     Emptied (first_data (length (g.B.Blocks.blocks l.initial.blocks)) l.inodes) l.table (g.B.Blocks.blocks l.initial.blocks)
-        (g.B.Blocks.blocks l.blocks)
+    (g.B.Blocks.blocks l.blocks)
     × (g.B.Blocks.applied l.blocks ≡ g.B.Blocks.applied l.initial.blocks)

@@ -9,7 +9,7 @@ use Rattle.fs_check.proofs.entry.ends_at.Goals as goal
 pub pointer_at-requires-clause-double : goal.pointer_at-requires-clause-double
 pointer_at-requires-clause-double g c high =
     number_there (first_data (length (g.B.Blocks.blocks c.args.blocks.now)) c.args.inodes)
-        (length (g.B.Blocks.blocks c.args.blocks.now)) 1 (indirect_for c.args.from)
+    (length (g.B.Blocks.blocks c.args.blocks.now)) 1 (indirect_for c.args.from)
     (number_at 56 4 c.args.inode.now) (omega arith) c.requires.double (omega (arith, high, c.tables_for.ensures))
 
 pub pointer_at-requires-clause-indirect : goal.pointer_at-requires-clause-indirect

@@ -42,7 +42,7 @@ returns-then-are_zeros g c =
           (inl free, free_small (most_octets c.args.format) e free)),
       (λ has. c.are_zeros-then-are_zeros.ensures.1
           (rw c.get_slot.ensures (free_from_entry (first_data (length (g.B.Blocks.blocks c.args.blocks.now)) c.args.inodes)
-              (length blocks) e none has.0).slot_zeros)),
+          (length blocks) e none has.0).slot_zeros)),
     )
 
 pub returns-else-is_slot : goal.returns-else-is_slot
@@ -53,7 +53,7 @@ returns-else-is_slot g c =
       (λ slot. absurd (false≢true (sym c.if-is_slot.false ∙ slot))),
       (λ one. c.is_slot.ensures.1 (rw c.get_slot.ensures
           (slot_from_entry (first_data (length (g.B.Blocks.blocks c.args.blocks.now)) c.args.inodes) (length blocks) e
-              (sym is ∙ c.in-1.is) one.0))),
+          (sym is ∙ c.in-1.is) one.0))),
     )
 
 pub returns-in_default : goal.returns-in_default

@@ -10,7 +10,7 @@ add_table-requires-clause-reserved g c b low =
     let number = c.in_ok-number.number in
     takes_keep (number ∷ []) old mid (takes_one number old mid c.requires.count_few c.in_ok-number.ensures.taken) b
     (omega (arith, low, c.in_ok-number.ensures.taken.sets.count))
-        (c.requires.reserved b (omega (arith, low, c.in_ok-number.ensures.taken.sets.count)))
+    (c.requires.reserved b (omega (arith, low, c.in_ok-number.ensures.taken.sets.count)))
 
 pub add_table-requires-clause-names : goal.add_table-requires-clause-names
 add_table-requires-clause-names g c =

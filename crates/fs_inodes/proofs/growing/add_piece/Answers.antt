@@ -121,7 +121,7 @@ returns-clause-grown g c =
             subst (λ (bs : List (List ℕ)). Extends (first_data (length (g.B.Blocks.blocks c.args.blocks.now)) c.args.inodes) n number e
                 (inode_entry bs inode) old bs) (sym blocks_are)
                 (subst (λ (o : List ℕ). Extends (first_data (length (g.B.Blocks.blocks c.args.blocks.now)) c.args.inodes) n number e
-                    (inode_entry old o) old old)
+                (inode_entry old o) old old)
                 (sym (w.inode-is ∙ c.get_inode.ensures))
                 (extends_last c.args.inodes at n old c.requires.room c.requires.rule c.requires.below c.requires.file few r number parts
                 (omega (arith, w.if-within-eq0.false)) (omega arith) (w.number-is ∙ is))),
@@ -180,7 +180,7 @@ returns-clause-touches g c =
             subst (λ (bs : List (List ℕ)). Extends (first_data (length (g.B.Blocks.blocks c.args.blocks.now)) c.args.inodes) n number e
                 (inode_entry bs inode) old bs) (sym blocks_are)
                 (subst (λ (o : List ℕ). Extends (first_data (length (g.B.Blocks.blocks c.args.blocks.now)) c.args.inodes) n number e
-                    (inode_entry old o) old old)
+                (inode_entry old o) old old)
                 (sym (w.inode-is ∙ c.get_inode.ensures))
                 (extends_last c.args.inodes at n old c.requires.room c.requires.rule c.requires.below c.requires.file few r number parts
                 (omega (arith, w.if-within-eq0.false)) (omega arith) (w.number-is ∙ is))),

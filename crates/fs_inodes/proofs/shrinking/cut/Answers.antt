@@ -28,7 +28,7 @@ returns-clause-marks g c =
     let new = g.B.Blocks.blocks c.put_inode.new.blocks in
     let inode = c.put64.ensures ∙ ap (λ (o : List ℕ). overwritten 4 (little_bytes 8 c.args.end) o) c.get_inode.ensures in
     on_ok_weaker {P = PutsRecord (bitmap_blocks (length old)) c.args.at c.put64.new.octets old new} {Q = SameMarks old new}
-        c.put_inode.result
+    c.put_inode.result
     (λ put. cuts_marks c.args.inodes c.args.at c.args.end old new c.requires.room c.requires.rule c.requires.below c.requires.file
     c.requires.shorter c.requires.same_count
     (subst (λ (o : List ℕ). PutsRecord (bitmap_blocks (length old)) c.args.at o old new) inode put))

@@ -118,7 +118,7 @@ returns-clause-touches g c =
     let octets : c.put64.new.octets ≡ overwritten 4 (little_bytes 8 (4096 * last)) inode1 = c.put64.ensures
     ∙ ap (λ (n : ℕ). overwritten 4 (little_bytes 8 n) inode1) times in
     on_ok_weaker {P = PutsRecord (bitmap_blocks (length later)) at c.put64.new.octets later new}
-        {Q = TouchesInode at last (last + 1) old new} c.put_inode.result
+    {Q = TouchesInode at last (last + 1) old new} c.put_inode.result
     (λ put. drops_touches c.args.inodes at last c.pointer_at-number.result inode1 old mid later new c.requires.room c.requires.rule
     c.requires.below c.requires.file c.requires.counted is drop c.in_ok-unmark.ensures.done
     (subst (λ (o : List ℕ). PutsRecord (bitmap_blocks (length later)) at o later new) octets put))

@@ -75,8 +75,10 @@ module _ (inodes at place done : ℕ) (octets : List ℕ) (old new : List (List 
               (replaces_then inodes at (overwritten place (take done octets) (content_of old (entry inodes old at))) old new low
               so_far.replaced (overwritten (place + done) (take (done + some - done) (drop done octets))
               (content_of new (entry inodes new at))) newer then);
-          marks = record { count = marks.count ∙ so_far.marks.count;
-              marks = λ b small. marks.marks b (omega (arith, small, so_far.marks.count)) ∙ so_far.marks.marks b small };
+          marks = record {
+            count = marks.count ∙ so_far.marks.count;
+            marks = λ b small. marks.marks b (omega (arith, small, so_far.marks.count)) ∙ so_far.marks.marks b small;
+          };
           blocks = block ∷ so_far.blocks;
           touched = same_then so_far.blocks (block ∷ []) old new newer so_far.marks.count so_far.touched touches;
           reached = reached_more place done some (length octets) block so_far.blocks so_far.reached early positive whole left;

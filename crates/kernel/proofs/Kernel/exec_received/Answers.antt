@@ -40,7 +40,7 @@ returns-in_default-stop c =
     let few : nat_le 1048576 (buffered (was k) c.args.sid) ≡ false = lt-leb 1048576 (buffered (was k) c.args.sid) (omega (arith, held)) in
     let passes = none_fails (was k) c.args.sid c.args.received (there k awaited) few
     (λ j. not (c.if-self.true j) && is_block c.args.received
-        && nat_lt (most_dirty (length c.self.inside.spool.blocks)) (length c.self.inside.spool.dirty)) in
+    && nat_lt (most_dirty (length c.self.inside.spool.blocks)) (length c.self.inside.spool.dirty)) in
     out_of_memory k c.args.self.now c.self.inside.spool c.stop.new.self c.self.view_is c.in_default-stop.ensures.seat refl passes
 
 pub invariant_of-self-then-self : goal.invariant_of-self-then-self
@@ -64,7 +64,7 @@ returns-then-self c =
     let few : nat_le 1048576 (buffered (was k) c.args.sid) ≡ false = lt-leb 1048576 (buffered (was k) c.args.sid) (omega (arith, held)) in
     let passes = none_fails (was k) c.args.sid c.args.received (there k awaited) few
     (λ j. not (c.if-self.true j) && is_block c.args.received
-        && nat_lt (most_dirty (length c.self.inside.spool.blocks)) (length c.self.inside.spool.dirty)) in
+    && nat_lt (most_dirty (length c.self.inside.spool.blocks)) (length c.self.inside.spool.dirty)) in
     let told = c.in-Ok.ensures.ok s.host s.changes c.args.received c.args.moment in
     done k c.args.self.now s c.stop.new.self (None, mark.Stopped) c.self.view_is passes
     (stopped_mark k c.if-self.true)
@@ -81,7 +81,7 @@ returns-then-is_late c =
     let few : nat_le 1048576 (buffered (was k) c.args.sid) ≡ false = lt-leb 1048576 (buffered (was k) c.args.sid) (omega (arith, held)) in
     let late : (is_block c.args.received && nat_lt (most_dirty (length s.blocks)) (length s.dirty)) ≡ true =
     (λ j. is_block (sym c.message.ensures j) && nat_lt (most_dirty (sym c.blocks-2.ensures j)) (sym c.dirty_len.ensures j))
-        ∙ (sym c.is_late.ensures ∙ c.if-is_late.true) in
+    ∙ (sym c.is_late.ensures ∙ c.if-is_late.true) in
     let dirty : (not c.self.inside.halted && is_block c.args.received && nat_lt (most_dirty (length s.blocks)) (length s.dirty)) ≡ true =
     (λ j. not (c.if-self.false j) && is_block c.args.received && nat_lt (most_dirty (length s.blocks)) (length s.dirty)) ∙ late in
     refused k c.args.self.now LaterDirty exec.LaterDirty c.self.view_is
@@ -105,7 +105,7 @@ returns-in_default-serve c =
     let few : nat_le 1048576 (buffered (was k) c.args.sid) ≡ false = lt-leb 1048576 (buffered (was k) c.args.sid) (omega (arith, held)) in
     let early : (is_block c.args.received && nat_lt (most_dirty (length s.blocks)) (length s.dirty)) ≡ false =
     (λ j. is_block (sym c.message.ensures j) && nat_lt (most_dirty (sym c.blocks-2.ensures j)) (sym c.dirty_len.ensures j))
-        ∙ (sym c.is_late.ensures ∙ c.if-is_late.false) in
+    ∙ (sym c.is_late.ensures ∙ c.if-is_late.false) in
     let clean : (not c.self.inside.halted && is_block c.args.received && nat_lt (most_dirty (length s.blocks)) (length s.dirty)) ≡ false =
     (λ j. not (c.if-self.false j) && is_block c.args.received && nat_lt (most_dirty (length s.blocks)) (length s.dirty)) ∙ early in
     let passes = none_fails (was k) c.args.sid c.args.received (there k awaited) few clean in
@@ -120,7 +120,7 @@ invariant_of-self-2 c =
     let awaited = awaits k c.is_none.result c.mode.result c.mode.ensures c.is_none.ensures c.if-is_none.false in
     let early : (is_block c.args.received && nat_lt (most_dirty (length s.blocks)) (length s.dirty)) ≡ false =
     (λ j. is_block (sym c.message.ensures j) && nat_lt (most_dirty (sym c.blocks-2.ensures j)) (sym c.dirty_len.ensures j))
-        ∙ (sym c.is_late.ensures ∙ c.if-is_late.false) in
+    ∙ (sym c.is_late.ensures ∙ c.if-is_late.false) in
     let r = c.in-Ok-serve.ensures.ok in
     let grows : Grows s c.serve.new.spool (answer_in s k.seat.session c.args.received c.args.moment c.in-Ok-serve.done.1).change =
     subst (λ (x : Seat). Grows s c.serve.new.spool (answer_in s x.session c.args.received c.args.moment c.in-Ok-serve.done.1).change)
@@ -139,7 +139,7 @@ returns c =
     let few : nat_le 1048576 (buffered (was k) c.args.sid) ≡ false = lt-leb 1048576 (buffered (was k) c.args.sid) (omega (arith, held)) in
     let early : (is_block c.args.received && nat_lt (most_dirty (length s.blocks)) (length s.dirty)) ≡ false =
     (λ j. is_block (sym c.message.ensures j) && nat_lt (most_dirty (sym c.blocks-2.ensures j)) (sym c.dirty_len.ensures j))
-        ∙ (sym c.is_late.ensures ∙ c.if-is_late.false) in
+    ∙ (sym c.is_late.ensures ∙ c.if-is_late.false) in
     let clean : (not c.self.inside.halted && is_block c.args.received && nat_lt (most_dirty (length s.blocks)) (length s.dirty)) ≡ false =
     (λ j. not (c.if-self.false j) && is_block c.args.received && nat_lt (most_dirty (length s.blocks)) (length s.dirty)) ∙ early in
     let passes = none_fails (was k) c.args.sid c.args.received (there k awaited) few clean in

@@ -10,5 +10,5 @@ invariant-loop-table g l = IsReady l.journal × (l.journal.label ≡ l.initial.j
     × ((g.D.Disk.device l.journal.disk).failures ≡ (g.D.Disk.device l.initial.journal.disk).failures)
     × (IsTrue (g.D.Disk.device l.initial.journal.disk).tells → l.journal.blocks ≡ l.initial.journal.blocks)
     × (IsTrue (g.D.Disk.device l.initial.journal.disk).tells → (t : ℕ) → t < l.table
-        → get_or l.bits t 0 ≡ marked l.initial.journal.blocks t)
+    → get_or l.bits t 0 ≡ marked l.initial.journal.blocks t)
     × (length l.bits ≡ 128)
