@@ -1,7 +1,8 @@
 -- A journal with no batch in flight.
-use Rattle.std.proofs.Common.{◌≡◌, inl, inr, ◌<◌, ◌≤◌, ℕ, ◌+◌, Bool, true, false, cond, List, [], length, get_or, map, take, refl, sym, ◌∙◌}
+use Rattle.std.proofs.Common.{◌≡◌, inl, inr, ◌<◌, ◌≤◌, ℕ, ◌+◌, ◌-◌, Bool, true, false, cond, List, [], length, get_or, map, take, drop, refl, sym, ◌∙◌}
 use Rattle.std.proofs.Common.{ap, subst, arith}
-use Rattle.std.proofs.lemmas.List.{map_more}
+use Rattle.std.proofs.lemmas.List.{drop-drop, drop-take, map_more, take-take}
+use Rattle.disk.specs.Image.{part}
 use Rattle.disk.specs.Device.{Device}
 use Rattle.segment_laws.specs.Held.{AreOpen, batches_of}
 use Rattle.segment_laws.proofs.Standing.{get_or-home, length-home}
@@ -55,3 +56,12 @@ module _ (device : Device) (blocks : ℕ) (label : List ℕ) (next : Next) (halt
 
   pub idle_size : length (home x) ≡ blocks
   idle_size = length-home x ∙ told.size
+
+-- what a read leaves of a part of it
+pub part_of_part : (a n b m : ℕ) (x : List ℕ) → b + m ≤ n → part b m (part a n x) ≡ part (a + b) m x
+part_of_part a n b m x fits =
+    let all : n ≡ b + (n - b) = omega (arith, fits) in
+    ap (λ (k : ℕ). take m (drop b (take k (drop a x)))) all
+    ∙ ap (λ (l : List ℕ). take m l) (drop-take b (n - b) (drop a x))
+    ∙ take-take m (n - b) (drop b (drop a x)) (omega (arith, fits))
+    ∙ ap (λ (l : List ℕ). take m l) (drop-drop b a x)

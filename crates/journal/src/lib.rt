@@ -137,8 +137,8 @@ pub struct Refused<D> {
 
 impl<D: Disk> Journal<D> {
     ghost use Rattle.disk.specs.Device.{Elapses, IsRead};
-    ghost use Rattle.std.specs.Prelude.{slice_index_or, [], ◌*◌};
-    ghost use Rattle.model.specs.Volume.{home_place};
+    ghost use Rattle.std.specs.Prelude.{slice_index_or, [], ◌*◌, ◌+◌, ℕ};
+    ghost use Rattle.model.specs.Volume.{block, home_place};
     ghost use Rattle.journal.specs.Journal.{CountsFailures, HasWholeBlocks, IsIdle, IsReady, IsSameBatch, LeavesAdmitted, LeftAdmitted};
 
     /// The 128 octets of the volume's label.
@@ -179,15 +179,17 @@ impl<D: Disk> Journal<D> {
         !self.halted && stepping::is_idle(self.next)
     }
 
-    /// Reads a logical block of 4,096 octets while no batch is in flight, with one read of the device.
+    /// Reads logical blocks of 4,096 octets from `start` on, as many as `into` has room for, while no batch is in flight. It is one
+    /// read of the device.
     ///
     /// The only refusal is `Fault`, which leaves any octets in `into` and halts the journal for good.
-    pub fn load(&mut self, block: u64, into: &mut [u8]) -> Result<(), JournalError>
+    pub fn load(&mut self, start: u64, into: &mut [u8]) -> Result<(), JournalError>
         requires idle { IsIdle self.old }
         requires running { self.old.halted ≡ false }
-        requires below { block < self.old.size }
-        requires room { length into.old ≡ 4096 }
-        ensures value { IsTrue (D.device self.old.disk).tells → OnOk result (into.new ≡ slice_index_or self.old.blocks block []) }
+        requires below { 4096 * start + length into.old ≤ 4096 * self.old.size }
+        ensures value { IsTrue (D.device self.old.disk).tells → OnOk result ((k : ℕ) → 4096 * k + 4096 ≤ length into.old
+            → block k into.new ≡ slice_index_or self.old.blocks (start + k) []) }
+        ensures room { length into.new ≡ length into.old }
         ensures same { IsSameBatch self.old self.new }
         ensures blocks { IsTrue (D.device self.old.disk).tells → self.new.blocks ≡ self.old.blocks }
         ensures next { IsIdle self.new }
@@ -203,11 +205,11 @@ impl<D: Disk> Journal<D> {
     {
         match self
             .disk
-            .read(start_of(home_block(self.room.len() as u32, block)), into)
+            .read(start_of(home_block(self.room.len() as u32, start)), into)
         {
             Ok(()) => {
                 let open = lowest_closed(self.is_last, self.filled);
-                lay_over(&self.room, open, block, into);
+                lay_over(&self.room, open, start, into);
                 Ok(())
             }
             Err(_) => {

@@ -2,4 +2,5 @@ pub mod Batches
 pub mod Gates
 pub mod Laid
 pub mod Loading
+pub mod Pieces
 pub mod Written

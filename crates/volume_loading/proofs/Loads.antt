@@ -1,15 +1,15 @@
 -- Loads one after the other.
-use Rattle.std.proofs.Common.{◌≡◌, inl, inr, ◌<◌, ◌≤◌, ℕ, ◌+◌, [], get_or, set, false, IsTrue, List, length, refl, sym, ◌∙◌, ap, subst}
+use Rattle.std.proofs.Common.{◌≡◌, inl, inr, ◌<◌, ◌≤◌, ℕ, ◌+◌, ◌-◌, ◌*◌, [], get_or, set, false, IsTrue, List, length, refl, sym, ◌∙◌, ap, subst}
 use Rattle.std.proofs.Common.{arith}
 use Rattle.disk.specs.Device.{Device}
 use Rattle.journal.specs.Inside.{IsAdmitted}
 use Rattle.journal.specs.declared.Next.{Next}
 use Rattle.std.proofs.lemmas.List.{ext_get_or, get_or-set_same, get_or-set_other}
-use Rattle.std.proofs.lemmas.Bool.{cases_eq}
+use Rattle.std.proofs.lemmas.Bool.{cases_eq, cases_lt}
 use Rattle.model.specs.Volume.{laid_over}
 use Rattle.journal.specs.Journal.{JournalView, IsIdle, LeavesAdmitted, Admits, HasWholeBlocks, with_batch}
 use Rattle.journal.proofs.During.{same_itself, same_then}
-use Rattle.volume_loading.specs.Opening.{Loads}
+use Rattle.volume_loading.specs.Opening.{ArePut, Loads}
 
 module _ {D : Type 0} (device : D → Device) where
   -- at the start
@@ -74,32 +74,55 @@ module _ {D : Type 0} (device : D → Device) where
     pub running : now.halted ≡ false
     pub failures : (device now.disk).failures ≡ (device old.disk).failures
     pub room : length cache ≡ length start
-    pub blocks : IsTrue (device old.disk).tells → (k : ℕ) → k < number → get_or cache k [] ≡ get_or old.blocks k []
+    pub blocks : IsTrue (device old.disk).tells → (k : ℕ) → k < number → k < length start → get_or cache k [] ≡ get_or old.blocks k []
 
-  pub loaded_more : (number : ℕ) (start cache cache' : List (List ℕ)) (old now new : JournalView D) → AreLoaded number start cache old now
-      → number < length start → length cache' ≡ length cache
-      → (IsTrue (device now.disk).tells → cache' ≡ set cache number (get_or now.blocks number [])) → Loads device now new
-      → new.halted ≡ false → (device new.disk).failures ≡ (device now.disk).failures → AreLoaded (number + 1) start cache' old new
-  loaded_more number start cache cache' old now new so_far low size put loads running failures = record {
+  -- a piece after them
+  pub loaded_more : (number octets : ℕ) (start cache cache' : List (List ℕ)) (old now new : JournalView D) → AreLoaded number start cache old now
+      → length cache' ≡ length cache
+      → (IsTrue (device now.disk).tells → ArePut number octets (λ k. get_or now.blocks (number + k) []) cache cache') → Loads device now new
+      → new.halted ≡ false → (device new.disk).failures ≡ (device now.disk).failures
+      → (next : ℕ) → ((k : ℕ) → k < next → k < length start → 4096 * k + 4096 ≤ 4096 * number + octets)
+      → AreLoaded next start cache' old new
+  loaded_more number octets start cache cache' old now new so_far size put loads running failures next fits = record {
     loads = loads_then old now new so_far.loads loads;
     running = running;
     failures = failures ∙ so_far.failures;
     room = size ∙ so_far.room;
-    blocks = λ tells k below.
-        let put_is : cache' ≡ set cache number (get_or old.blocks number []) = put (so_far.loads.time.tells ∙ tells)
-        ∙ ap (λ (b : List (List ℕ)). set cache number (get_or b number [])) (so_far.loads.blocks tells) in
-        ap (λ (b : List (List ℕ)). get_or b k []) put_is ∙ elim (cases_eq k number) [
-          | inl same ↦ ap (λ (j : ℕ). get_or (set cache number (get_or old.blocks number [])) j []) same
-              ∙ get_or-set_same cache number (get_or old.blocks number []) [] (omega (arith, so_far.room))
-              ∙ ap (λ (j : ℕ). get_or old.blocks j []) (sym same)
-          | inr other ↦ get_or-set_other cache number k (get_or old.blocks number []) [] other ∙ so_far.blocks tells k (omega arith)
+    blocks = λ tells k below there.
+        let told = so_far.loads.time.tells ∙ tells in
+        elim (cases_lt k number) [
+          | inl early ↦ (put told).before k early ∙ so_far.blocks tells k early there
+          | inr later ↦
+              let at : number + (k - number) ≡ k = omega (arith, later) in
+              ap (λ (n : ℕ). get_or cache' n []) (sym at)
+              ∙ (put told).put (k - number) (omega (arith, fits k below there, later))
+              ∙ ap (λ (n : ℕ). get_or now.blocks n []) at
+              ∙ ap (λ (b : List (List ℕ)). get_or b k []) (so_far.loads.blocks tells)
         ];
   }
 
-  pub loaded_all : (number count : ℕ) (start cache : List (List ℕ)) (old now : JournalView D) → AreLoaded number start cache old now
-      → HasWholeBlocks device old → old.size ≡ count → length start ≡ count → count ≤ number → IsTrue (device old.disk).tells
-      → cache ≡ old.blocks
-  loaded_all number count start cache old now so_far whole counted room ends tells =
+  pub loaded_all : (number : ℕ) (start cache : List (List ℕ)) (old now : JournalView D) → AreLoaded number start cache old now
+      → HasWholeBlocks device old → length start ≡ old.size → length start ≤ number → IsTrue (device old.disk).tells → cache ≡ old.blocks
+  loaded_all number start cache old now so_far whole room all tells =
       let sizes = whole tells in
-      let size : length cache ≡ count = so_far.room ∙ room in
-      ext_get_or [] cache old.blocks (size ∙ sym (sizes.count ∙ counted)) (λ k low. so_far.blocks tells k (omega arith))
+      ext_get_or [] cache old.blocks (so_far.room ∙ room ∙ sym sizes.count)
+      (λ k low. so_far.blocks tells k (omega (arith, low, so_far.room, all)) (omega (arith, low, so_far.room)))
+
+-- one block after the others
+pub put_more : (start k : ℕ) (given : ℕ → List ℕ) (old now new : List (List ℕ)) → ArePut start (4096 * k) given old now
+    → start + k < length now → new ≡ set now (start + k) (given k) → ArePut start (4096 * (k + 1)) given old new
+put_more start k given old now new so_far there is = record {
+  put = λ n fits.
+      ap (λ (b : List (List ℕ)). get_or b (start + n) []) is
+      ∙ elim (cases_eq n k) [
+        | inl same ↦ ap (λ (m : ℕ). get_or (set now (start + k) (given k)) (start + m) []) same
+            ∙ get_or-set_same now (start + k) (given k) [] there
+            ∙ ap given (sym same)
+        | inr other ↦ get_or-set_other now (start + k) (start + n) (given k) [] (λ e. other (omega (arith, e)))
+            ∙ so_far.put n (omega (arith, fits, other))
+      ];
+  before = λ n early.
+      ap (λ (b : List (List ℕ)). get_or b n []) is
+      ∙ get_or-set_other now (start + k) n (given k) [] (λ e. absurd (omega (arith, e, early)))
+      ∙ so_far.before n early;
+}

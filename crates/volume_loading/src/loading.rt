@@ -1,16 +1,21 @@
 //! The reads of a load.
 
-ghost use Rattle.std.specs.Prelude.{◌≡◌, ◌≢◌, ◌<◌, [], length, slice_index_or, slice_set, IfOk, IfErr, OnOk};
+ghost use Rattle.std.specs.Prelude.{◌≡◌, ◌≢◌, ◌+◌, ◌*◌, ◌^◌, ◌<◌, ◌≤◌, [], length, slice_index_or, IfOk, IfErr, OnOk};
 ghost use Rattle.std.specs.Prelude.{IsTrue, true, false};
 ghost use Rattle.journal.specs.Journal.{HasWholeBlocks, IsReady, LeavesAdmitted};
-ghost use Rattle.volume_loading.specs.Opening.{Loads};
+ghost use Rattle.volume_loading.specs.Opening.{ArePut, Loads};
+ghost use Rattle.model.specs.Volume.{block};
 
 use crate::errors::LoadError;
-use blocks::BLOCK_SIZE;
+use blocks::{BLOCK_SIZE, block_of};
 use disk::Disk;
 use journal::Journal;
-use std::alloc::Global;
+use octet_numbers::zeros;
+use std::alloc::{AllocError, Global};
 use volume::{Chunks, NumberSet, Volume};
+
+/// The most blocks that one read of the device loads: a mebibyte.
+const PIECE_BLOCKS: u32 = 256;
 
 /// Loads all logical blocks of a journal after its opening and before its first batch. Nothing is staged, and
 /// nothing is dirty. `Fault` halts the journal. `Memory` may come after some reads, and leaves the journal ready.
@@ -34,21 +39,22 @@ pub fn open<D: Disk>(alloc: Global, journal: &mut Journal<D>) -> Result<Volume, 
     let mut cache = Chunks::new(alloc, count)?;
     let staged = NumberSet::new(alloc, count)?;
     let dirty = NumberSet::new(alloc, count)?;
-    load_all(journal, &mut cache, count)?;
+    let mut piece = zeros(alloc, PIECE_BLOCKS as usize * BLOCK_SIZE)?;
+    load_all(journal, &mut cache, &mut piece)?;
     Ok(Volume::with_sets(alloc, cache, staged, dirty))
 }
 
-// Loads all blocks into their places.
+// Loads all blocks into their places, a piece after the other.
 fn load_all<D: Disk>(
     journal: &mut Journal<D>,
     cache: &mut Chunks,
-    count: u32,
+    piece: &mut [u8],
 ) -> Result<(), LoadError>
     requires ready { IsReady journal.old }
     requires now { LeavesAdmitted D.device journal.old }
     requires whole { HasWholeBlocks D.device journal.old }
-    requires count { journal.old.size ≡ count }
-    requires room { length cache.old.blocks ≡ count }
+    requires count { length cache.old.blocks ≡ journal.old.size }
+    requires room { length piece.old ≡ 1048576 }
     ensures loaded { IsTrue (D.device journal.old.disk).tells → OnOk result (cache.new.blocks ≡ journal.old.blocks) }
     ensures count { length cache.new.blocks ≡ length cache.old.blocks }
     ensures loads { Loads D.device journal.old journal.new }
@@ -59,24 +65,36 @@ fn load_all<D: Disk>(
     ensures fault { IfErr result (λ e. e ≡ LoadError.Fault → (journal.new.halted ≡ true)
         × ((D.device journal.new.disk).failures ≢ (D.device journal.old.disk).failures)) }
 {
-    for number in 0..count {
-        load_block(journal, cache, number)?;
+    let count = cache.len();
+    for number in 0..count.div_ceil(PIECE_BLOCKS) {
+        let start = number * PIECE_BLOCKS;
+        let some = PIECE_BLOCKS.min(count - start);
+        load_piece(
+            journal,
+            cache,
+            start,
+            &mut piece[..some as usize * BLOCK_SIZE],
+        )?;
     }
     Ok(())
 }
 
-// Loads a block into its place.
-fn load_block<D: Disk>(
+// Loads blocks from `start` on into their places, as many as the piece has room for, with one read.
+fn load_piece<D: Disk>(
     journal: &mut Journal<D>,
     cache: &mut Chunks,
-    number: u32,
+    start: u32,
+    piece: &mut [u8],
 ) -> Result<(), LoadError>
     requires ready { IsReady journal.old }
-    requires below { number < journal.old.size }
-    requires there { number < length cache.old.blocks }
+    requires below { 4096 * start + length piece.old ≤ 4096 * journal.old.size }
+    requires there { 4096 * start + length piece.old ≤ 4096 * length cache.old.blocks }
+    requires few { length cache.old.blocks < 2 ^ 32 }
     ensures cache { IsTrue (D.device journal.old.disk).tells
-        → OnOk result (cache.new.blocks ≡ slice_set cache.old.blocks number (slice_index_or journal.old.blocks number [])) }
+        → OnOk result (ArePut start (length piece.old) (λ k. slice_index_or journal.old.blocks (start + k) [])
+        cache.old.blocks cache.new.blocks) }
     ensures count { length cache.new.blocks ≡ length cache.old.blocks }
+    ensures room { length piece.new ≡ length piece.old }
     ensures loads { Loads D.device journal.old journal.new }
     ensures ok { OnOk result ((journal.new.halted ≡ false)
         × ((D.device journal.new.disk).failures ≡ (D.device journal.old.disk).failures)) }
@@ -85,12 +103,24 @@ fn load_block<D: Disk>(
     ensures fault { IfErr result (λ e. e ≡ LoadError.Fault → (journal.new.halted ≡ true)
         × ((D.device journal.new.disk).failures ≢ (D.device journal.old.disk).failures)) }
 {
-    let mut block = [0; BLOCK_SIZE];
-    match journal.load(u64::from(number), &mut block) {
+    match journal.load(u64::from(start), piece) {
         Ok(()) => {
-            cache.replace(number, &block)?;
+            put_all(cache, start, piece)?;
             Ok(())
         }
         Err(_) => Err(LoadError::Fault),
     }
+}
+
+// Puts the blocks of a piece into their places from `start` on.
+fn put_all(cache: &mut Chunks, start: u32, piece: &[u8]) -> Result<(), AllocError>
+    requires there { 4096 * start + length piece.now ≤ 4096 * length cache.old.blocks }
+    requires few { length cache.old.blocks < 2 ^ 32 }
+    ensures put { OnOk result (ArePut start (length piece.now) (λ k. block k piece.now) cache.old.blocks cache.new.blocks) }
+    ensures count { length cache.new.blocks ≡ length cache.old.blocks }
+{
+    for k in 0..(piece.len() / BLOCK_SIZE) as u32 {
+        cache.replace(start + k, block_of(piece, k as usize))?;
+    }
+    Ok(())
 }

@@ -1,14 +1,14 @@
-use Rattle.std.proofs.Common.{◌≡◌, ◌*◌, ◌<◌, ℕ, Bool, IsTrue, List, [], length, get_or, sym, ◌∙◌, ap, subst, arith}
+use Rattle.std.proofs.Common.{◌≡◌, ◌+◌, ◌*◌, ◌<◌, ◌≤◌, ℕ, Bool, IsTrue, List, [], length, get_or, sym, ◌∙◌, ap, subst, arith}
 use Rattle.disk.specs.Image.{part}
 use Rattle.journal.specs.Inside.{IsAdmitted, IsKept, IsLive, blocks_without}
 use Rattle.journal.specs.declared.Next.TheVariants.{Idle, Descriptor}
 use Rattle.journal.proofs.Calls.{kept_failed}
 use Rattle.journal.specs.Journal.{AreWhole, JournalView}
-use Rattle.model.specs.Volume.{all_laid_over, home, home_place, laid_over}
+use Rattle.model.specs.Volume.{all_laid_over, block, home, home_place, laid_over}
 use Rattle.segment_laws.specs.Held.{HeldBatch, batches_of}
 use Rattle.journal.specs.declared.Next.{Next}
 use Rattle.journal_segments.specs.Staged.{staged_at}
-use Rattle.journal.proofs.Idle.{idle_home, idle_laid, idle_same, idle_size, left_in_room, left_live, left_there}
+use Rattle.journal.proofs.Idle.{idle_home, idle_laid, idle_same, idle_size, left_in_room, left_live, left_there, part_of_part}
 use Rattle.journal.proofs.Whole.{kept_whole}
 use Rattle.journal.proofs.Journal.load.Goals as goal
 
@@ -26,23 +26,30 @@ lay_over-requires-clause-full g c t low =
 pub returns-in-Ok-clause-value : goal.returns-in-Ok-clause-value
 returns-in-Ok-clause-value g c =
     rw (← c.self.view_is)
-    (λ t.
+    (λ t k fits.
     let is = ap (λ (v : JournalView _). v.next) c.self.view_is ∙ c.requires.idle in
     let running = ap (λ (v : JournalView _). v.halted) c.self.view_is ∙ c.requires.running in
-    let below = subst (λ (n : ℕ). c.args.block < n) (sym (ap (λ (v : JournalView _). v.size) c.self.view_is)) c.requires.below in
+    let below : c.args.start + k < c.self.inside.blocks =
+    omega (
+      arith,
+      fits,
+      subst (λ (n : ℕ). 4096 * c.args.start + length c.args.into.now ≤ 4096 * n)
+          (sym (ap (λ (v : JournalView _). v.size) c.self.view_is)) c.requires.below,
+    ) in
     let told = c.self.invariant.told t in
     let x = (g.D.Disk.device c.self.inside.disk).content in
-    let place : c.start_of.result ≡ 4096 * home_place (length c.self.inside.room.items) c.args.block =
+    let place : c.start_of.result + 4096 * k ≡ 4096 * home_place (length c.self.inside.room.items) (c.args.start + k) =
     omega (arith, c.start_of.ensures, c.home_block.ensures) in
-    let read = c.in-Ok.ensures.value t
-    ∙ ap (λ (n : ℕ). part c.start_of.result n (g.D.Disk.device c.self.inside.disk).content) c.requires.room
-    ∙ ap (λ (n : ℕ). part n 4096 (g.D.Disk.device c.self.inside.disk).content) place in
-    sym (c.lay_over.ensures.laid (home x) (subst (λ (n : ℕ). c.args.block < n) (sym (idle_size _ _ _ _ _ _ told is running)) below)
-    (idle_home _ _ _ _ _ _ told is running c.args.block below ∙ sym read))
-    ∙ ap (λ (hs : List HeldBatch). get_or (all_laid_over (home x) (batches_of hs)) c.args.block [])
+    let read = ap (λ (l : List ℕ). block k l) (c.in-Ok.ensures.value t)
+    ∙ part_of_part c.start_of.result (length c.args.into.now) (4096 * k) 4096 x fits
+    ∙ ap (λ (n : ℕ). part n 4096 x) place in
+    sym (c.lay_over.ensures.laid (home x) k (omega (arith, fits, c.read.auto.into))
+    (subst (λ (n : ℕ). c.args.start + k < n) (sym (idle_size _ _ _ _ _ _ told is running)) below)
+    (idle_home _ _ _ _ _ _ told is running (c.args.start + k) below ∙ sym read))
+    ∙ ap (λ (hs : List HeldBatch). get_or (all_laid_over (home x) (batches_of hs)) (c.args.start + k) [])
     (left_in_room c.self.inside.room.items c.self.inside.filled c.self.inside.is_last c.lowest_closed-open.result c.self.invariant.there
     c.lowest_closed-open.ensures)
-    ∙ ap (λ (bs : List (List ℕ)). get_or bs c.args.block []) (sym (idle_laid _ _ _ _ _ _ told is running)))
+    ∙ ap (λ (bs : List (List ℕ)). get_or bs (c.args.start + k) []) (sym (idle_laid _ _ _ _ _ _ told is running)))
 
 pub returns-in-Ok-clause-whole : goal.returns-in-Ok-clause-whole
 returns-in-Ok-clause-whole g c t =

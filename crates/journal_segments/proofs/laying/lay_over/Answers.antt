@@ -1,26 +1,35 @@
-use Rattle.std.proofs.Common.{rules, ◌≡◌, ◌<◌, ℕ, List, [], length, get_or, ◌∙◌, subst, arith}
-use Rattle.std.proofs.lemmas.List.{get_or_default}
-use Rattle.model.specs.Volume.{laid_over}
-use Rattle.journal_segments.specs.Staged.{Staged, none_staged, staged_at}
-use Rattle.journal_segments.proofs.Laid.{block_put}
+use Rattle.std.proofs.Common.{◌≡◌, ◌+◌, ◌-◌, ◌*◌, ℕ, List, [], ◌++◌, ◌≤◌, length, get_or, map, take, drop, inl, inr, sym, ◌∙◌, ap, subst, arith}
+use Rattle.std.proofs.lemmas.Bool.{cases_eq}
+use Rattle.model.specs.Volume.{all_laid_over, block}
+use Rattle.segment_laws.specs.Held.{batches_of}
+use Rattle.journal_segments.specs.Staged.{held_as}
+use Rattle.journal_segments.proofs.Pieces.{replaced_size, replaced_here, replaced_apart}
 use Rattle.journal_segments.proofs.laying.lay_over.Goals as goal
 
-pub loop-i-preserved : goal.loop-i-preserved
-loop-i-preserved c =
-    let there : c.loop-i.i < length c.args.room.now.items = omega (arith, c.loop-i-test.true, c.requires.there) in
-    let is : c.index.result.now ≡ staged_at c.args.room.now.items c.loop-i.i = c.index.ensures
-    ∙ get_or_default c.args.room.now.items c.loop-i.i c.index.result.now none_staged there in
+pub loop-k-preserved : goal.loop-k-preserved
+loop-k-preserved c =
+    let k = c.loop-k.k in
+    let so_far = c.loop-k.invariant in
+    let new = c.lay_over_block.new.octets in
+    let whole = c.lay_over_block.ensures.whole in
+    let some : 4096 * k + 4096 - 4096 * k ≡ 4096 = omega arith in
+    let there : 4096 * k + 4096 ≤ length c.loop-k.octets = omega (arith, c.loop-k-test.true, so_far.size) in
+    let here = replaced_here k (4096 * k + 4096 - 4096 * k) c.loop-k.octets new whole some there in
+    let apart = replaced_apart k (4096 * k + 4096 - 4096 * k) c.loop-k.octets new whole some there in
+    let replaced : List ℕ = take (4096 * k) c.loop-k.octets
+    ++ (new ++ drop (4096 * k + 4096 - 4096 * k) (drop (4096 * k) c.loop-k.octets)) in
     record {
-      whole = c.lay_image.ensures.whole;
-      laid = λ blocks below first.
-          block_put c.args.room.now.items c.loop-i.i c.args.block there blocks below c.loop-i.octets c.lay_image.new.octets
-          (subst (λ (s : Staged). (bs : List (List ℕ)) → c.args.block < length bs → get_or bs c.args.block [] ≡ c.loop-i.octets
-          → get_or (laid_over bs s.numbers s.images) c.args.block [] ≡ c.lay_image.new.octets) is c.lay_image.ensures.laid)
-          (c.loop-i.invariant.laid blocks below first);
+      size = replaced_size k (4096 * k + 4096 - 4096 * k) c.loop-k.octets new whole some there ∙ so_far.size;
+      left = λ j later fits. apart j (omega (arith, later)) ∙ so_far.left j (omega (arith, later)) fits;
+      laid = λ blocks j below fits within home. elim (cases_eq j k) [
+        | inr other ↦ so_far.laid blocks j (omega (arith, below, other)) fits within home ∙ sym (apart j other)
+        | inl same ↦
+            let laid : List (List ℕ) = all_laid_over blocks (batches_of (map held_as (take c.args.n c.args.room.now.items))) in
+            let home_k = subst (λ (n : ℕ). get_or blocks (c.args.start + n) [] ≡ block n c.args.octets.now) same home in
+            let was = sym (so_far.left k (omega arith) (omega (arith, so_far.size, there)))
+            ∙ ap (λ (n : ℕ). take n (drop (4096 * k) c.loop-k.octets)) (sym some) in
+            ap (λ (n : ℕ). get_or laid (c.args.start + n) []) same
+            ∙ c.lay_over_block.ensures.laid blocks (omega (arith, same, within)) (home_k ∙ was)
+            ∙ sym (ap (λ (n : ℕ). block n replaced) same ∙ here)
+      ];
     }
-
-pub loop-i-init : goal.loop-i-init
-loop-i-init c = search rules
-
-pub returns-clause-laid : goal.returns-clause-laid
-returns-clause-laid c = search rules

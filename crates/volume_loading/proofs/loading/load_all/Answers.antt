@@ -1,4 +1,4 @@
-use Rattle.std.proofs.Common.{refl, arith}
+use Rattle.std.proofs.Common.{◌+◌, ◌*◌, length, take, refl, arith, length-take}
 use Rattle.volume_loading.proofs.Loads.{loads_none, loaded_more, loaded_all}
 use Rattle.volume_loading.proofs.loading.load_all.Goals as goal
 
@@ -8,26 +8,21 @@ loop-number-init g c = record {
   running = c.requires.ready.0;
   failures = refl;
   room = refl;
-  blocks = λ tells k low. absurd (omega arith);
+  blocks = λ tells k low. absurd (omega (arith, low));
 }
-
-pub load_block-requires : goal.load_block-requires
-load_block-requires g c =
-    let so_far = c.loop-number.invariant in
-    record {
-      ready = (so_far.running, so_far.loads.idle);
-      below = omega (arith, so_far.loads.same.size, c.requires.count);
-      there = omega (arith, so_far.room, c.requires.room);
-    }
 
 pub loop-number-preserved : goal.loop-number-preserved
 loop-number-preserved g c =
-    let done = c.in_ok-load_block.ensures in
-    loaded_more g.D.Disk.device c.loop-number.number c.args.cache.now.blocks c.loop-number.cache.blocks c.load_block.new.cache.blocks
-    c.args.journal.now c.loop-number.journal c.load_block.new.journal
-    c.loop-number.invariant (omega (arith, c.requires.room)) done.count done.cache done.loads done.ok.0 done.ok.1
+    let done = c.in_ok-load_piece.ensures in
+    let size = length-take (c.min-some.result * 4096) c.loop-number.piece in
+    loaded_more g.D.Disk.device (c.loop-number.number * 256) (length (take (c.min-some.result * 4096) c.loop-number.piece))
+    c.args.cache.now.blocks c.loop-number.cache.blocks c.load_piece.new.cache.blocks c.args.journal.now c.loop-number.journal
+    c.load_piece.new.journal c.loop-number.invariant done.count done.cache done.loads done.ok.0 done.ok.1
+    ((c.loop-number.number + 1) * 256)
+    (λ k below there. omega (arith, below, there, size, c.min-some.ensures, c.len-count.ensures.count, c.loop-number.auto.piece, c.requires.room))
 
 pub returns-clause-loaded : goal.returns-clause-loaded
 returns-clause-loaded g c =
-    loaded_all g.D.Disk.device c.loop-number.number c.args.count c.args.cache.now.blocks c.loop-number.cache.blocks c.args.journal.now
-    c.loop-number.journal c.loop-number.invariant c.requires.whole c.requires.count c.requires.room (omega arith)
+    loaded_all g.D.Disk.device (c.loop-number.number * 256) c.args.cache.now.blocks c.loop-number.cache.blocks c.args.journal.now
+    c.loop-number.journal c.loop-number.invariant c.requires.whole c.requires.count
+    (omega (arith, c.div_ceil-number-end.ensures, c.loop-number-test.false, c.len-count.ensures.count))
