@@ -8,18 +8,25 @@ import socket
 import struct
 import subprocess
 import sys
+import tempfile
 import threading
 import time
 
+from large import BEFORE_HOMES, BLOCK
 from listening import CALLER, DENIED, SERVER, Link, serving
 from newsd import GREETING, GROUP, SERVICE_ENDS, Caller, article, end_with_parent, free_port, message_id, wait_until
-from playing import main
+from playing import Skipped, main
+from refusals import compile_library
 
 LINE = re.compile(r"time=(\d{4}-\d\d-\d\dT\d\d:\d\d:\d\dZ) event=([a-z]+)((?: [a-z]+=[^ ]+)*)")
 SHORT_SESSIONS = 10000
 CALLERS_AT_ONCE = 8
 # longer than the server lets a caller be that takes nothing
 SECONDS_OF_A_STALL = 240
+# has each read of the device take a millisecond at least, and a microsecond for each four octets
+SLOWING = os.path.join(os.path.dirname(os.path.abspath(__file__)), "slowing.c")
+# an opening is told of from this many seconds on
+SECONDS_UNTOLD = 2
 
 
 class Log:
@@ -389,6 +396,57 @@ def no_line_has_what_a_caller_sent(volume):
         assert all(secret.decode() not in line and line.isascii() and line[:-1].isprintable() for line in log.lines), log.lines
 
 
+def a_short_opening_is_not_logged(volume):
+    volume.make_group()
+    start = time.monotonic()
+    with volume.serve() as server:
+        took = time.monotonic() - start
+        log = Log(server.process.stderr)
+        assert server.order("stop") == "stopped"
+        assert server.process.wait(10) == 0
+        log.reading.join(10)
+    assert took >= SECONDS_UNTOLD or log.lines == [], (took, log.lines)
+
+
+def readings(lines):
+    """The lines of an opening of 32 MiB that say how much was read, and those that say that the files are checked, which come last."""
+    steps = [Log.event(line) for line in lines]
+    reads = [int(fields["read"]) for _, fields in steps if "read" in fields]
+    expected = [{"read": str(it), "of": "32", "unit": "MiB"} for it in reads]
+    checks = len(steps) - len(reads)
+    assert steps == [("opening", it) for it in expected + checks * [{"step": "checking"}]], lines
+    return reads, checks
+
+
+def a_long_opening_is_logged(volume):
+    """Slow reads have it take longer than eight seconds. In the damaged volume the search for the damage makes some thousand reads more, once
+    the opening has read all."""
+    assert os.path.getsize(volume.path) == BLOCK * BEFORE_HOMES + (32 << 20)
+    with tempfile.TemporaryDirectory(prefix="newsd-slowing-") as folder:
+        library = compile_library(folder, SLOWING)
+        if library is None:
+            raise Skipped("there is no compiler for C")
+        slowly = ["env", "LD_PRELOAD=" + library]
+        with volume.serve(by=slowly, words=["--quiet"]) as server:
+            log = Log(server.process.stderr)
+            assert server.order("stop") == "stopped"
+            assert server.process.wait(10) == 0
+            log.reading.join(10)
+        reads, _ = readings(log.lines)
+        assert len(reads) >= 3 and reads == sorted(reads) and reads[0] < reads[-1], reads
+        with open(volume.path, "r+b") as file:
+            file.seek(BLOCK * BEFORE_HOMES + 8000 // 8)
+            file.write(b"\1")
+        words = [*slowly, volume.program, "serve", volume.path, "--port", str(free_port())]
+        done = subprocess.run(words, stdin=subprocess.DEVNULL, capture_output=True, timeout=120)
+    *lines, last = done.stderr.decode().splitlines(keepends=True)
+    assert (done.returncode, done.stdout) == (1, b""), done
+    assert last == "newsd: E5 Damaged: the bitmap marks block 8000, which no file owns\n", done
+    again, checks = readings(lines)
+    assert len(again) >= 3 and again == sorted(again) and checks >= 3, lines
+    print("  MiB read: %s; then: %s, and %d lines of a check" % (reads, again, checks), flush=True)
+
+
 def who_takes_nothing_is_logged_as_stalled(volume):
     """It takes some three minutes."""
     volume.make_group()
@@ -417,6 +475,8 @@ TESTS = [
     a_line_that_cannot_be_written_is_counted,
     a_server_whose_log_nobody_reads_stops,
     no_line_has_what_a_caller_sent,
+    a_short_opening_is_not_logged,
+    a_long_opening_is_logged,
 ]
 LONG_ONES = [who_takes_nothing_is_logged_as_stalled]
 

@@ -1,5 +1,5 @@
-//! A device that counts the syncs that are asked of another one. Other threads may read the count. Every call is
-//! passed on to the other device.
+//! A device that counts the syncs that are asked of another one, and the octets that are read of it. Other threads may
+//! read the counts. Every call is passed on to the other device.
 #![tactic(auto)]
 
 ghost use Rattle.std.specs.Prelude.{◌≡◌};
@@ -9,19 +9,39 @@ use std::alloc::Global;
 use std::sync::Arc;
 use std::sync::atomic::{AtomicU64, Ordering};
 
-/// A device, and the count of its syncs. The contracts of its calls are about the device within.
+/// What was counted of a device. Each count wraps at 2^64. No clause speaks of one, since other threads may change an
+/// atomic at any time.
+#[derive(Drop)]
+pub struct Counts {
+    /// The syncs that were asked of it, also those that failed.
+    pub syncs: AtomicU64,
+    /// The octets that were read of it, by reads that didn't fail.
+    pub octets_read: AtomicU64,
+}
+
+impl Counts {
+    /// The counts of a device of which nothing was asked yet.
+    pub fn new() -> Counts {
+        Counts {
+            syncs: AtomicU64::new(0),
+            octets_read: AtomicU64::new(0),
+        }
+    }
+}
+
+/// A device, and its counts. The contracts of its calls are about the device within.
 #[derive(Drop)]
 pub struct CountedDisk<D: Disk> {
     disk: D,
-    syncs: Arc<AtomicU64, Global>,
+    counts: Arc<Counts, Global>,
 }
 
 impl<D: Disk> CountedDisk<D> {
-    /// A device that adds to this count for each sync that is asked of it, even for one that fails.
-    pub fn new(disk: D, syncs: Arc<AtomicU64, Global>) -> CountedDisk<D>
+    /// A device that adds to these counts.
+    pub fn new(disk: D, counts: Arc<Counts, Global>) -> CountedDisk<D>
         ensures { result.disk ≡ disk }
     {
-        CountedDisk { disk, syncs }
+        CountedDisk { disk, counts }
     }
 }
 
@@ -37,7 +57,11 @@ impl<D: Disk> Disk for CountedDisk<D> {
     }
 
     fn read(&mut self, at: u64, into: &mut [u8]) -> Result<(), DiskError> {
-        self.disk.read(at, into)
+        self.disk.read(at, into)?;
+        self.counts
+            .octets_read
+            .fetch_add(into.len() as u64, Ordering::SeqCst);
+        Ok(())
     }
 
     fn write(&mut self, at: u64, from: &[u8]) -> Result<(), DiskError> {
@@ -45,7 +69,7 @@ impl<D: Disk> Disk for CountedDisk<D> {
     }
 
     fn sync(&mut self) -> Result<(), DiskError> {
-        self.syncs.fetch_add(1, Ordering::SeqCst);
+        self.counts.syncs.fetch_add(1, Ordering::SeqCst);
         self.disk.sync()
     }
 

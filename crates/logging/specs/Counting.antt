@@ -1,8 +1,10 @@
--- What a session counts.
-use Rattle.std.specs.Prelude.{ℕ, ◌+◌, ◌-◌, ◌^◌, min}
+-- What a session counts, and how far an opening is by the count of what it has read.
+use Rattle.std.specs.Prelude.{ℕ, ◌+◌, ◌-◌, ◌/◌, ◌^◌, if◌then◌else◌, min, nat_le}
 use Rattle.logging.specs.declared.events.SessionCounts.{SessionCounts}
 use Rattle.logging.specs.declared.events.CountedMessage.{CountedMessage}
 use Rattle.logging.specs.declared.events.CountedMessage.TheVariants as served
+use Rattle.logging.specs.declared.events.OpeningStep.{OpeningStep}
+use Rattle.logging.specs.declared.events.OpeningStep.TheVariants as step
 
 abbrev pub no_counts : SessionCounts
 no_counts = record { messages = 0; taken = 0; refused = 0; octets_in = 0; octets_out = 0 }
@@ -16,3 +18,7 @@ abbrev pub counted : SessionCounts → CountedMessage → SessionCounts
 counted counts served.Line = record counts { messages = one_more counts.messages }
 counted counts served.Taken = record counts { messages = one_more counts.messages; taken = one_more counts.taken }
 counted counts served.Refused = record counts { messages = one_more counts.messages; refused = one_more counts.refused }
+
+-- an opening that has read so many octets of all that it reads, in MiB
+abbrev pub step_after : ℕ → ℕ → OpeningStep
+step_after read all = if nat_le all read then step.Checking else step.Reading (read / 2 ^ 20) (all / 2 ^ 20)

@@ -9,6 +9,8 @@ use Rattle.logging.specs.declared.events.Ending.{Ending}
 use Rattle.logging.specs.declared.events.Ending.TheVariants as ending
 use Rattle.logging.specs.declared.events.LogEvent.{LogEvent}
 use Rattle.logging.specs.declared.events.LogEvent.TheVariants as event
+use Rattle.logging.specs.declared.events.OpeningStep.{OpeningStep}
+use Rattle.logging.specs.declared.events.OpeningStep.TheVariants as step
 use Rattle.logging.specs.declared.events.UsedPart.{UsedPart}
 use Rattle.logging.specs.declared.events.SessionRefusal.{SessionRefusal}
 use Rattle.logging.specs.declared.events.SessionRefusal.TheVariants as refusal
@@ -54,6 +56,10 @@ ended_text ended =
 abbrev pub part_text : UsedPart → Octets
 part_text part = decimal part.used ++ codes "/" ++ decimal part.all
 
+abbrev pub step_text : OpeningStep → Octets
+step_text (step.Reading read all) = codes "read=" ++ decimal read ++ codes " of=" ++ decimal all ++ codes " unit=MiB"
+step_text step.Checking = codes "step=checking"
+
 -- the event and its fields
 abbrev pub event_text : LogEvent → Octets
 event_text (event.End ended) = codes "event=end " ++ ended_text ended
@@ -63,6 +69,7 @@ event_text event.Halted = codes "event=halted"
 event_text event.Clock = codes "event=clock"
 event_text (event.Full blocks inodes) = codes "event=full blocks=" ++ part_text blocks ++ codes " inodes=" ++ part_text inodes
 event_text (event.Lost lines) = codes "event=lost lines=" ++ decimal lines
+event_text (event.Opening reached) = codes "event=opening " ++ step_text reached
 
 -- the text of a line
 abbrev pub text_of : ℕ → LogEvent → Octets

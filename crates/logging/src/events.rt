@@ -1,8 +1,8 @@
 //! What the log reports.
 
 ghost use Rattle.std.specs.Prelude.{◌≡◌, ◌≤◌, ◌*◌, ◌↔◌, IsTrue, Some};
-ghost use Rattle.logging.specs.Counting.{counted, no_counts};
-ghost use Rattle.logging.specs.Line.{counts_text, ended_text, ending_text, event_text, part_text, refusal_text};
+ghost use Rattle.logging.specs.Counting.{counted, no_counts, step_after};
+ghost use Rattle.logging.specs.Line.{counts_text, ended_text, ending_text, event_text, part_text, refusal_text, step_text};
 
 use std::fmt::{self, Display};
 use std::net::SocketAddr;
@@ -192,6 +192,46 @@ impl Display for UsedPart {
     }
 }
 
+/// The octets of a MiB.
+const MIB: u64 = 1 << 20;
+
+/// How far the opening of a volume is.
+#[derive(Clone, Copy)]
+pub enum OpeningStep {
+    /// So many MiB were read, of all that are read.
+    Reading { read: u64, all: u64 },
+    /// All was read, and the files are checked.
+    Checking,
+}
+
+impl OpeningStep {
+    /// How far an opening is that has read this many octets, of all the octets that it reads. Both are given in whole
+    /// MiB, rounded down.
+    pub fn after(read: u64, all: u64) -> OpeningStep
+        ensures { result ≡ step_after read all }
+    {
+        if read < all {
+            OpeningStep::Reading {
+                read: read / MIB,
+                all: all / MIB,
+            }
+        } else {
+            OpeningStep::Checking
+        }
+    }
+}
+
+impl Display for OpeningStep {
+    ghost output = { λ step. Some (step_text step) };
+
+    fn fmt<W: fmt::Write>(&self, f: &mut fmt::Formatter<W>) -> fmt::Result {
+        match *self {
+            OpeningStep::Reading { read, all } => write!(f, "read={read} of={all} unit=MiB"),
+            OpeningStep::Checking => write!(f, "step=checking"),
+        }
+    }
+}
+
 /// What a line of the log reports.
 #[derive(Clone, Copy)]
 pub enum LogEvent {
@@ -210,6 +250,8 @@ pub enum LogEvent {
     Full { blocks: UsedPart, inodes: UsedPart },
     /// This many lines found no room, because the log was not read, or could not be written.
     Lost(u64),
+    /// The volume is being opened, which has come so far.
+    Opening(OpeningStep),
 }
 
 impl Display for LogEvent {
@@ -226,6 +268,7 @@ impl Display for LogEvent {
                 write!(f, "event=full blocks={blocks} inodes={inodes}")
             }
             LogEvent::Lost(lines) => write!(f, "event=lost lines={lines}"),
+            LogEvent::Opening(step) => write!(f, "event=opening {step}"),
         }
     }
 }

@@ -9,7 +9,8 @@ mod writing;
 
 pub use clock::{Moments, beginning_of_1970, moment};
 pub use events::{
-    CountedMessage, EndedSession, Ending, LogEvent, SessionCounts, SessionRefusal, UsedPart,
+    CountedMessage, EndedSession, Ending, LogEvent, OpeningStep, SessionCounts, SessionRefusal,
+    UsedPart,
 };
 pub use lines::{LogEntry, line};
 pub use writing::{Log, Verbosity};

@@ -1,14 +1,15 @@
 //! A volume in a file.
 
-ghost use Rattle.std.specs.Prelude.{IfOk, Ok};
+ghost use Rattle.std.specs.Prelude.{◌≡◌, ◌-◌, IfOk, Ok};
 ghost use Rattle.filedisk.specs.FileDisk.{file_device};
 ghost use Rattle.filedisk.specs.declared.FileDisk.{FileDisk};
 ghost use Rattle.gates.specs.Gates.{WritesBack};
 ghost use Rattle.journal.specs.Journal.{IsReady};
+ghost use Rattle.new_volume.specs.Sizes.{device_size};
 
 use crate::refusals::refusal_of;
-use counting::CountedDisk;
-use disk::DiskError;
+use counting::{CountedDisk, Counts};
+use disk::{Disk, DiskError};
 use filedisk::{FileDisk, FileError, holder};
 use gates::write_gates_back;
 use new_volume::{VolumePlan, device_octets, format as format_device};
@@ -18,10 +19,9 @@ use std::alloc::{AllocError, Global};
 use std::fs::File;
 use std::rt::Files;
 use std::sync::Arc;
-use std::sync::atomic::AtomicU64;
 use wcache::WCache;
 
-/// The device of a volume in a file: it collects writes until a sync, and counts the syncs.
+/// The device of a volume in a file: it collects writes until a sync. The syncs and the octets that are read are counted.
 pub type VolumeDisk = WCache<CountedDisk<FileDisk>>;
 
 /// Makes an empty volume in place of any file with this path.
@@ -49,24 +49,35 @@ pub fn open<R: Files<File = File>>(
 ) -> Result<Opened<VolumeDisk>, CommandError>
     ensures { IfOk result (λ opened. IsReady opened.journal) }
 {
-    open_counted(rt, alloc, path, new_count(alloc)?)
+    let counts = new_counts(alloc)?;
+    let disk = find(rt, alloc, path)?;
+    open_counted(rt, alloc, path, disk, counts)
 }
 
-/// A count that begins at 0. Refused only for want of memory.
-pub fn new_count(alloc: Global) -> Result<Arc<AtomicU64, Global>, AllocError> {
-    Ok(Arc::new(alloc, AtomicU64::new(0))?)
+/// The counts of a device of which nothing was asked yet. Refused only for want of memory.
+pub fn new_counts(alloc: Global) -> Result<Arc<Counts, Global>, AllocError> {
+    Ok(Arc::new(alloc, Counts::new())?)
 }
 
-/// Opens the volume in a file, whose length is the device's. Each sync that is asked of the file is counted.
+/// The octets of the logical blocks on a device, which an opening reads, if the volume has eight segments, as a new one
+/// has. If it has fewer, its blocks have more octets, by some 2 MiB for each segment that it lacks.
+pub fn block_octets(disk: &FileDisk) -> u64
+    ensures { result ≡ (file_device disk.now).size - device_size 0 }
+{
+    disk.len().saturating_sub(device_octets(0))
+}
+
+/// Opens the volume on the device that `find` gave for this path. What is asked of the device is counted.
 pub fn open_counted<R: Files<File = File>>(
     rt: &R,
     alloc: Global,
     path: &str,
-    syncs: Arc<AtomicU64, Global>,
+    disk: FileDisk,
+    counts: Arc<Counts, Global>,
 ) -> Result<Opened<VolumeDisk>, CommandError>
     ensures { IfOk result (λ opened. IsReady opened.journal) }
 {
-    let disk = CountedDisk::new(find(rt, alloc, path)?, syncs);
+    let disk = CountedDisk::new(disk, counts);
     match opening::open(alloc, WCache::new(alloc, disk)) {
         Ok(opened) => Ok(opened),
         Err(refused) => {

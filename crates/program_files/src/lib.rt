@@ -4,5 +4,5 @@
 mod files;
 mod refusals;
 
-pub use files::{VolumeDisk, find, format, new_count, open, open_counted};
+pub use files::{VolumeDisk, block_octets, find, format, new_counts, open, open_counted};
 pub use refusals::refusal_of;

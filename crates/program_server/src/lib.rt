@@ -4,6 +4,10 @@
 ghost use Rattle.std.specs.Prelude.{◌≡◌};
 ghost use Rattle.journal.specs.Journal.{IsIdle, IsReady};
 
+mod progress;
+
+use crate::progress::open_told;
+use counting::Counts;
 use journal::Journal;
 use kernel::Kernel;
 use locked_kernel::Locked;
@@ -13,7 +17,7 @@ use mark::{FlushSeat, Mark, Seat};
 use networks::Network;
 use opening::Opened;
 use printing::CommandError;
-use program_files::{VolumeDisk, new_count, open_counted};
+use program_files::{VolumeDisk, new_counts};
 use server::{Limits, ServeError, Server};
 use shared_kernel::NoGate;
 use std::alloc::{AllocError, Global};
@@ -21,7 +25,6 @@ use std::fs::File;
 use std::io::{BufRead, Write};
 use std::net::{Net, SocketAddr, TcpListener, TcpStream};
 use std::rt::Files;
-use std::sync::atomic::AtomicU64;
 use std::sync::{Arc, Wait};
 use std::thread::Threads;
 use std::time::Clock;
@@ -47,8 +50,9 @@ pub struct Streams<L: Drop, A: Drop, F: Drop> {
     pub faults: F,
 }
 
-/// Serves a volume on some endpoints, and answers the operator's lines, until the operator stops the server or its
-/// device fails. If it cannot listen on one of the endpoints, nothing is served.
+/// Opens a volume and serves it on some endpoints, and answers the operator's lines, until the operator stops the server
+/// or its device fails. If it cannot listen on one of the endpoints, nothing is served. The log begins before the opening,
+/// and its last line is written before this returns, if its reader takes it.
 pub fn serve<
     R: Files<File = File>
         + Net<Listener = TcpListener, Stream = TcpStream>
@@ -63,33 +67,48 @@ pub fn serve<
     A: Write + Send + Drop + 'static,
     F: Write + Send + Drop + 'static,
 >(rt: &R, alloc: Global, offer: &Offer<'_>, streams: Streams<L, A, F>) -> Result<(), CommandError> {
-    let syncs = new_count(alloc)?;
-    let opened = open_counted(rt, alloc, offer.path, Arc::try_clone(&syncs)?)?;
     let Streams {
         lines,
-        mut answers,
+        answers,
         faults,
     } = streams;
-    match begin(rt, alloc, offer, &mut answers, faults) {
-        Ok(Ready { listeners, log }) => {
-            let entrance = Entrance {
-                listeners: listeners.as_slice(),
-                networks: offer.networks,
-                log: &log,
-            };
-            let outcome = run(rt, alloc, entrance, opened, syncs, lines, answers);
-            log.end(rt);
-            outcome
-        }
-        Err(error) => Err(error),
-    }
+    let log = Log::start(rt, alloc, faults, offer.verbosity)?;
+    let outcome = open_and_serve(rt, alloc, offer, &log, lines, answers);
+    log.end(rt);
+    outcome
 }
 
-/// What a server has before it serves.
-#[derive(Drop)]
-struct Ready {
-    listeners: Vec<TcpListener>,
-    log: Log,
+/// Opens a volume, listens on all endpoints, prints them, and serves.
+fn open_and_serve<
+    R: Files<File = File>
+        + Net<Listener = TcpListener, Stream = TcpStream>
+        + Threads
+        + Wait
+        + Clock
+        + Copy
+        + Send
+        + Sync
+        + 'static,
+    L: BufRead + Send + Drop + 'static,
+    A: Write + Send + Drop + 'static,
+>(
+    rt: &R,
+    alloc: Global,
+    offer: &Offer<'_>,
+    log: &Log,
+    lines: L,
+    mut answers: A,
+) -> Result<(), CommandError> {
+    let counts = new_counts(alloc)?;
+    let opened = open_told(rt, alloc, offer.path, log, &counts)?;
+    let listeners = listen(rt, alloc, offer.endpoints)?;
+    announce(offer.endpoints, &mut answers)?;
+    let entrance = Entrance {
+        listeners: listeners.as_slice(),
+        networks: offer.networks,
+        log,
+    };
+    run(rt, alloc, entrance, opened, counts, lines, answers)
 }
 
 /// Where callers come in.
@@ -98,30 +117,6 @@ struct Entrance<'a> {
     listeners: &'a [TcpListener],
     networks: &'a [Network],
     log: &'a Log,
-}
-
-/// Listens on all endpoints, and starts the log. Only then are the endpoints printed.
-fn begin<
-    R: Net<Listener = TcpListener, Stream = TcpStream>
-        + Threads
-        + Wait
-        + Clock
-        + Copy
-        + Send
-        + 'static,
-    A: Write,
-    F: Write + Send + Drop + 'static,
->(
-    rt: &R,
-    alloc: Global,
-    offer: &Offer<'_>,
-    answers: &mut A,
-    faults: F,
-) -> Result<Ready, CommandError> {
-    let listeners = listen(rt, alloc, offer.endpoints)?;
-    let log = Log::start(rt, alloc, faults, offer.verbosity)?;
-    announce(offer.endpoints, answers)?;
-    Ok(Ready { listeners, log })
 }
 
 /// Listens on all endpoints. The refusal names the first on which that fails.
@@ -190,7 +185,7 @@ fn run<
     alloc: Global,
     entrance: Entrance<'_>,
     opened: Opened<VolumeDisk>,
-    syncs: Arc<AtomicU64, Global>,
+    counts: Arc<Counts, Global>,
     lines: L,
     answers: A,
 ) -> Result<(), CommandError>
@@ -207,7 +202,7 @@ fn run<
     let Ok(marks) = BitmapMarks::read(&mut journal) else {
         return Err(CommandError::Fault);
     };
-    let tally = Tally::new(marks.all(), syncs);
+    let tally = Tally::new(marks.all(), counts);
     let kern = Locked::new(kernel);
     let parts = Parts {
         listeners: entrance.listeners,

@@ -4,6 +4,7 @@ ghost use Rattle.std.specs.Prelude.{◌≡◌};
 
 use crate::kernels::Counting;
 use crate::streams::{Answers, Lines};
+use counting::Counts;
 use mark::{FlushSeat, Mark, Seat};
 use operator::{Operator, OperatorService};
 use shared_kernel::{Bells, Kern};
@@ -267,11 +268,15 @@ pub(crate) fn run<R: Threads + Wait + Clock + Copy + Send + Sync + 'static>(
         read,
         text,
     } = begin(rt, alloc, lines, is_endless, is_read)?;
+    let device = Counts {
+        syncs: AtomicU64::new(SYNCS),
+        octets_read: AtomicU64::new(0),
+    };
     let stage = Stage {
         kern: Counting::new(posts),
         mark,
         bells: Bells::new(),
-        tally: Tally::new(USED_BLOCKS, Arc::new(alloc, AtomicU64::new(SYNCS)).ok()?),
+        tally: Tally::new(USED_BLOCKS, Arc::new(alloc, device).ok()?),
         operator,
         read,
     };

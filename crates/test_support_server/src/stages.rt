@@ -4,6 +4,7 @@ ghost use Rattle.std.specs.Prelude.{◌≡◌};
 ghost use Rattle.journal.specs.Journal.{IsIdle};
 
 use crate::volumes::{HOST, INODES, add_group};
+use counting::Counts;
 use disk::{Disk, DiskCall, Faults};
 use flusher::flush_turn;
 use journal::Journal;
@@ -15,7 +16,6 @@ use shared_kernel::{Gate, Kern, KernelCounts, NoGate};
 use std::alloc::{AllocError, Global};
 use std::io::{self, BufRead, Write};
 use std::net::{Net, TcpListener, TcpStream};
-use std::sync::atomic::AtomicU64;
 use std::sync::{Arc, Wait};
 use std::thread::Threads;
 use std::time::Clock;
@@ -155,13 +155,13 @@ impl<'a, D: Disk + Drop, K: Kern + Sync + Drop> Stage<'a, D, K> {
             flush_seat,
             seat,
         } = self;
-        let Ok(syncs) = Arc::new(alloc, AtomicU64::new(0)) else {
+        let Ok(device) = Arc::new(alloc, Counts::new()) else {
             return Served {
                 ended: Err(ServeError::Memory),
                 counts: kern.counts(rt),
             };
         };
-        let tally = Tally::new(0, syncs);
+        let tally = Tally::new(0, device);
         let parts = Parts {
             listeners: setting.listeners,
             log: setting.log,

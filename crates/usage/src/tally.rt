@@ -1,5 +1,6 @@
 //! What is counted while a server runs, for its operator.
 
+use counting::Counts;
 use std::alloc::Global;
 use std::sync::Arc;
 use std::sync::atomic::{AtomicU64, Ordering};
@@ -17,12 +18,12 @@ pub struct VolumeFacts<'a> {
 }
 
 /// What was counted since a server's start. Every thread may read it. `note_batch` counts the batches, and the device
-/// counts the syncs.
+/// counts its syncs.
 #[derive(Drop)]
 pub struct Tally {
     batches: AtomicU64,
     used_blocks: AtomicU64,
-    syncs: Arc<AtomicU64, Global>,
+    device: Arc<Counts, Global>,
 }
 
 /// What a tally says at one moment.
@@ -37,12 +38,12 @@ pub struct Tallied {
 }
 
 impl Tally {
-    /// A tally of a volume with this many used blocks. Its device counts the syncs.
-    pub fn new(used_blocks: u64, syncs: Arc<AtomicU64, Global>) -> Tally {
+    /// A tally of a volume with this many used blocks, and these counts of its device.
+    pub fn new(used_blocks: u64, device: Arc<Counts, Global>) -> Tally {
         Tally {
             batches: AtomicU64::new(0),
             used_blocks: AtomicU64::new(used_blocks),
-            syncs,
+            device,
         }
     }
 
@@ -51,7 +52,7 @@ impl Tally {
         Tallied {
             batches: self.batches.load(Ordering::SeqCst),
             used_blocks: self.used_blocks.load(Ordering::SeqCst),
-            syncs: self.syncs.load(Ordering::SeqCst),
+            syncs: self.device.syncs.load(Ordering::SeqCst),
         }
     }
 
