@@ -307,12 +307,12 @@ def compilers():
             yield [name]
 
 
-def compile_library(folder):
-    """The library that refuses, or None where nothing compiles it."""
-    library = os.path.join(folder, "refusing.so")
+def compile_library(folder, source=SOURCE):
+    """The library of a source beside this file, that which refuses if none is named, or None where nothing compiles it."""
+    library = os.path.join(folder, "preloaded.so")
     for words in compilers():
         if shutil.which(words[0]):
-            words += ["-O1", "-shared", "-fPIC", "-nostdlib", "-o", library, SOURCE]
+            words += ["-O1", "-shared", "-fPIC", "-nostdlib", "-o", library, source]
             done = subprocess.run(words, capture_output=True)
             if done.returncode == 0:
                 return library

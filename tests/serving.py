@@ -11,6 +11,9 @@ import warnings
 from newsd import GREETING, GROUP, HOST, SECONDS, SERVICE_ENDS, Caller, article, message_id, octets, settled_octets, wait_until
 from playing import Skipped, main
 
+# articles whose numbers take several releases
+NUMBERS = 30_000
+
 
 def a_client_posts_and_reads_back(volume):
     volume.make_group()
@@ -83,6 +86,24 @@ def long_replies_come_whole_beside_posts(volume):
         for thread in threads:
             thread.join()
     assert whole == [True] * 80 and posted == ["240 Article received"] * 200, (len(whole), len(posted))
+
+
+def long_lists_of_numbers_come_whole_beside_posts(volume):
+    """The lines of numbers are made as they are handed out, over several releases. Other articles come meanwhile."""
+    large = volume.another("large", blocks=34_816, inodes=32_768)
+    large.make_group()
+    texts = [article(number)[:-len(b".\r\n")] for number in range(NUMBERS)]
+    given = b"".join(b"#! rnews %d\n%s" % (len(text), text) for text in texts)
+    assert large.run("import", large.path, given=given).returncode == 0
+    asked = [(1, NUMBERS), (9_000, 24_000), (NUMBERS - 1, NUMBERS), (1, NUMBERS), (7, 6), (1, NUMBERS)]
+    with large.serve() as server, server.call() as other, Caller(server.port, receive_octets=8192) as reader:
+        reader.send(b"".join(b"LISTGROUP %s %d-%d\r\n" % (GROUP.encode(), low, high) for low, high in asked))
+        for number in range(20):
+            assert other.post(article("late.%d" % number)).startswith("240")
+        for low, high in asked:
+            head = reader.line().split()
+            assert (head[0], head[2], head[4:]) == ("211", "1", [GROUP, "list", "follows"]), head
+            assert reader.read_whole(b"".join(b"%d\r\n" % number for number in range(low, high + 1)) + b".\r\n"), (low, high)
 
 
 def sixty_four_callers_and_one_more(volume):
@@ -337,6 +358,7 @@ TESTS = [
     octets_come_one_by_one,
     a_caller_that_sends_no_more_is_told_all,
     long_replies_come_whole_beside_posts,
+    long_lists_of_numbers_come_whole_beside_posts,
     sixty_four_callers_and_one_more,
     a_kill_under_load_takes_nothing_back,
     one_server_holds_a_volume,

@@ -1,3 +1,4 @@
 pub mod GivingLaws
 pub mod LoopLaws
 pub mod BufferLaws
+pub mod Numbered

@@ -3,6 +3,8 @@ use Rattle.std.specs.Prelude.{◌≡◌, ℕ, ◌-◌, ◌≤◌, Bool, List, �
 use Rattle.std.specs.VecDeque.{deque_len, deque_capacity}
 use Rattle.outbox.specs.Queue.{HeldOutput, QueueView, Giving, ReadyEntry, buffered, octets_along, octets_in}
 use Rattle.outbox.specs.declared.queue.Queue.TheInside as queue
+use Rattle.outbox.specs.Outgoing.{IsSound, outgoing}
+use Rattle.outbox.specs.declared.outgoing.Outgoing.TheInside as reply
 use Rattle.outbox.specs.declared.ready.ReadyBuf.TheInside as buffer
 use Rattle.outbox.specs.Slots.{LiesWithin, entries_in}
 
@@ -12,6 +14,12 @@ queue_of q = record { given = q.given; held = q.outputs.items; room = deque_capa
 -- the queue counts the octets that it holds
 abbrev pub IsSoundQueue : queue.Inside → Type 0
 IsSoundQueue q = q.buffered ≡ buffered q.outputs.items
+
+abbrev pub octets_of : reply.Inside → List ℕ
+octets_of r = outgoing r.octets.items r.start r.rest
+
+abbrev pub IsSoundReply : reply.Inside → Type 0
+IsSoundReply r = IsSound (vec_capacity r.octets) r.octets.items r.start r.rest
 
 abbrev pub entries_of : buffer.Inside → List ReadyEntry
 entries_of b = entries_in b.octets.items b.slots.items

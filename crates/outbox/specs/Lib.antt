@@ -1,3 +1,5 @@
 pub mod Queue
 pub mod Slots
+pub mod Numbers
+pub mod Outgoing
 pub mod Fields

@@ -1,9 +1,13 @@
 //! The outputs of a session, held until what they depend on is durable, and the buffer that a release fills.
 #![tactic(auto)]
 
+mod appending;
+mod numbers;
+mod outgoing;
 mod queue;
 mod ready;
 
+pub use outgoing::Outgoing;
 pub use queue::Queue;
 pub use ready::ReadyBuf;
 

@@ -1,45 +1,39 @@
 //! The outputs of one session.
 
-ghost use Rattle.std.specs.Prelude.{◌≡◌, ◌+◌, ◌-◌, ◌^◌, ◌<◌, ◌≤◌, ◌∷◌, ◌++◌, [], length, drop, vec_len, vec_capacity, OnOk, OnErr, ◌==◌};
+ghost use Rattle.std.specs.Prelude.{◌≡◌, ◌+◌, ◌-◌, ◌^◌, ◌<◌, ◌≤◌, ◌∷◌, ◌++◌, [], length, take, nat_le, vec_len, vec_capacity, OnOk, OnErr, ◌==◌};
 ghost use Rattle.std.specs.VecDeque.{deque_capacity};
 ghost use Rattle.outbox.specs.Queue.{HeldOutput, QueueView, buffered, last_dependency, cut_at, give, entry_of, octets_in};
 ghost use Rattle.outbox.specs.Fields.{IsGiven};
 
 use crate::RELEASE_OCTETS;
+use crate::outgoing::Outgoing;
 use crate::ready::{ReadyBuf, end_entry};
 use std::alloc::{AllocError, Global};
 use std::collections::VecDeque;
 use std::marker::Model;
 
-/// An output whose octets from `start` on are still to be handed out.
+/// An output whose octets are still to be handed out.
 #[derive(Drop)]
 struct Output {
-    octets: Vec<u8>,
-    start: usize,
+    octets: Outgoing,
     dependency: u64,
     ends: bool,
 }
 
 impl Model for Output {
-    ghost use Rattle.std.specs.Prelude.{◌≤◌, drop, vec_len};
     ghost use Rattle.outbox.specs.Queue.{HeldOutput};
 
     ghost Value = { HeldOutput };
 
-    ghost view = { λ o. record { octets = drop o.start o.octets.items; dependency = o.dependency; ends = o.ends } };
-
-    ghost invariant = { λ o. o.start ≤ vec_len o.octets };
+    ghost view = { λ o. record { octets = o.octets; dependency = o.dependency; ends = o.ends } };
 }
 
 impl Output {
-    fn new(octets: Vec<u8>, dependency: u64, ends: bool) -> Output
-        ensures octets { result.octets ≡ octets.items }
-        ensures dependency { result.dependency ≡ dependency }
-        ensures ends { result.ends ≡ ends }
+    fn new(octets: Outgoing, dependency: u64, ends: bool) -> Output
+        ensures { result ≡ record { octets = octets; dependency = dependency; ends = ends } }
     {
         Output {
             octets,
-            start: 0,
             dependency,
             ends,
         }
@@ -57,19 +51,17 @@ impl Output {
         self.ends
     }
 
-    /// The octets that are still to be handed out.
-    fn rest(&self) -> &[u8]
-        ensures { result.now ≡ self.now.octets }
+    /// Moves the first octets into the buffer, until that has `RELEASE_OCTETS`. Answers whether none is left.
+    fn move_into(&mut self, into: &mut Vec<u8>) -> bool
+        requires few { vec_len into.old ≤ 65_536 }
+        requires room { 65_536 ≤ vec_capacity into.old }
+        ensures whole { result ≡ nat_le (length self.old.octets) (65_536 - length into.old.items) }
+        ensures moved { into.new.items ≡ into.old.items ++ take (65_536 - length into.old.items) self.old.octets }
+        ensures left { self.new ≡ cut_at (65_536 - length into.old.items) self.old }
+        ensures bound { vec_len into.new ≤ 65_536 }
+        ensures capacity { 65_536 ≤ vec_capacity into.new }
     {
-        &self.octets[self.start..]
-    }
-
-    /// Removes the first n octets.
-    fn cut(&mut self, n: usize)
-        requires { n ≤ length self.old.octets }
-        ensures { self.new ≡ cut_at n self.old }
-    {
-        self.start += n;
+        self.octets.move_into(into)
     }
 }
 
@@ -120,14 +112,14 @@ impl Queue {
     }
 
     /// Puts an output after the others. It takes no memory.
-    pub fn push(&mut self, octets: Vec<u8>, dependency: u64, ends: bool)
+    pub fn push(&mut self, octets: Outgoing, dependency: u64, ends: bool)
         requires room { 1 ≤ self.old.room }
-        requires countable { buffered self.old.held + vec_len octets < 2 ^ 64 }
+        requires countable { buffered self.old.held + length octets < 2 ^ 64 }
         ensures given { self.new.given ≡ self.old.given }
-        ensures held { self.new.held ≡ self.old.held ++ record { octets = octets.items; dependency = dependency; ends = ends } ∷ [] }
+        ensures held { self.new.held ≡ self.old.held ++ record { octets = octets; dependency = dependency; ends = ends } ∷ [] }
         ensures room { self.new.room + 1 ≡ self.old.room }
     {
-        self.buffered += octets.len() as u64;
+        self.buffered += octets.len();
         self.outputs
             .push_back_reserved(Output::new(octets, dependency, ends));
     }
@@ -199,33 +191,17 @@ fn give_front(
 {
     let mut ended = false;
     while let Some(front) = outputs.front() {
-        let room = RELEASE_OCTETS - octets.len();
-        if front.dependency() > durable || room == 0 {
+        let dependency = front.dependency();
+        let ends = front.ends();
+        if dependency > durable || octets.len() == RELEASE_OCTETS {
             break;
         }
-        let rest = front.rest();
-        if rest.len() > room {
-            append(octets, &rest[..room]);
-            outputs[0].cut(room);
+        if !outputs[0].move_into(octets) {
             break;
         }
-        append(octets, rest);
-        *given = front.dependency();
-        ended = ended || front.ends();
+        *given = dependency;
+        ended = ended || ends;
         outputs.pop_front();
     }
     ended
-}
-
-/// Appends octets for which there is room.
-fn append(octets: &mut Vec<u8>, more: &[u8])
-    requires { vec_len octets.old + length more.now ≤ vec_capacity octets.old }
-    ensures items { octets.new.items ≡ octets.old.items ++ more.now }
-    ensures len { vec_len octets.new ≡ vec_len octets.old + length more.now }
-    ensures capacity { vec_capacity octets.old ≤ vec_capacity octets.new }
-{
-    match octets.extend_from_slice(more) {
-        Ok(()) => {}
-        Err(_) => unreachable!(),
-    }
 }

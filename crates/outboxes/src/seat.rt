@@ -5,7 +5,7 @@ ghost use Rattle.outbox.specs.Queue.{buffered, entry_of, give, last_dependency, 
 ghost use Rattle.outboxes.specs.Sessions.{after_giving, is_holding, silent, with_output};
 ghost use Rattle.outboxes.specs.Outbox.{session_in};
 
-use outbox::{Queue, ReadyBuf};
+use outbox::{Outgoing, Queue, ReadyBuf};
 use std::alloc::{AllocError, Global};
 use std::marker::Model;
 
@@ -77,7 +77,7 @@ impl Seat {
             (session_in self.old) }
         ensures room { self.new.room + 1 ≡ self.old.room }
     {
-        self.queue.push(octets, dependency, ends);
+        self.queue.push(Outgoing::whole(octets), dependency, ends);
     }
 
     /// Moves the outputs that depend on at most `durable` changes into the buffer, as this session's entry, if there

@@ -14,8 +14,7 @@ use Rattle.model.specs.declared.message.Mark.TheVariants as mark
 use Rattle.model.specs.declared.session.Answer.{Answer}
 use Rattle.model.specs.declared.session.Awaits.TheVariants as awaits
 use Rattle.model.specs.declared.session.Session.{Session}
-use Rattle.replies.specs.Answered.{answered}
-use Rattle.replies.specs.declared.sessions.Answered.{Answered}
+use Rattle.replies.specs.Answered.{Answered, answered}
 use Rattle.posting_commands.specs.Accepted.{change_of}
 use Rattle.posting_commands.specs.declared.filing.Closed.{Closed}
 use Rattle.posting_commands.specs.declared.filing.Closed.TheVariants as closed

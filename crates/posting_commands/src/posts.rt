@@ -40,9 +40,9 @@ fn answer<'t>(
     ensures { IfOk result (λ step. said step
         ≡ said_served (answered (then_line session.now (sent which) (option_map change_of accepted.entry)) reads)) }
 {
-    let Answered { answer, .. } = ends(alloc, session, which, Awaits::Line)?;
+    let answered = ends(alloc, session, which, Awaits::Line)?;
     Ok(Step {
-        answered: Answered { answer, reads },
+        answered: answered.reading(reads),
         accepted,
         mark: Mark::Served,
     })

@@ -3,6 +3,7 @@ use Rattle.std.proofs.Common.{◌≡◌, ℕ, suc, ◌+◌, ◌-◌, ◌<◌, �
 use Rattle.std.proofs.Common.{Bool, true, false, cond, length}
 use Rattle.std.specs.Prelude.{◌&&◌, codes, decimal, drop, filter, flat_map, max, nat_le, take, Option, Some, None}
 use Rattle.std.specs.List.{enumerate_from}
+use Rattle.std.proofs.Math.Path.{transport}
 use Rattle.std.proofs.lemmas.Bool.{le-leb, lt-leb, leb-true, and_from, and_right}
 use Rattle.std.proofs.lemmas.List.{length-take, length-drop}
 use Rattle.model.specs.Names.{is_in_range}
@@ -13,10 +14,11 @@ use Rattle.model.specs.Replies.{block, no_such_number, overview_follows}
 use Rattle.model.specs.Spool.{Contents, NewsArticle, numbered_articles}
 use Rattle.model.specs.declared.session.Session.{Session}
 use Rattle.model.specs.declared.command.Range.{Range}
-use Rattle.reading_commands.specs.Words.{count_in, counted, first_in, last_in, number_lines}
+use Rattle.reading_commands.specs.Words.{count_in, counted, first_in, last_in}
+use Rattle.outbox.specs.Numbers.{number_lines}
 use Rattle.replies.specs.Answered.{replied, with_group}
 use Rattle.reading_commands.proofs.Picking.{between, filter_twice}
-use Rattle.reading_commands.proofs.Replied.{overview_plain}
+use Rattle.reading_commands.proofs.Replied.{number_plain, overview_plain}
 
 -- the number is not above the last
 abbrev up_to : Option ℕ → ℕ → Bool
@@ -119,18 +121,23 @@ taken_size first last low filed some =
     last_within (Some l) high = omega arith
 
 -- a line for each number
-sent_numbers : (a : ℕ) (xs : List NewsArticle)
+sent_numbers : (a : ℕ) (xs : List NewsArticle) → a + length xs ≤ 2 ^ 64
     → flat_map stuffed_line (map line (map (λ (p : ℕ × NewsArticle). decimal p.0) (enumerate_from a xs))) ≡ number_lines a (length xs)
-sent_numbers a [] = refl
-sent_numbers a (x ∷ xs) = ap (λ os. stuffed_line (line (decimal a)) ++ os) (sent_numbers (a + 1) xs)
+sent_numbers a [] small = refl
+sent_numbers a (x ∷ xs) small =
+    (λ i. number_plain a (omega (arith, small)) i ++ sent_numbers (a + 1) xs (omega (arith, small)) i)
 
 pub numbers_sent : (r : Range) (low high : ℕ) (c : Contents) → low ≡ c.low → high ≡ length c.filed → 1 ≤ low
+    → first_in r low + count_in r low high ≤ 2 ^ 64
     → flat_map stuffed_line (map line (numbers_in r c)) ≡ number_lines (first_in r low) (count_in r low high)
-numbers_sent r low high c low_is high_is some =
+numbers_sent r low high c low_is high_is some small =
     let one : 1 ≤ c.low = omega (arith, low_is, some) in
+    let size = taken_size r.first r.last c.low c.filed one in
+    let fits : max r.first c.low + count_in r c.low (length c.filed) ≤ 2 ^ 64 =
+    transport (λ i. first_in r (low_is i) + count_in r (low_is i) (high_is i) ≤ 2 ^ 64) small in
     ap (λ ps. flat_map stuffed_line (map line (map (λ (p : ℕ × NewsArticle). decimal p.0) ps))) (ranged r.first r.last c.low c.filed one)
-    ∙ sent_numbers (max r.first c.low) _
-    ∙ ap (number_lines (max r.first c.low)) (taken_size r.first r.last c.low c.filed one)
+    ∙ sent_numbers (max r.first c.low) _ (omega (arith, size, fits))
+    ∙ ap (number_lines (max r.first c.low)) size
     ∙ (λ i. number_lines (first_in r (sym low_is i)) (count_in r (sym low_is i) (sym high_is i)))
 
 -- the overview of a range
@@ -187,17 +194,16 @@ some_over x r low high c low_is high_is some small any =
 -- the answer to LISTGROUP
 pub listed_answer : (x : Session) (r : Range) (g : Octets) (c : Contents) (low high : ℕ) (reply : Octets) (next : Session) → low ≡ c.low
     → high ≡ length c.filed → 1 ≤ low
-    → reply ≡ counted low high g ++ line (codes " list follows") ++ number_lines (first_in r low) (count_in r low high) ++ dot_line
+    → first_in r low + count_in r low high ≤ 2 ^ 64
+    → reply ≡ counted low high g ++ line (codes " list follows") ++ (number_lines (first_in r low) (count_in r low high) ++ dot_line)
     → next ≡ with_group x g low (high + 1 - low)
     → replied reply next ≡ listgroup_answer x r g c
-listed_answer x r g c low high reply next low_is high_is some reply_is next_is =
+listed_answer x r g c low high reply next low_is high_is some small reply_is next_is =
     let head : Octets = counted low high g in
     let numbers : Octets = number_lines (first_in r low) (count_in r low high) in
     let words : reply ≡ line (head ++ codes " list follows") ++ (numbers ++ dot_line) =
-    reply_is
-    ∙ ap (λ os. os ++ numbers ++ dot_line) (sym (append_assoc head (codes " list follows") crlf))
-    ∙ append_assoc (line (head ++ codes " list follows")) numbers dot_line in
-    let sent : numbers ≡ flat_map stuffed_line (map line (numbers_in r c)) = sym (numbers_sent r low high c low_is high_is some) in
+    reply_is ∙ ap (λ os. os ++ (numbers ++ dot_line)) (sym (append_assoc head (codes " list follows") crlf)) in
+    let sent : numbers ≡ flat_map stuffed_line (map line (numbers_in r c)) = sym (numbers_sent r low high c low_is high_is some small) in
     let all : reply ≡ block (counted c.low (length c.filed) g ++ codes " list follows") (numbers_in r c) =
     words ∙ (λ i. line (counted (low_is i) (high_is i) g ++ codes " list follows") ++ (sent i ++ dot_line)) in
     λ i. record { reply = all i; next = (next_is ∙ (λ j. with_group x g (low_is j) (high_is j + 1 - low_is j))) i; change = None }

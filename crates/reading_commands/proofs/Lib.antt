@@ -1,4 +1,3 @@
 pub mod Replied
-pub mod Numbered
 pub mod Picking
 pub mod InGroup

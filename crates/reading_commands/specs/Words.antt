@@ -1,7 +1,6 @@
 -- The lines of these commands.
-use Rattle.std.specs.Prelude.{ℕ, ◌+◌, ◌-◌, [], ◌∷◌, codes, decimal, flat_map, max, min, nat_lt, if◌then◌else◌, Option, Some, None}
-use Rattle.std.specs.List.{range_with_len}
-use Rattle.model.specs.Stream.{Octets, line, stuffed_line}
+use Rattle.std.specs.Prelude.{ℕ, ◌+◌, ◌-◌, [], ◌∷◌, codes, decimal, max, min, nat_lt, if◌then◌else◌, Option, Some, None}
+use Rattle.model.specs.Stream.{Octets, line}
 use Rattle.model.specs.Answer.{spaced}
 use Rattle.model.specs.declared.command.Range.{Range}
 use Rattle.model.specs.declared.command.Part.{Part}
@@ -37,7 +36,3 @@ last_in (Some last) high = min last high
 
 abbrev pub count_in : Range → ℕ → ℕ → ℕ
 count_in r low high = last_in r.last high + 1 - first_in r low
-
--- a line for each number
-abbrev pub number_lines : ℕ → ℕ → Octets
-number_lines from count = flat_map (λ n. stuffed_line (line (decimal n))) (range_with_len from count)

@@ -8,15 +8,16 @@ ghost use Rattle.lookups.specs.Held.{IsCounts};
 ghost use Rattle.replies.specs.Answered.{answered, replied, with_group};
 ghost use Rattle.reading_commands.specs.Words.{counted};
 
-use crate::ranges::{lines_bound, numbers_in, push_numbers};
+use crate::ranges::{self, numbers_in};
 use lookups::{Counts, LookUps, counts_of, find_group};
 use model::{Range, Session, Text};
-use replies::{Answered, Reply, answer, push_end, push_line, push_spaced, says_line, selecting};
+use outbox::Outgoing;
+use replies::{Answered, Reply, outgoing, push_line, push_spaced, says_line, selecting};
 use std::alloc::{AllocError, Global};
 
-/// The most octets that a reply has besides the group's name and the lines of numbers: `211`, three numbers, ` list
-/// follows`, CRLF, and the line that ends a block.
-const WORDS: usize = 86;
+/// The most octets that the first line of a reply has besides the group's name: `211`, three numbers, ` list follows`
+/// and CRLF.
+const WORDS: usize = 82;
 
 /// The number of articles in a group with these counts.
 fn count(counts: Counts) -> u64
@@ -55,14 +56,14 @@ fn selects(
     session: &Session,
     group: Text,
     counts: Counts,
-    reply: Vec<u8>,
+    reply: Outgoing,
 ) -> Result<Answered, AllocError>
     requires { 1 ≤ counts.low }
     ensures { IfOk result (λ r. r ≡ answered
-        (replied reply.items (with_group session.now group counts.low (counts.high + 1 - counts.low))) counts.last) }
+        (replied reply (with_group session.now group counts.low (counts.high + 1 - counts.low))) counts.last) }
 {
     let next = selecting(alloc, session, group, counts.low, count(counts))?;
-    Ok(answer(reply, next, counts.last))
+    Ok(outgoing(reply, next, counts.last))
 }
 
 /// GROUP (RFC 3977, section 6.1.1). The session takes the name.
@@ -97,7 +98,7 @@ fn selected<L: LookUps>(
     let mut reply = Vec::with_capacity(alloc, name.len().saturating_add(WORDS))?;
     push_counted(&mut reply, counts, name)?;
     reply.extend_from_slice(b"\r\n")?;
-    selects(alloc, session, group, counts, reply)
+    selects(alloc, session, group, counts, Outgoing::whole(reply))
 }
 
 /// LISTGROUP of the named group, or of the selected one where none is named (RFC 3977, section 6.1.2).
@@ -166,13 +167,11 @@ fn numbered<L: LookUps>(
         (answers.listgroup_answer session.now range.now group.now (contents (L.changes spool.now) group.now))
         (last_naming (L.changes spool.now) group.now)) }
 {
-    let numbers = numbers_in(range, counts);
-    let bound = lines_bound(numbers).saturating_add(WORDS);
-    let mut reply = Vec::with_capacity(alloc, bound.saturating_add(group.len()))?;
+    let mut reply = Vec::with_capacity(alloc, group.len().saturating_add(WORDS))?;
     push_counted(&mut reply, counts, group)?;
     push_line(&mut reply, b" list follows")?;
-    push_numbers(&mut reply, numbers)?;
-    push_end(&mut reply)?;
+    let numbers = numbers_in(range, counts);
+    let reply = Outgoing::numbered(reply, numbers.first, ranges::count(numbers))?;
     let name = copied(alloc, group)?;
     selects(alloc, session, name, counts, reply)
 }

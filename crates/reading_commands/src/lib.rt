@@ -5,7 +5,6 @@
 mod articles;
 mod groups;
 mod moves;
-mod number_lines;
 mod overviews;
 mod parts;
 mod ranges;

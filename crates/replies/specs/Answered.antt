@@ -3,7 +3,11 @@ use Rattle.std.specs.Prelude.{ℕ, ◌==◌, if◌then◌else◌, Some, None}
 use Rattle.model.specs.Stream.{Octets}
 use Rattle.model.specs.declared.session.Answer.{Answer}
 use Rattle.model.specs.declared.session.Session.{Session}
-use Rattle.replies.specs.declared.sessions.Answered.{Answered}
+
+-- an answer, and the greatest serial that it reads
+pub record Answered : Type 0 where
+  pub answer : Answer
+  pub reads : ℕ
 
 abbrev pub answered : Answer → ℕ → Answered
 answered answer reads = record { answer = answer; reads = reads }

@@ -9,7 +9,7 @@ mod writing;
 
 pub use blocks::push_block;
 pub use sessions::{
-    Answered, answer, at_number, awaiting, copy, says, says_block, says_line, selecting,
+    Answered, answer, at_number, awaiting, copy, outgoing, says, says_block, says_line, selecting,
 };
 pub use stuffing::{Stuffing, pieces_make_the_text};
 pub use texts::{FixedBlock, Heading, Reply};

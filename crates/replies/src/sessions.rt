@@ -8,26 +8,60 @@ ghost use Rattle.replies.specs.Replies.{sent, sent_block};
 use crate::blocks::push_block;
 use crate::texts::{FixedBlock, Reply};
 use crate::writing::push_reply;
-use model::{Answer, Awaits, Session, Text};
+use model::{Awaits, Session, Text};
+use outbox::Outgoing;
 use std::alloc::{AllocError, Global};
+use std::marker::Model;
 
-/// An answer, and the greatest serial that it reads.
+/// An answer without a change, and the greatest serial that it reads. What is still to be made of its reply is made as it
+/// is handed out.
 #[derive(Drop)]
 pub struct Answered {
-    pub answer: Answer,
-    pub reads: u64,
+    reply: Outgoing,
+    next: Session,
+    reads: u64,
+}
+
+impl Model for Answered {
+    ghost use Rattle.std.specs.Prelude.{None};
+    ghost use Rattle.replies.specs.Answered.{Answered as AnsweredView};
+
+    ghost Value = { AnsweredView };
+
+    ghost view = { λ a. record { answer = record { reply = a.reply; next = a.next; change = None }; reads = a.reads } };
+}
+
+impl Answered {
+    /// The same answer, of which it is said that it reads this.
+    pub fn reading(self, reads: u64) -> Answered
+        ensures { result ≡ answered self.answer reads }
+    {
+        Answered { reads, ..self }
+    }
+
+    /// The reply, the session afterwards, and the greatest serial that the answer reads.
+    pub fn into_parts(self) -> (Outgoing, Session, u64)
+        ensures reply { result.0 ≡ self.answer.reply }
+        ensures next { result.1 ≡ self.answer.next }
+        ensures reads { result.2 ≡ self.reads }
+    {
+        let Answered { reply, next, reads } = self;
+        (reply, next, reads)
+    }
 }
 
 /// The answer with this reply and this session afterwards, without a change.
 pub fn answer(reply: Vec<u8>, next: Session, reads: u64) -> Answered
     ensures { result ≡ answered (replied reply.items next) reads }
 {
-    let answer = Answer {
-        reply: Text::new(reply),
-        next,
-        change: None,
-    };
-    Answered { answer, reads }
+    outgoing(Outgoing::whole(reply), next, reads)
+}
+
+/// The same with a reply that may not be made whole.
+pub fn outgoing(reply: Outgoing, next: Session, reads: u64) -> Answered
+    ensures { result ≡ answered (replied reply next) reads }
+{
+    Answered { reply, next, reads }
 }
 
 /// A copy of the name, if there is one.

@@ -11,7 +11,7 @@ use Rattle.model.specs.declared.message.Mark.{Mark}
 use Rattle.model.specs.declared.message.Mark.TheVariants.{Stopped}
 use Rattle.model.specs.declared.session.Session.{Session}
 use Rattle.outbox.specs.Queue.{HeldOutput, last_dependency}
-use Rattle.replies.specs.declared.sessions.Answered.{Answered}
+use Rattle.replies.specs.Answered.{Answered}
 use Rattle.seats.specs.Seats.{Seat, answered_by}
 
 -- what the answer reads where the kernel is halted

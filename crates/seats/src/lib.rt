@@ -3,7 +3,7 @@
 #![tactic(auto)]
 
 ghost use Rattle.std.specs.Prelude.{Some, IfSome, IsNone, None, is_none, ℕ, find, not, slice_get, ◌==◌, ◌≡◌, ◌<◌, ◌≤◌, ◌+◌};
-ghost use Rattle.std.specs.Prelude.{◌^◌, ◌++◌, ◌∷◌, [], max, IfOk, OnErr, OnOk, length};
+ghost use Rattle.std.specs.Prelude.{◌++◌, ◌∷◌, [], max, IfOk, OnErr, OnOk, length};
 ghost use Rattle.seats.specs.Seats.{Seat as SeatView, answered_by, given_of, holds, new_seat, ready, ready_of, seat_given};
 ghost use Rattle.seats.specs.Kept.{RiseFrom};
 ghost use Rattle.seats.specs.Serving.{SeatServed};
@@ -15,8 +15,8 @@ ghost use Rattle.model.specs.declared.message.Message.{Message as MessageView};
 ghost use Rattle.outbox.specs.Queue.{buffered, entry_of, last_dependency};
 
 use change_spool::ChangeSpool;
-use model::{Answer, Awaits, Mark, Mode, Moment, Session};
-use outbox::{Queue, ReadyBuf};
+use model::{Awaits, Mark, Mode, Moment, Session};
+use outbox::{Outgoing, Queue, ReadyBuf};
 use plain_commands::stopped;
 use replies::{Answered, push_greeting};
 use session::{Received, Served, serve};
@@ -58,7 +58,7 @@ impl Seat {
         push_greeting(&mut greeting, host)?;
         let mut queue = Queue::new(alloc);
         queue.reserve(1)?;
-        queue.push(greeting, 0, false);
+        queue.push(Outgoing::whole(greeting), 0, false);
         Ok(Seat {
             number,
             session: Session {
@@ -151,7 +151,7 @@ impl Seat {
 /// the answer reads and the dependency of the reply before it. Answers what the session sends next.
 fn adopt(session: &mut Session, queue: &mut Queue, answered: Answered) -> Option<Mode>
     requires room { 1 ≤ queue.old.room }
-    requires countable { buffered queue.old.held + length answered.answer.reply < 2 ^ 64 }
+    requires countable { buffered queue.old.held < 1_048_576 }
     ensures mode { result ≡ mode_of answered.answer.next.awaits }
     ensures session { session.new ≡ answered.answer.next }
     ensures given { queue.new.given ≡ queue.old.given }
@@ -161,11 +161,12 @@ fn adopt(session: &mut Session, queue: &mut Queue, answered: Answered) -> Option
       ends = is_none (mode_of answered.answer.next.awaits);
     } ∷ [] }
 {
-    let Answered { answer, reads } = answered;
-    let Answer { reply, next, .. } = answer;
+    let (reply, next, reads) = answered.into_parts();
+    // its clauses state that a reply has fewer than 2^63 octets
+    let _octets = reply.len();
     let mode = mode_of(&next.awaits);
     let dependency = queue.last_dependency().max(reads);
-    queue.push(reply.into_octets(), dependency, mode.is_none());
+    queue.push(reply, dependency, mode.is_none());
     *session = next;
     mode
 }

@@ -6,9 +6,10 @@ use crate::sent::Sent;
 use lookups::LookUps;
 use model::{Awaits, Mark, Message, Moment, Session, Status, Text};
 use names::{Description, GroupName, GroupRequest, NameError, is_of_host, number_of};
+use outbox::{Outgoing, Queue, ReadyBuf};
 use session::{Received, Served, serve};
 use spool::{AddError, ExpireError, Spool};
-use std::alloc::Global;
+use std::alloc::{AllocError, Global};
 
 /// When everything is made, in seconds since 1970.
 pub const MOMENT: u64 = 1_000_000_000;
@@ -110,26 +111,33 @@ fn deliver(alloc: Global, spool: &mut Spool, sent: &Sent<'_>, awaits: Awaits) ->
     };
     let received = Received::of(alloc, &message);
     match serve(alloc, spool, &session, received, moment) {
-        Ok(served) => said(&served),
+        Ok(served) => said(alloc, served).unwrap_or(Filed::Memory),
         Err(_) => Filed::Memory,
     }
 }
 
 // The answer to an article.
-fn said(served: &Served) -> Filed {
-    let Some(code) = code_of(served.answered.answer.reply.as_slice()) else {
-        return Filed::NotCalled;
+fn said(alloc: Global, served: Served) -> Result<Filed, AllocError> {
+    let (reply, _, reads) = served.answered.into_parts();
+    let Some(code) = code_of(alloc, reply)? else {
+        return Ok(Filed::NotCalled);
     };
-    match served.mark {
-        Mark::Served => Filed::Reply(code, served.answered.reads),
+    Ok(match served.mark {
+        Mark::Served => Filed::Reply(code, reads),
         Mark::Full => Filed::Full(code),
         Mark::Long => Filed::Long(code),
         Mark::Stopped => Filed::NotCalled,
-    }
+    })
 }
 
 // The three digits that a reply begins with.
-fn code_of(reply: &[u8]) -> Option<u64> {
-    let digits = reply.get(..3)?;
-    number_of(digits)
+fn code_of(alloc: Global, reply: Outgoing) -> Result<Option<u64>, AllocError> {
+    let mut queue = Queue::new(alloc);
+    queue.reserve(1)?;
+    // its clauses state that a reply has fewer than 2^63 octets
+    let _octets = reply.len();
+    queue.push(reply, 0, false);
+    let mut ready = ReadyBuf::new(alloc)?;
+    queue.give(0, 0, &mut ready);
+    Ok(ready.octets().get(..3).and_then(number_of))
 }

@@ -2,7 +2,8 @@
 
 use crate::moments::moment_at;
 use logging::{
-    EndedSession, Ending, LogEntry, LogEvent, SessionCounts, SessionRefusal, UsedPart, line,
+    EndedSession, Ending, LogEntry, LogEvent, OpeningStep, SessionCounts, SessionRefusal, UsedPart,
+    line,
 };
 use std::alloc::Global;
 use std::net::SocketAddr;
@@ -65,6 +66,11 @@ fn read_event(call: &str, arguments: &mut Arguments<'_>) -> Result<LogEvent, Row
             Ok(LogEvent::Full { blocks, inodes })
         }
         "lost" => Ok(LogEvent::Lost(arguments.number()?)),
+        "opening" => {
+            let read = arguments.number()?;
+            let all = arguments.number()?;
+            Ok(LogEvent::Opening(OpeningStep::after(read, all)))
+        }
         _ => Err(RowError::Unreadable),
     }
 }

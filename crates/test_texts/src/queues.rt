@@ -1,7 +1,7 @@
 //! The queues of sessions 1 and 2.
 
-use crate::released::answer_entries;
-use outbox::{Queue, ReadyBuf};
+use crate::released::{answer_edges, answer_entries};
+use outbox::{Outgoing, Queue, ReadyBuf};
 use std::alloc::{AllocError, Global};
 use test_support_data::{Answer, Area, Arguments, RowError};
 
@@ -37,7 +37,30 @@ impl Queues {
     /// after it.
     fn push(&mut self, arguments: &mut Arguments<'_>) -> Result<(), RowError> {
         let number = arguments.number()?;
+        let octets = Outgoing::whole(arguments.octets()?);
+        self.put(number, octets, arguments)
+    }
+
+    /// `number SESSION OCTETS FIRST COUNT DEPENDENCY ENDS`: the same with lines of consecutive numbers after the octets,
+    /// and the line that ends a block.
+    fn number(&mut self, arguments: &mut Arguments<'_>) -> Result<(), RowError> {
+        let number = arguments.number()?;
         let octets = arguments.octets()?;
+        let first = arguments.number()?;
+        let count = arguments.number()?;
+        if first == 0 || first.checked_add(count).is_none() {
+            return Err(RowError::Unreadable);
+        }
+        let octets = Outgoing::numbered(octets, first, count)?;
+        self.put(number, octets, arguments)
+    }
+
+    fn put(
+        &mut self,
+        number: u64,
+        octets: Outgoing,
+        arguments: &mut Arguments<'_>,
+    ) -> Result<(), RowError> {
         let dependency = arguments.number()?;
         let ends = arguments.is()?;
         if number == 1 {
@@ -47,19 +70,30 @@ impl Queues {
         }
     }
 
-    /// Whether each session ends, and what the buffer holds.
-    fn release(&mut self, durable: u64, answer: &mut Answer) -> Result<(), RowError> {
+    /// Whether each session ends; the buffer holds what is handed out.
+    fn give(&mut self, durable: u64, answer: &mut Answer) -> Result<(), RowError> {
         self.ready.clear();
         answer.is(give(&mut self.first, 1, durable, &mut self.ready)?)?;
-        answer.is(give(&mut self.second, 2, durable, &mut self.ready)?)?;
+        Ok(answer.is(give(&mut self.second, 2, durable, &mut self.ready)?)?)
+    }
+
+    /// Whether each session ends, and what the buffer holds.
+    fn release(&mut self, durable: u64, answer: &mut Answer) -> Result<(), RowError> {
+        self.give(durable, answer)?;
         Ok(answer_entries(&self.ready, answer)?)
+    }
+
+    /// The same, but of the octets how many they are, the first and the last.
+    fn edges(&mut self, durable: u64, answer: &mut Answer) -> Result<(), RowError> {
+        self.give(durable, answer)?;
+        Ok(answer_edges(&self.ready, answer)?)
     }
 }
 
 /// Adds an output after the others, if they can still be counted.
-fn push(queue: &mut Queue, octets: Vec<u8>, dependency: u64, ends: bool) -> Result<(), RowError> {
+fn push(queue: &mut Queue, octets: Outgoing, dependency: u64, ends: bool) -> Result<(), RowError> {
     queue.reserve(1)?;
-    if queue.buffered() > u64::MAX - octets.len() as u64 {
+    if queue.buffered() > u64::MAX - octets.len() {
         return Err(RowError::Unreadable);
     }
     queue.push(octets, dependency, ends);
@@ -80,8 +114,8 @@ fn give(
 }
 
 impl Area for Queues {
-    /// `release DURABLE`: whatever depends on this change at most is handed out of both queues. `buffered SESSION`,
-    /// `last_dependency SESSION` and `is_empty SESSION` ask a queue.
+    /// `release DURABLE`: whatever depends on this change at most is handed out of both queues; so does `edges DURABLE`.
+    /// `buffered SESSION`, `last_dependency SESSION` and `is_empty SESSION` ask a queue.
     fn answer(
         &mut self,
         _alloc: Global,
@@ -92,9 +126,13 @@ impl Area for Queues {
         if call == "push" {
             return self.push(arguments);
         }
+        if call == "number" {
+            return self.number(arguments);
+        }
         let number = arguments.number()?;
         match call {
             "release" => self.release(number, answer)?,
+            "edges" => self.edges(number, answer)?,
             "buffered" => answer.number(self.queue(number).buffered())?,
             "last_dependency" => answer.number(self.queue(number).last_dependency())?,
             "is_empty" => answer.is(self.queue(number).is_empty())?,

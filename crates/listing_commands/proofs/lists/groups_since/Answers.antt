@@ -7,8 +7,7 @@ use Rattle.model.specs.Replies.{block, groups_follow}
 use Rattle.model.specs.Spool.{Listed, listed}
 use Rattle.model.specs.Stream.{dot_line, line}
 use Rattle.lookups.specs.Held.{all_known}
-use Rattle.replies.specs.Answered.{answered}
-use Rattle.replies.specs.declared.sessions.Answered.{Answered}
+use Rattle.replies.specs.Answered.{Answered, answered}
 use Rattle.listing_commands.specs.Lists.{lines_of}
 use Rattle.listing_commands.specs.declared.groups.Choice.TheVariants.{Since}
 use Rattle.listing_commands.specs.declared.groups.Show.TheVariants.{Active}

@@ -4,8 +4,7 @@ use Rattle.model.specs.Answer as answers
 use Rattle.model.specs.Replies.{information_follows}
 use Rattle.model.specs.Stream.{dot_line, line}
 use Rattle.lookups.specs.Held.{all_known}
-use Rattle.replies.specs.Answered.{answered}
-use Rattle.replies.specs.declared.sessions.Answered.{Answered}
+use Rattle.replies.specs.Answered.{Answered, answered}
 use Rattle.listing_commands.specs.Lists.{lines_of}
 use Rattle.listing_commands.proofs.Listing.{block_listed, last_listed}
 use Rattle.listing_commands.proofs.lists.list_groups.Goals as goal

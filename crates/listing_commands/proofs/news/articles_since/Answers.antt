@@ -8,8 +8,7 @@ use Rattle.model.specs.Names.{wildmat_matches}
 use Rattle.model.specs.Replies.{articles_follow, block}
 use Rattle.model.specs.Spool.{NewsArticle, articles, articles_now}
 use Rattle.model.specs.Stream.{dot_line, line}
-use Rattle.replies.specs.Answered.{answered}
-use Rattle.replies.specs.declared.sessions.Answered.{Answered}
+use Rattle.replies.specs.Answered.{Answered, answered}
 use Rattle.lookups.specs.News.{new_lines}
 use Rattle.listing_commands.proofs.Newest.{block_new}
 use Rattle.listing_commands.proofs.news.articles_since.Goals as goal

@@ -4,8 +4,7 @@ use Rattle.model.specs.Answer.{transfer_outcome}
 use Rattle.model.specs.Replies.{rejected, transferred}
 use Rattle.model.specs.Spool.{filing_of}
 use Rattle.model.specs.declared.change.Change.TheVariants.{Article}
-use Rattle.replies.specs.Answered.{answered}
-use Rattle.replies.specs.declared.sessions.Answered.{Answered}
+use Rattle.replies.specs.Answered.{Answered, answered}
 use Rattle.posting_commands.specs.Outcomes.{said, said_served, then_line, told}
 use Rattle.posting_commands.proofs.Telling.{accepted_said, refused_said, transfer_filed, transfer_other}
 use Rattle.posting_commands.proofs.posts.given.Goals as goal

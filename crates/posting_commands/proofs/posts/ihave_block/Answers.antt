@@ -2,7 +2,7 @@ use Rattle.std.proofs.Common.{◌≡◌, sym, ap, subst}
 use Rattle.std.specs.Prelude.{IfOk}
 use Rattle.model.specs.Answer.{transfer_outcome}
 use Rattle.model.specs.Replies.{rejected, transferred}
-use Rattle.replies.specs.declared.sessions.Answered.{Answered}
+use Rattle.replies.specs.Answered.{Answered}
 use Rattle.posting_commands.specs.Outcomes.{said, said_served, told}
 use Rattle.posting_commands.proofs.Telling.{refused_said, transfer_bad}
 use Rattle.posting_commands.proofs.posts.ihave_block.Goals as goal

@@ -6,8 +6,7 @@ use Rattle.model.specs.Names.{is_host}
 use Rattle.model.specs.Replies.{not_accepted, received}
 use Rattle.model.specs.Spool.{filing_of}
 use Rattle.model.specs.declared.change.Change.TheVariants.{Article}
-use Rattle.replies.specs.Answered.{answered}
-use Rattle.replies.specs.declared.sessions.Answered.{Answered}
+use Rattle.replies.specs.Answered.{Answered, answered}
 use Rattle.posting_commands.specs.Outcomes.{closed_among, said, said_served, then_line}
 use Rattle.posting_commands.specs.declared.filing.Closed.TheVariants as closed
 use Rattle.posting_commands.proofs.Telling.{accepted_said, refused_said}

@@ -6,8 +6,7 @@ use Rattle.model.specs.Spool.{contents, filed_in, high, low}
 use Rattle.model.specs.Stream.{dot_line, line}
 use Rattle.model.proofs.HoldsOne.{high_few}
 use Rattle.lookups.specs.Held.{overviews_between}
-use Rattle.replies.specs.Answered.{answered}
-use Rattle.replies.specs.declared.sessions.Answered.{Answered}
+use Rattle.replies.specs.Answered.{Answered, answered}
 use Rattle.reading_commands.specs.Words.{count_in, first_in, last_in}
 use Rattle.reading_commands.proofs.InGroup.{nothing_over, some_over}
 use Rattle.reading_commands.proofs.overviews.range_in.Goals as goal

@@ -2,7 +2,7 @@ use Rattle.std.proofs.Common.{◌≡◌, ap, refl, sym, ◌∙◌}
 use Rattle.model.specs.declared.message.Mark.TheVariants.{Stopped}
 use Rattle.model.specs.declared.session.Answer.{Answer}
 use Rattle.model.proofs.ServiceLaws.{news_stopped}
-use Rattle.replies.specs.declared.sessions.Answered.{Answered}
+use Rattle.replies.specs.Answered.{Answered}
 use Rattle.seats.specs.Seats.{Seat, answered_by}
 use Rattle.seats.proofs.SeatLaws.{adopted, stopped_reads}
 use Rattle.seats.proofs.Seat.stop.Goals as goal

@@ -1,7 +1,7 @@
 use Rattle.std.proofs.Common.{ap, ◌∙◌}
 use Rattle.model.specs.Commands.{parsed_line}
 use Rattle.model.proofs.Own.{line_none}
-use Rattle.replies.specs.declared.sessions.Answered.{Answered}
+use Rattle.replies.specs.Answered.{Answered}
 use Rattle.session.proofs.messages.at_line.Goals as goal
 
 pub served-requires : goal.served-requires

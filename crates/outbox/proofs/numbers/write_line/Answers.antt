@@ -1,9 +1,7 @@
-use Rattle.std.proofs.Common.{◌++◌, ◌∙◌, arith, rules, drop, sym, ap, append_assoc, decimal}
+use Rattle.std.proofs.Common.{◌∷◌, [], ◌++◌, ◌∙◌, arith, rules, drop, sym, ap, append_assoc, decimal}
 use Rattle.std.proofs.lemmas.Fmt.{length-decimal-le}
-use Rattle.model.specs.Stream.{crlf}
-use Rattle.reading_commands.proofs.Numbered.{two_before}
-use Rattle.reading_commands.proofs.Replied.{number_plain}
-use Rattle.reading_commands.proofs.number_lines.write_line.Goals as goal
+use Rattle.outbox.proofs.Numbered.{two_before}
+use Rattle.outbox.proofs.numbers.write_line.Goals as goal
 
 pub write_digits-requires : goal.write_digits-requires
 write_digits-requires c = search (rules, length-decimal-le 20)
@@ -22,5 +20,4 @@ returns-clause-written c =
     let later = drop c.args.end c.args.octets.now in
     c.write_digits.ensures.written
     ∙ ap (λ os. decimal number ++ os) (two_before c.args.octets.now c.args.end 13 10 (omega (arith, c.requires.room)) c.requires.within)
-    ∙ sym (append_assoc (decimal number) crlf later)
-    ∙ ap (λ os. os ++ later) (sym (number_plain number (omega arith)))
+    ∙ sym (append_assoc (decimal number) (13 ∷ 10 ∷ []) later)

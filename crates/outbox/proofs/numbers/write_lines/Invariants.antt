@@ -1,6 +1,6 @@
-use Rattle.std.proofs.Common.{◌-◌, ◌≡◌, ◌+◌, ◌≤◌, ◌*◌, drop}
-use Rattle.reading_commands.specs.Words.{number_lines}
-use Rattle.reading_commands.proofs.number_lines.push_some.Given as goal
+use Rattle.std.proofs.Common.{◌≡◌, ◌+◌, ◌-◌, ◌≤◌, ◌*◌, drop}
+use Rattle.outbox.specs.Numbers.{number_lines}
+use Rattle.outbox.proofs.numbers.write_lines.Given as goal
 
 -- the lines of the last numbers are at the end
 abbrev pub invariant-loop-left : goal.invariant-loop-left
