@@ -139,5 +139,8 @@ fn code_of(alloc: Global, reply: Outgoing) -> Result<Option<u64>, AllocError> {
     queue.push(reply, 0, false);
     let mut ready = ReadyBuf::new(alloc)?;
     queue.give(0, 0, &mut ready);
-    Ok(ready.octets().get(..3).and_then(number_of))
+    let Some(digits) = ready.octets().get(..3) else {
+        return Ok(None);
+    };
+    Ok(number_of(digits))
 }
