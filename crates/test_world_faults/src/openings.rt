@@ -49,8 +49,8 @@ fn refused_at_each(alloc: Global, device: Device, most: u64) -> Result<(Device, 
 /// The reads while segments are open: the superblock, the eight gates, and the descriptors and images of the segments.
 const OF_OPEN_SEGMENTS: u64 = 63;
 
-/// The reads while no segment is open: the superblock, the eight gates and the logical blocks.
-const OF_CLOSED_SEGMENTS: u64 = 1033;
+/// The reads while no segment is open: the superblock, the eight gates and the logical blocks, in four pieces.
+const OF_CLOSED_SEGMENTS: u64 = 13;
 
 #[test]
 fn a_fault_at_each_read_of_an_opening(rt: HostRuntime) -> Result<(), Fail> {
