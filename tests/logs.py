@@ -419,8 +419,8 @@ def readings(lines):
 
 
 def a_long_opening_is_logged(volume):
-    """Slow reads have it take longer than eight seconds. In the damaged volume the search for the damage makes some thousand reads more, once
-    the opening has read all."""
+    """Slow reads have it take longer than eight seconds. In the damaged volume the search for the damage makes some thousand reads more,
+    once the opening has read all."""
     assert os.path.getsize(volume.path) == BLOCK * BEFORE_HOMES + (32 << 20)
     with tempfile.TemporaryDirectory(prefix="newsd-slowing-") as folder:
         library = compile_library(folder, SLOWING)
