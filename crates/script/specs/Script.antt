@@ -14,7 +14,7 @@ use Rattle.memdisk.specs.declared.Pick.TheVariants.{Old, New, Fill}
 use Rattle.script.specs.Words.{expiry_number_of, hex_octet, hex_octets, moment_of, number_of, split_word, status_of}
 use Rattle.script.specs.declared.lines.Line.{Line}
 use Rattle.script.specs.declared.lines.Line.TheVariants.{Group, Expire, Join, Leave, Arrive, Exec, Take, Dev, Told, Release, Commit, Settle}
-use Rattle.script.specs.declared.lines.Line.TheVariants.{FailAt, FailKind, Crash, Spool}
+use Rattle.script.specs.declared.lines.Line.TheVariants.{Drain, FailAt, FailKind, Crash, Spool}
 
 -- what a line asks for, with its texts as lists: a group is made, articles are removed from one, octets arrive for a
 -- session, anything else
@@ -37,6 +37,7 @@ said Told = Asked Told
 said Release = Asked Release
 said Commit = Asked Commit
 said Settle = Asked Settle
+said Drain = Asked Drain
 said (FailAt call) = Asked (FailAt call)
 said (FailKind kind call) = Asked (FailKind kind call)
 said (Crash pick) = Asked (Crash pick)
@@ -56,7 +57,8 @@ alone_of word =
     else (if bytes_eq word (codes "release") then Some (Asked Release)
     else (if bytes_eq word (codes "commit") then Some (Asked Commit)
     else (if bytes_eq word (codes "settle") then Some (Asked Settle)
-    else (if bytes_eq word (codes "spool") then Some (Asked Spool) else None)))))))
+    else (if bytes_eq word (codes "drain") then Some (Asked Drain)
+    else (if bytes_eq word (codes "spool") then Some (Asked Spool) else None))))))))
 
 -- what a crash makes of the touched octets
 unfoldable pub pick_of : Octets → Option Pick

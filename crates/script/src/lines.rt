@@ -44,6 +44,8 @@ pub enum Line {
     Commit,
     /// The batch in flight is carried to its end.
     Settle,
+    /// All accepted changes are made durable, and all replies are handed out.
+    Drain,
     /// The n-th device call from now on fails.
     FailAt(u64),
     /// The n-th device call of this kind from now on fails.
@@ -131,6 +133,9 @@ fn alone(word: &[u8]) -> Option<Line>
     }
     if word == b"settle".as_slice() {
         return Some(Line::Settle);
+    }
+    if word == b"drain".as_slice() {
+        return Some(Line::Drain);
     }
     if word == b"spool".as_slice() {
         return Some(Line::Spool);

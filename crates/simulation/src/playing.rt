@@ -144,6 +144,7 @@ fn act<D: Device, W: Write>(
         Line::Release => release(alloc, sim, output),
         Line::Commit => commit(alloc, sim, output),
         Line::Settle => settle(alloc, sim, output),
+        Line::Drain => drain(alloc, sim, output),
         Line::Spool => Ok(print_spool(alloc, sim.spool(), output)?),
         line => match event_of(line) {
             Some(event) => step(alloc, sim, event, output),
@@ -238,6 +239,29 @@ fn settle<D: Device, W: Write>(
         Ok(_) => Ok(()),
         Err(error) => Ok(print_refusal(&error, output)?),
     }
+}
+
+/// Makes all accepted changes durable, and then hands out and prints all replies.
+fn drain<D: Device, W: Write>(
+    alloc: Global,
+    sim: &mut Sim<D>,
+    output: &mut W,
+) -> Result<(), Failure> {
+    if let Err(error) = sim.settle(alloc) {
+        return Ok(print_refusal(&error, output)?);
+    }
+    let durable = sim.durable();
+    writeln!(output, "durable {durable}")?;
+    for _ in 0..u64::MAX {
+        if let Err(error) = sim.step(alloc, &Event::Release) {
+            return Ok(print_refusal(&error, output)?);
+        }
+        if sim.ready().is_empty() {
+            break;
+        }
+        print_released(alloc, sim.ready(), output)?;
+    }
+    Ok(())
 }
 
 /// How far a batch is carried.

@@ -67,6 +67,11 @@ impl<D: Device> Sim<D> {
         self.world.step(alloc, event)
     }
 
+    /// Makes all accepted changes durable.
+    pub(crate) fn settle(&mut self, alloc: Global) -> Result<(), StepError> {
+        self.world.settle(alloc)
+    }
+
     /// Makes the n-th device call from now on fail.
     pub(crate) fn fail_at(&mut self, call: u64) {
         self.world.fail_at(call);

@@ -198,6 +198,11 @@ impl Sim {
         Ok(said(alloc, stepped(alloc, &mut self.world, &event))?)
     }
 
+    /// Makes all changes durable and hands out all replies by `World::drain`, and answers in words.
+    pub fn drain(&mut self, alloc: Global) -> Result<String, SimError> {
+        Ok(said(alloc, drained(alloc, &mut self.world))?)
+    }
+
     /// Does what the lines ask by `World::run`, and answers how many events it went through.
     pub fn run(&mut self, alloc: Global, lines: &[String]) -> Result<u64, SimError> {
         let mut events = Vec::new(alloc);
@@ -281,4 +286,9 @@ fn stepped(
 
 fn ran(alloc: Global, world: &mut World<MemDisk>, events: &[Event]) -> u64 {
     world.run(alloc, events)
+}
+
+fn drained(alloc: Global, world: &mut World<MemDisk>) -> Result<StepAnswer, StepError> {
+    world.drain(alloc)?;
+    Ok(StepAnswer::Done)
 }

@@ -13,6 +13,7 @@
 //! | `put AT HH`, `undo`, `octet AT` | writes an octet of the device; writes the one that was there before; answers one |
 //! | `zero`, `writes`, `syncs` | counts from now on; the device calls since then |
 //! | `commit`, `settle` | the last answer of the device: up to a commit that the kernel learns of; up to one that is not `Working` |
+//! | `drain` | `World::drain` |
 //! | `calls` | the answers to device calls since the last `fail` |
 //! | `counts`, `durable`, `trace`, `arrived S`, `out S` | the changes of the world, its trace, and octets of a session |
 //! | `serial NAME`, `numbers NAME`, `article N` | what the spool has |

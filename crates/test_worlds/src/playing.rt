@@ -32,6 +32,7 @@ pub(crate) fn play_line(
         "commit" => commit(alloc, sim, calls),
         "settle" => carry(alloc, sim, calls),
         "dev" => call(alloc, sim, calls),
+        "drain" => Ok(sim.drain(alloc)?),
         _ => Ok(sim.tell(alloc, line)?),
     }
 }

@@ -5,3 +5,9 @@ pub mod Since
 pub mod Running
 pub mod Opening
 pub mod Failing
+mod Extending
+mod Living
+pub mod Inner
+pub mod Settling
+pub mod Settled
+pub mod Releases

@@ -1,5 +1,5 @@
 -- What each event does, by its answer.
-use Rattle.std.specs.Prelude.{◌⊎◌, ◌<◌, ◌≤◌, IsTrue, ◌≡◌, ◌≢◌, ℕ, ◌+◌, Bool, true, false, List, [], ◌∷◌, ◌++◌, length, drop, map}
+use Rattle.std.specs.Prelude.{◌⊎◌, ◌<◌, ◌≤◌, ◌-◌, IsTrue, ◌≡◌, ◌≢◌, ℕ, ◌+◌, Bool, true, false, List, [], ◌∷◌, ◌++◌, length, drop, map}
 use Rattle.std.specs.Prelude.{slice_index_or, Option, Some, None, Result, Ok, Err, IfErr, MatchResult, slice_get, take}
 use Rattle.disk.specs.Device.{Device}
 use Rattle.journal.specs.Calls.{IsRetried, MakesCall, OnMade, OnRetried}
@@ -186,6 +186,13 @@ pub record Ran {D : Type 0} (device : D → Device) (write_grows sync_grows : Bo
   pub ended : length events ≤ n → new ≡ middle
   pub stopped : n < length events
       → (event : Event) × (slice_get events n ≡ Some event) × Did device write_grows sync_grows middle event (Err error.Memory) new
+
+-- This world stood after the first j of the n events that were done, on the way to the last one.
+pub record Passed {D : Type 0} (device : D → Device) (write_grows sync_grows : Bool) (old : WorldView D) (events : List Event) (n : ℕ)
+    (new : WorldView D) (j : ℕ) (middle : WorldView D) : Type 0 where
+  pub within : j ≤ n
+  pub before : Went device write_grows sync_grows old (take j events) middle
+  pub after : Ran device write_grows sync_grows middle (drop j events) (n - j) new
 
 -- the kernel's refusals, as the errors that report them
 abbrev pub of_join_error : JoinError → StepError

@@ -4,3 +4,5 @@ pub mod Tied
 pub mod Events
 pub mod Fields
 pub mod Opening
+pub mod Lives
+pub mod Draining

@@ -3,27 +3,30 @@
 //! event does, `specs/Tied.antt` what the system's invariant is.
 #![tactic(auto)]
 
-ghost use Rattle.std.specs.Prelude.{◌≢◌, IfOk, IfErr, ◌≡◌, ◌⊎◌, ◌≤◌, ℕ, Some, Ok, Err, true, [], take, MatchOption, ◌||◌};
+ghost use Rattle.std.specs.Prelude.{◌≢◌, IfOk, IfErr, List, ◌≡◌, ◌⊎◌, ◌≤◌, ℕ, Some, Ok, Err, true, [], MatchOption, ◌||◌};
 ghost use Rattle.std.specs.Prelude.{IsTrue, length, MatchResult};
 ghost use Rattle.kernel.specs.Kernel.{Tested, TestedOrMemory, admin_refusal_of, early_refusal, expire_refusal_of, mode_at};
 ghost use Rattle.model.specs.declared.change.Change.TheVariants.{Expire, Group};
 ghost use Rattle.names.specs.Requests.{group_of};
 ghost use Rattle.traced_kernel.specs.Events.{Makes, arrive_refusal, arrives, leaves};
 ghost use Rattle.traced_kernel.specs.Traced.{arrived_at, next_of, released_at};
-ghost use Rattle.world.specs.Events.{Did, DidDev, DidExec, DidTake, Ran, Went, commits, dev_answer, exec_answer, fails};
+ghost use Rattle.world.specs.Events.{Did, DidDev, DidExec, DidTake, Passed, Ran, commits, dev_answer, exec_answer, fails};
 ghost use Rattle.world.specs.Events.{for_memory, of_admin_error, of_arrive_error, of_expire_error, of_join_error, of_kernel, told};
 ghost use Rattle.world.specs.Fields.{durable_news};
 ghost use Rattle.disk.specs.Device.{Elapses};
 ghost use Rattle.journal.specs.Journal.{IsReady};
 ghost use Rattle.journal.specs.Opening.{LeavesVolume, LeftKept, NeverSyncs, SyncsFirst};
+ghost use Rattle.lives.specs.Lives.{Life};
 ghost use Rattle.model.specs.News.{Stands};
 ghost use Rattle.opening.specs.Costs.{CostsToOpen};
 ghost use Rattle.opening.specs.Standing.{IsDamagedVolume, IsNoNewsVolume};
 ghost use Rattle.world.specs.Images.{EachNow, EachSince, Fits, KeepsSpools, LeftFits, StandsForNone};
+ghost use Rattle.world.specs.Lives.{AreOneLife, Lived};
 ghost use Rattle.world.specs.Opening.{IsNew};
 ghost use Rattle.world.specs.Tied.{IsWorld};
 ghost use Rattle.world.specs.World.{WorldView, kernel_of, with_served};
 
+mod draining;
 mod events;
 
 use disk::{Disk, DiskCall, Faults};
@@ -31,7 +34,8 @@ pub use events::{Event, StepAnswer, StepError};
 use journal::{Journal, JournalError, Progress};
 use kernel::BatchBuf;
 pub use kernel::Spool;
-use model::{Mark, Mode, Moment};
+use lives::many_lives_are_one;
+use model::{Change, Mark, Message, Mode, Moment, Session, images_stand_for_one_spool};
 use names::{GroupName, GroupRequest};
 use opening::Opened;
 pub use opening::{OpenError, Refused};
@@ -189,11 +193,11 @@ impl<D: Disk> World<D> {
         ensures count { result ≤ length events.now }
         ensures went { Ran D.device D.write_grows D.sync_grows self.old events.now result self.new }
         ensures during { EachSince (D.device self.old.journal.disk) (D.device self.new.journal.disk)
-            (λ image. (j : ℕ) × (middle : WorldView D) × (j ≤ result)
-            × Went D.device D.write_grows D.sync_grows self.old (take j events.now) middle × Fits middle image) }
+            (λ image. (j : ℕ) × (middle : WorldView D)
+            × Passed D.device D.write_grows D.sync_grows self.old events.now result self.new j middle × Fits middle image) }
         ensures since { LeftFits (D.device self.old.journal.disk) (D.device self.new.journal.disk)
-            (λ image. (j : ℕ) × (middle : WorldView D) × (j ≤ result)
-            × Went D.device D.write_grows D.sync_grows self.old (take j events.now) middle × Fits middle image) }
+            (λ image. (j : ℕ) × (middle : WorldView D)
+            × Passed D.device D.write_grows D.sync_grows self.old events.now result self.new j middle × Fits middle image) }
         ensures now { EachNow (D.device self.new.journal.disk) (Fits self.new) }
         ensures keeps { IsWorld D.device self.new }
     {
@@ -442,6 +446,17 @@ impl<D: Faults> World<D> {
     {
         self.journal.fail_kind(kind, n);
     }
+}
+
+/// However often a disk's system crashes and is opened again, what was released in any life begins the replies of one
+/// server that lives through all of them and commits before it replies. Nothing that an opening found is undone later.
+/// The function does nothing.
+pub fn lives_are_one<D: Disk>()
+    ensures one { (opened now : WorldView D) (lives : List (Life Change Mark)) → Lived D.device D.write_grows D.sync_grows opened lives now
+        → AreOneLife opened lives now }
+{
+    images_stand_for_one_spool();
+    many_lives_are_one::<Message, Session, Change, Mark>();
 }
 
 fn join_error(error: JoinError) -> StepError

@@ -1,0 +1,2 @@
+pub mod ManyLives
+pub mod Outliving
