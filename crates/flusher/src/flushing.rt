@@ -5,13 +5,14 @@ ghost use Rattle.std.specs.Prelude.{OnOk, OnErr, IfOk, IfErr, IfSome, IfNone, Is
 ghost use Rattle.journal.specs.Journal.{IsDuring, IsIdle, IsReady, LeavesAdmitted, sizes};
 ghost use Rattle.journal.specs.Order.{following};
 ghost use Rattle.journal.specs.declared.Next.{Next};
-ghost use Rattle.flusher.specs.Flush.{Carries, Commits, Failed, HasBegun, HasNotFailed, MayBegin, Turns, has_failed};
+ghost use Rattle.flusher.specs.Flush.{Carries, Commits, Failed, HasBegun, HasNotFailed, MayBegin, Turns, begun, has_failed};
 
+use crate::turn_seat::TurnSeat;
 use blocks::BLOCK_SIZE;
 use disk::Disk;
 use journal::{Journal, JournalError, Progress};
-use mark::{FlushSeat, Mark};
-use shared_kernel::{Bells, Gate, Kern, Ticket};
+use mark::Mark;
+use shared_kernel::{Bells, Gate, Halted, Kern, Receipt, Ticket, halt, halt_if_clean, tell};
 use std::sync::Wait;
 use std::thread;
 use thiserror::Error;
@@ -31,6 +32,18 @@ pub enum FlushError {
     Halted,
 }
 
+/// So many blocks are left before the flusher is woken to file them while it waits for more.
+const TOGETHER: u64 = 8;
+
+/// What the flusher does for the sessions between its batches.
+pub trait Filing {
+    /// Has the kernel answer the blocks that sessions have left, and answers how many it answered.
+    fn file_left(&self) -> u64;
+
+    /// Whether a batch should wait for the callers whose replies the last one has released.
+    fn is_wait_worth(&self) -> bool;
+}
+
 /// What the flusher shares with the threads of the sessions.
 #[derive(Clone, Copy)]
 struct Shared<'a, K: Kern, G: Gate> {
@@ -47,7 +60,7 @@ pub fn flush_turn<R: Wait, D: Disk, K: Kern, G: Gate>(
     journal: &mut Journal<D>,
     kern: &K,
     mark: &Mark,
-    seat: &mut FlushSeat,
+    seat: &mut TurnSeat,
     batch: &mut BatchBuf,
     gate: &G,
 ) -> Result<Option<u64>, FlushError>
@@ -68,8 +81,7 @@ pub fn flush_turn<R: Wait, D: Disk, K: Kern, G: Gate>(
     match take_and_carry(rt, &shared, journal, seat, batch) {
         Ok(raised) => Ok(raised),
         Err(error) => {
-            kern.halt(rt);
-            mark.stop(seat);
+            seat.stop(mark, halt(rt, kern));
             Err(error)
         }
     }
@@ -80,7 +92,7 @@ fn take_and_carry<R: Wait, D: Disk, K: Kern, G: Gate>(
     rt: &R,
     shared: &Shared<'_, K, G>,
     journal: &mut Journal<D>,
-    seat: &mut FlushSeat,
+    seat: &mut TurnSeat,
     batch: &mut BatchBuf,
 ) -> Result<Option<u64>, FlushError>
     requires idle { IsIdle journal.old }
@@ -107,7 +119,7 @@ fn carry<R: Wait, D: Disk, K: Kern, G: Gate>(
     rt: &R,
     shared: &Shared<'_, K, G>,
     journal: &mut Journal<D>,
-    seat: &mut FlushSeat,
+    seat: &mut TurnSeat,
     batch: &BatchBuf,
     ticket: Ticket,
 ) -> Result<(), FlushError>
@@ -122,18 +134,39 @@ fn carry<R: Wait, D: Disk, K: Kern, G: Gate>(
     ensures idle { OnOk result (IsIdle journal.new) }
     ensures mark { seat.new.mark ≡ seat.old.mark }
 {
+    shared.gate.before_flush();
+    let receipt = commit_batch(rt, journal, batch, ticket.last())?;
+    let Ok(told) = tell(rt, shared.kern, ticket, receipt) else {
+        return Err(FlushError::Halted);
+    };
+    seat.raise(shared.mark, told);
+    shared.gate.after_flush();
+    settle(rt, journal)
+}
+
+/// Writes a batch to the device, up to the sync that commits it, and answers the receipt. A call that is refused for memory
+/// is made again. `Fault` (E1) exactly if the device failed in this call. `Halted` (E4) if the journal is halted, or the
+/// batch is none that a journal can begin: no block, more than `BATCH_BLOCKS`, one twice, one that the device lacks, or other
+/// octets than those of its blocks; then nothing has changed.
+pub fn commit_batch<R: Wait, D: Disk>(
+    rt: &R,
+    journal: &mut Journal<D>,
+    batch: &BatchBuf,
+    last: u64,
+) -> Result<Receipt, FlushError>
+    requires { IsIdle journal.old }
+    ensures receipt { IfOk result (λ receipt. receipt.last ≡ last) }
+    ensures ok { OnOk result (Commits D.device (begun journal.old batch.now last) journal.new) }
+    ensures begins { OnOk result (MayBegin journal.old batch.now) }
+    ensures fault { IfErr result (λ error. error ≡ FlushError.Fault → Failed D.device journal.old journal.new) }
+    ensures halted { IfErr result (λ error. error ≡ FlushError.Halted → journal.new ≡ journal.old) }
+{
     if !may_begin(journal, batch) {
         return Err(FlushError::Halted);
     }
-    shared.gate.before_flush();
-    journal.begin(ticket.last(), batch.numbers(), batch.images());
+    journal.begin(last, batch.numbers(), batch.images());
     commit(rt, journal)?;
-    if shared.kern.committed(rt, ticket).is_err() {
-        return Err(FlushError::Halted);
-    }
-    shared.mark.raise(seat, ticket.last());
-    shared.gate.after_flush();
-    settle(rt, journal)
+    Ok(Receipt::of(journal, last))
 }
 
 /// Whether the journal can begin this batch.
@@ -217,7 +250,7 @@ fn released(last: Option<u64>, raised: u64) -> u64 {
 pub struct Flusher<'a, D: Disk> {
     pub journal: Journal<D>,
     pub mark: &'a Mark,
-    pub seat: FlushSeat,
+    pub seat: TurnSeat,
     pub batch: BatchBuf,
     /// The marks of used blocks on the device.
     pub marks: BitmapMarks,
@@ -239,14 +272,14 @@ pub enum FlusherEnd {
 #[derive(Drop)]
 struct Work<D: Disk> {
     journal: Journal<D>,
-    seat: FlushSeat,
+    seat: TurnSeat,
     batch: BatchBuf,
     marks: BitmapMarks,
 }
 
 /// How the flusher informs others.
 #[derive(Clone, Copy)]
-struct Around<'a, K: Kern, G: Gate> {
+struct Around<'a, K: Kern, G: Gate + Filing> {
     kern: &'a K,
     mark: &'a Mark,
     gate: &'a G,
@@ -255,8 +288,9 @@ struct Around<'a, K: Kern, G: Gate> {
 }
 
 /// Flushes whenever there is something to flush, until a turn is refused, or until a stop was asked for and every
-/// accepted change is durable. After a batch it waits a little for the callers whose replies that batch has released.
-pub fn flush_all<R: Wait, D: Disk + Drop, K: Kern, G: Gate>(
+/// accepted change is durable. Each turn begins with the blocks that sessions have left. After a batch it waits a little
+/// for the callers whose replies that batch has released, where that pays.
+pub fn flush_all<R: Wait, D: Disk + Drop, K: Kern, G: Gate + Filing>(
     rt: &R,
     flusher: Flusher<'_, D>,
     kern: &K,
@@ -288,7 +322,7 @@ pub fn flush_all<R: Wait, D: Disk + Drop, K: Kern, G: Gate>(
 }
 
 /// Flushes until the end that `flush_all` describes. `Fault` (E1) exactly if the device failed in the last turn.
-fn flush_to_end<R: Wait, D: Disk, K: Kern, G: Gate>(
+fn flush_to_end<R: Wait, D: Disk, K: Kern, G: Gate + Filing>(
     rt: &R,
     around: &Around<'_, K, G>,
     work: &mut Work<D>,
@@ -310,6 +344,7 @@ fn flush_to_end<R: Wait, D: Disk, K: Kern, G: Gate>(
     let mut last = None;
     'turns: for _ in rt.forever() {
         bells.arrivals.begin_turn();
+        gate.file_left();
         match flush_turn(
             rt,
             &mut work.journal,
@@ -324,19 +359,22 @@ fn flush_to_end<R: Wait, D: Disk, K: Kern, G: Gate>(
                 follow(rt, around, work.marks.all(), released(last, raised));
                 last = Some(raised);
             }
-            Ok(None) if ends(rt, around) => {
-                mark.stop(&mut work.seat);
-                return FlusherEnd::Stopped;
+            Ok(None) => {
+                if let Some(halted) = ends(rt, around) {
+                    work.seat.stop(*mark, halted);
+                    return FlusherEnd::Stopped;
+                }
+                bells.flusher.park(rt);
             }
-            Ok(None) => bells.flusher.park(rt),
             Err(error) => return FlusherEnd::Failed(error),
         }
     }
     unreachable!()
 }
 
-/// Counts a batch, and waits a little for the callers whose replies it has released, unless a stop was asked for.
-fn follow<R: Wait, K: Kern, G: Gate>(
+/// Counts a batch, and waits a little for the callers whose replies it has released, where that pays, unless a stop was
+/// asked for.
+fn follow<R: Wait, K: Kern, G: Gate + Filing>(
     rt: &R,
     around: &Around<'_, K, G>,
     used_blocks: u64,
@@ -350,18 +388,41 @@ fn follow<R: Wait, K: Kern, G: Gate>(
     } = around;
     tally.note_batch(used_blocks);
     gate.after_batch();
-    if !bells.is_stopping() {
-        bells.arrivals.gather(rt, &bells.flusher, released);
+    if !bells.is_stopping() && gate.is_wait_worth() {
+        gather(rt, around, released);
     }
 }
 
-/// Whether the flusher ends because a stop was asked for and every accepted change is durable. Then the kernel is
-/// halted.
-fn ends<R: Wait, K: Kern, G: Gate>(rt: &R, around: &Around<'_, K, G>) -> bool {
-    let Around { kern, bells, .. } = around;
-    let is_over = bells.is_stopping() && kern.halt_if_clean(rt);
-    if is_over {
-        bells.note_stop();
+/// Waits until as many blocks came after the last commit as that batch had changes (`Arrivals::gather`), in steps, and
+/// files those that were left in each. A step ends with no block awaited, so a thread that told nobody of its block, since
+/// a later one was awaited, left it before the filing that follows.
+fn gather<R: Wait, K: Kern, G: Gate + Filing>(rt: &R, around: &Around<'_, K, G>, released: u64) {
+    let Around { gate, bells, .. } = around;
+    let mut awaited = 0u64;
+    for _ in rt.forever() {
+        awaited = awaited.saturating_add(TOGETHER).min(released);
+        bells.arrivals.gather(rt, &bells.flusher, awaited);
+        let is_last = awaited >= released;
+        if gate.file_left() == 0 && !is_last {
+            // no session has left a block: those that come are answered by their own threads
+            awaited = released;
+            bells.arrivals.gather(rt, &bells.flusher, awaited);
+            gate.file_left();
+        }
+        if awaited >= released || bells.is_stopping() {
+            return;
+        }
     }
-    is_over
+    unreachable!()
+}
+
+/// Halts the kernel if a stop was asked for and every accepted change is durable: then the flusher ends.
+fn ends<R: Wait, K: Kern, G: Gate + Filing>(rt: &R, around: &Around<'_, K, G>) -> Option<Halted> {
+    let Around { kern, bells, .. } = around;
+    if !bells.is_stopping() {
+        return None;
+    }
+    let halted = halt_if_clean(rt, *kern)?;
+    bells.note_stop();
+    Some(halted)
 }

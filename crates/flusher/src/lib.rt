@@ -4,5 +4,7 @@
 #![tactic(auto)]
 
 mod flushing;
+mod turn_seat;
 
-pub use flushing::{FlushError, Flusher, FlusherEnd, flush_all, flush_turn};
+pub use flushing::{Filing, FlushError, Flusher, FlusherEnd, commit_batch, flush_all, flush_turn};
+pub use turn_seat::TurnSeat;

@@ -7,6 +7,7 @@ mod bells;
 mod errors;
 mod gate;
 mod kern;
+mod receipts;
 mod ticket;
 
 pub use arrivals::Arrivals;
@@ -14,4 +15,5 @@ pub use bells::{Bell, Bells, Ringing};
 pub use errors::{AdminError, ExecError, ExpireError, JoinError, Stale};
 pub use gate::{Gate, NoGate};
 pub use kern::{ExecOutcome, Kern, KernelCounts, SESSIONS};
+pub use receipts::{Halted, Receipt, Told, halt, halt_if_clean, tell};
 pub use ticket::Ticket;
