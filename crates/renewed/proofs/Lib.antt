@@ -1,0 +1,5 @@
+pub mod Texts
+pub mod Alike
+pub mod AlikeAnswers
+pub mod Husks
+pub mod Renewing

@@ -1,0 +1,2 @@
+pub mod Renewing
+pub mod Stopping
