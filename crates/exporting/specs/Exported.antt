@@ -1,12 +1,15 @@
 -- The articles that an export writes.
 use Rattle.std.specs.Prelude.{ℕ, ◌-◌, ◌==◌, ◌&&◌, not, if◌then◌else◌, List, length, slice_get, Option, Some, None, option_map}
-use Rattle.std.specs.Prelude.{option_and_then, is_some}
+use Rattle.std.specs.Prelude.{option_and_then, is_some, [], flat_map}
 use Rattle.std.specs.List.{filter_map, range_with_len}
+use Rattle.exporting.specs.Lines.{in_lines}
+use Rattle.exporting.specs.declared.batches.LineEnds.{LineEnds}
 use Rattle.lookups.specs.Held.{article_with, gone_with}
 use Rattle.model.specs.Stream.{Octets}
 use Rattle.model.specs.Spool.{Spool, by_number, group_named, high}
 use Rattle.model.specs.declared.change.Change.{Change}
 use Rattle.model.specs.declared.change.Change.TheVariants.{Group, Article, Expire}
+use Rattle.rnews.specs.Batch.{entry}
 
 -- what is picked of the numbers from 1 up to this one
 abbrev pub picked : (ℕ → Option ℕ) → ℕ → List ℕ
@@ -41,3 +44,17 @@ text_filed (Expire expiry) = None
 -- the text that the change with this serial files
 abbrev pub text_with : Spool → ℕ → Option Octets
 text_with S n = if n == 0 then None else option_and_then text_filed (slice_get S (n - 1))
+
+-- the serials of what an export writes: of the articles in this group, if it exists, or of those in any group
+abbrev pub serials_for : Spool → Option Octets → Option (List ℕ)
+serials_for S None = Some (all_serials S)
+serials_for S (Some g) = serials_in S g
+
+-- a text with its header line, nothing for none
+abbrev pub entry_for : LineEnds → Option Octets → Octets
+entry_for ends None = []
+entry_for ends (Some text) = entry (in_lines ends text)
+
+-- the batch of the articles with these serials, in this order
+abbrev pub batch_of : LineEnds → Spool → List ℕ → Octets
+batch_of ends S serials = flat_map (λ serial. entry_for ends (text_with S serial)) serials

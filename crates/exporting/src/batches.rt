@@ -1,7 +1,8 @@
 //! Writes articles as a batch.
 
-ghost use Rattle.std.specs.Prelude.{◌≡◌, IfOk, option_map};
-ghost use Rattle.exporting.specs.Exported.{text_with};
+ghost use Rattle.std.specs.Prelude.{◌≡◌, ◌≢◌, List, ℕ, IfErr, IfOk, OnOk, option_map};
+ghost use Rattle.std.specs.Io.KnownBytes.{Appends};
+ghost use Rattle.exporting.specs.Exported.{batch_of, entry_for, serials_for, text_with};
 ghost use Rattle.exporting.specs.Lines.{in_lines};
 ghost use Rattle.rnews.specs.Batch as batch;
 
@@ -23,24 +24,74 @@ pub enum LineEnds {
 }
 
 /// Writes the articles that are in this group, or all that are in any group, as a batch. `NotFound` if the group does
-/// not exist; then nothing is written.
+/// not exist; then nothing is written. Otherwise it is refused for want of memory, or as the output refuses; then the
+/// first articles, and part of one, may be written.
 pub fn export<W: Write>(
     alloc: Global,
     spool: &Spool,
     group: Option<&GroupName>,
     ends: LineEnds,
     output: &mut W,
-) -> Result<(), CommandError> {
-    let serials = match group {
-        None => all_serials(alloc, spool)?,
-        Some(name) => serials_of(alloc, spool, name.as_slice())?.ok_or(CommandError::NotFound)?,
-    };
-    for serial in &serials {
-        if let Some(octets) = entry_of(alloc, spool, *serial, ends)? {
-            output.write_all(octets.as_slice())?;
-        }
+) -> Result<(), CommandError>
+    ensures written { OnOk result ((serials : List ℕ)
+        × (serials_for spool.now.changes (option_map (λ name. name.now) group.entry) ≡ Some serials)
+        × Appends (W.contents output.old) (W.contents output.new) (batch_of ends spool.now.changes serials)) }
+    ensures absent { IfErr result (λ error. error ≡ CommandError.NotFound
+        → (serials_for spool.now.changes (option_map (λ name. name.now) group.entry) ≡ None) × (output.new ≡ output.old)) }
+{
+    let serials = chosen(alloc, spool, group)?;
+    write_all(alloc, spool, &serials, ends, output)
+}
+
+/// The serials of the articles that are in this group, or of all that are in any group. `NotFound` if the group does not
+/// exist; otherwise refused only for want of memory.
+fn chosen(alloc: Global, spool: &Spool, group: Option<&GroupName>) -> Result<Vec<u64>, CommandError>
+    ensures ok { IfOk result (λ serials.
+        serials_for spool.now.changes (option_map (λ name. name.now) group.entry) ≡ Some serials.items) }
+    ensures absent { IfErr result (λ error. error ≡ CommandError.NotFound
+        → serials_for spool.now.changes (option_map (λ name. name.now) group.entry) ≡ None) }
+{
+    match group {
+        None => Ok(all_serials(alloc, spool)?),
+        Some(name) => serials_of(alloc, spool, name.as_slice())?.ok_or(CommandError::NotFound),
+    }
+}
+
+/// Writes the articles with these serials as a batch. A refusal is never `NotFound`.
+fn write_all<W: Write>(
+    alloc: Global,
+    spool: &Spool,
+    serials: &[u64],
+    ends: LineEnds,
+    output: &mut W,
+) -> Result<(), CommandError>
+    ensures written { OnOk result (Appends (W.contents output.old) (W.contents output.new)
+        (batch_of ends spool.now.changes serials.now)) }
+    ensures refused { IfErr result (λ error. error ≢ CommandError.NotFound) }
+{
+    for serial in serials {
+        write_entry(alloc, spool, *serial, ends, output)?;
     }
     Ok(())
+}
+
+/// Writes the article with this serial in the form of a batch, or nothing if no article has the serial. A refusal is never
+/// `NotFound`.
+fn write_entry<W: Write>(
+    alloc: Global,
+    spool: &Spool,
+    serial: u64,
+    ends: LineEnds,
+    output: &mut W,
+) -> Result<(), CommandError>
+    ensures written { OnOk result (Appends (W.contents output.old) (W.contents output.new)
+        (entry_for ends (text_with spool.now.changes serial))) }
+    ensures refused { IfErr result (λ error. error ≢ CommandError.NotFound) }
+{
+    match entry_of(alloc, spool, serial, ends)? {
+        Some(octets) => Ok(output.write_all(octets.as_slice())?),
+        None => Ok(()),
+    }
 }
 
 /// The article with this serial in the form of a batch. `None` if no article has the serial.

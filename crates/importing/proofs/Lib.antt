@@ -1,6 +1,1 @@
-pub mod Transfers
-pub mod Carried
-pub mod Tied
-pub mod Batches
-pub mod Opened
-pub mod Rooms
+mod Importing

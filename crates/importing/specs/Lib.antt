@@ -1,4 +1,1 @@
-pub mod Filing
-pub mod Room
-pub mod Saved
-pub mod Opening
+pub mod Imported

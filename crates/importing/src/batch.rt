@@ -1,10 +1,11 @@
 //! Files the texts of a batch, in order.
 
-ghost use Rattle.std.specs.Prelude.{◌<◌, OnOk};
-ghost use Rattle.importing.specs.Saved.{IsSaved};
+ghost use Rattle.std.specs.Prelude.{◌≡◌, ◌≢◌, ◌∷◌, ◌++◌, ◌<◌, [], IfOk, List, None, OnErr, OnOk, false, length, true, ℕ};
+ghost use Rattle.std.specs.Io.KnownBytes.{Consumes, IsAtEnd};
+ghost use Rattle.importing.specs.Imported.{AreCounted, HasImported, HasRead, Imports, IsNoted, IsSame, is_refused};
+ghost use Rattle.volume_store.specs.Saved.{IsSaved};
+ghost use Rattle.volume_store.specs.declared.outcome.TextOutcome.{TextOutcome};
 
-use crate::outcome::{CAUSES, FULL_GROUP, Lack, TextOutcome, words_at};
-use crate::store::Store;
 use disk::Disk;
 use journal::JournalError;
 use model::Moment;
@@ -13,6 +14,7 @@ use std::alloc::{AllocError, Global};
 use std::fmt::{self, Display, Formatter};
 use std::io::{self, ErrorKind, Read};
 use thiserror::Error;
+use volume_store::{CAUSES, FULL_GROUP, Lack, Store, TextOutcome, words_at};
 
 /// The most octets that are read at once.
 const PIECE: usize = 65_536;
@@ -58,19 +60,21 @@ impl ImportCounts {
     }
 
     /// Counts a text that was not refused.
-    fn add(&mut self, outcome: TextOutcome) {
-        let count = match outcome {
-            TextOutcome::Filed(_) => &mut self.filed,
-            TextOutcome::Here => &mut self.here,
-            TextOutcome::NoGroup => &mut self.no_group,
-            TextOutcome::Refused(_) | TextOutcome::Full => return,
-        };
-        *count = count.saturating_add(1);
+    fn add(&mut self, outcome: TextOutcome)
+        ensures { is_refused outcome ≡ false → AreCounted self.old (outcome ∷ []) self.new }
+    {
+        match outcome {
+            TextOutcome::Filed(_) => self.filed = self.filed.saturating_add(1),
+            TextOutcome::Here => self.here = self.here.saturating_add(1),
+            TextOutcome::NoGroup => self.no_group = self.no_group.saturating_add(1),
+            TextOutcome::Refused(_) | TextOutcome::Full => {}
+        }
     }
 
     /// Counts a text that was refused for the cause at this place.
     fn refuse(&mut self, cause: usize)
         requires { cause < 10 }
+        ensures { (outcome : TextOutcome) → is_refused outcome ≡ true → AreCounted self.old (outcome ∷ []) self.new }
     {
         self.refused = self.refused.saturating_add(1);
         self.by_cause[cause] = self.by_cause[cause].saturating_add(1);
@@ -174,7 +178,9 @@ impl Batch {
     }
 
     /// Why the import stops at the end of its input, if the reader still has octets.
-    fn end(&self) -> Option<ImportStop> {
+    fn end(&self) -> Option<ImportStop>
+        ensures { result ≡ None → self.now.reader.rest ≡ [] }
+    {
         match self.reader.end() {
             Ok(()) => None,
             Err(refusal) => Some(ImportStop::NotABatch(refusal)),
@@ -192,7 +198,9 @@ pub fn import<D: Disk, I: Read, W: Watcher>(
     input: &mut I,
     watcher: &mut W,
 ) -> Result<Report, ImportError>
-    ensures { OnOk result (IsSaved D.device store.new) }
+    ensures saved { OnOk result (IsSaved D.device store.new) }
+    ensures imported { IfOk result (λ report. HasImported store.old.spool store.new.spool
+        (I.remaining input.old) (I.remaining input.new) report.counts report.stop) }
 {
     let mut batch = Batch {
         reader: BatchReader::new(alloc),
@@ -213,18 +221,19 @@ fn file_all<D: Disk, I: Read, W: Watcher>(
     batch: &mut Batch,
     input: &mut I,
     watcher: &mut W,
-) -> Result<Option<ImportStop>, ImportError> {
+) -> Result<Option<ImportStop>, ImportError>
+    ensures { IfOk result (λ stop. (left : List ℕ) × HasRead store.old.spool store.new.spool (I.remaining input.old)
+        (I.remaining input.new) batch.old.reader.rest left batch.old.counts batch.new.counts
+        × (stop ≡ None → (left ≡ []) × IsAtEnd (I.remaining input.new))) }
+{
     let mut piece = vec![in alloc; 0; PIECE]?;
     let mut octets: u64 = 0;
-    for _ in 0..u64::MAX {
-        let read = match input.read(&mut piece) {
+    'pieces: for _ in 0..u64::MAX {
+        let read = match read_piece(&mut batch.reader, input, &mut piece) {
+            Ok(0) => return Ok(batch.end()),
             Ok(read) => read,
             Err(error) => return stream_stop(octets, error),
         };
-        if read == 0 {
-            break;
-        }
-        batch.reader.feed(&piece[..read])?;
         let stop = file_ready(alloc, store, batch, watcher)?;
         if stop.is_some() {
             return Ok(stop);
@@ -234,12 +243,32 @@ fn file_all<D: Disk, I: Read, W: Watcher>(
             return stream_stop(octets, error);
         }
     }
-    Ok(batch.end())
+    stream_stop(octets, io::Error::from(ErrorKind::FileTooLarge))
+}
+
+/// Reads the next octets into this room and feeds them to the reader. Answers how many there were, 0 at the end of the
+/// input.
+fn read_piece<I: Read>(
+    reader: &mut BatchReader,
+    input: &mut I,
+    room: &mut [u8],
+) -> io::Result<usize>
+    ensures read { IfOk result (λ n. (piece : List ℕ) × Consumes (I.remaining input.old) (I.remaining input.new) piece
+        × (reader.new.rest ≡ reader.old.rest ++ piece) × (n ≡ 0 → 0 < length room.old → IsAtEnd (I.remaining input.new))) }
+    ensures failed { OnErr result ((piece : List ℕ) × Consumes (I.remaining input.old) (I.remaining input.new) piece
+        × (reader.new ≡ reader.old)) }
+    ensures room { length room.new ≡ length room.old }
+{
+    let read = input.read(room)?;
+    reader.feed(&room[..read])?;
+    Ok(read)
 }
 
 /// Why the import stops if a stream failed at this octet. What failed for want of memory counts as any other refusal of
 /// memory.
-fn stream_stop(octet: u64, error: io::Error) -> Result<Option<ImportStop>, ImportError> {
+fn stream_stop(octet: u64, error: io::Error) -> Result<Option<ImportStop>, ImportError>
+    ensures { IfOk result (λ stop. stop ≢ None) }
+{
     match error.kind() {
         ErrorKind::OutOfMemory => Err(ImportError::Memory),
         _ => Ok(Some(ImportStop::Stream(octet, error))),
@@ -252,9 +281,14 @@ fn file_ready<D: Disk, W: Watcher>(
     store: &mut Store<D>,
     batch: &mut Batch,
     watcher: &mut W,
-) -> Result<Option<ImportStop>, ImportError> {
+) -> Result<Option<ImportStop>, ImportError>
+    ensures going { IfOk result (λ stop. stop ≡ None → Imports store.old.spool store.new.spool
+        batch.old.reader.rest batch.new.reader.rest batch.old.counts batch.new.counts) }
+    ensures stopped { IfOk result (λ stop. (left : List ℕ) × Imports store.old.spool store.new.spool
+        batch.old.reader.rest left batch.old.counts batch.new.counts) }
+{
     let moment = watcher.moment();
-    for _ in 0..u64::MAX {
+    'texts: for _ in 0..u64::MAX {
         let place = batch.place();
         let text = match batch.reader.next() {
             Ok(Some(text)) => text,
@@ -279,7 +313,11 @@ fn note<D: Disk, W: Watcher>(
     watcher: &mut W,
     place: Place,
     outcome: TextOutcome,
-) -> Result<Option<ImportStop>, ImportError> {
+) -> Result<Option<ImportStop>, ImportError>
+    ensures spool { IsSame store.old.spool store.new.spool }
+    ensures noted { OnOk result (IsNoted counts.old outcome counts.new) }
+    ensures going { IfOk result (λ stop. stop ≡ None → AreCounted counts.old (outcome ∷ []) counts.new) }
+{
     let cause = match outcome {
         TextOutcome::Refused(why) => why.place(),
         TextOutcome::Full => match lack(store)? {
@@ -299,7 +337,9 @@ fn note<D: Disk, W: Watcher>(
 }
 
 /// What the volume has too little of for any text, once all that was filed is durable.
-fn lack<D: Disk>(store: &mut Store<D>) -> Result<Option<Lack>, JournalError> {
+fn lack<D: Disk>(store: &mut Store<D>) -> Result<Option<Lack>, JournalError>
+    ensures { IsSame store.old.spool store.new.spool }
+{
     match store.commit() {
         Ok(()) => store.lack(),
         Err(error) => Err(error),

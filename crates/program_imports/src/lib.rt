@@ -1,7 +1,7 @@
 //! Files the articles of a batch.
 #![tactic(auto)]
 
-use importing::{ImportCounts, ImportError, Place, Report, Store, Watcher};
+use importing::{ImportCounts, ImportError, Place, Report, Watcher};
 use logging::{beginning_of_1970, moment};
 use model::Moment;
 use printing::CommandError;
@@ -11,6 +11,7 @@ use std::fs::File;
 use std::io::{self, Read, Write};
 use std::rt::Files;
 use std::time::{Clock, Duration, Instant};
+use volume_store::Store;
 use wcache::WCache;
 
 /// The seconds between two lines of progress.
@@ -122,7 +123,12 @@ pub fn import<R: Files<File = File> + Clock, I: Read, F: Write>(
     let disk = find(rt, alloc, path)?;
     let mut store = match Store::open(alloc, WCache::new(alloc, disk)) {
         Ok(store) => store,
-        Err(error) => return Err(refusal_of(rt, alloc, path, error)),
+        Err(refused) => {
+            let error = refused.error;
+            // so that the file is no longer locked
+            drop(refused);
+            return Err(refusal_of(rt, alloc, path, error));
+        }
     };
     let mut teller = Teller::new(rt, faults, is_terminal)?;
     let imported = importing::import(alloc, &mut store, input, &mut teller);

@@ -37,7 +37,12 @@ fn state_of<R: Files<File = File>>(
 ) -> Result<VolumeStatus, CommandError> {
     let disk = find(rt, alloc, path)?;
     match state_on(alloc, WCache::new(alloc, disk)) {
-        Ok(state) => Ok(state),
-        Err(error) => Err(refusal_of(rt, alloc, path, error)),
+        Ok(examined) => Ok(examined.state),
+        Err(refused) => {
+            let error = refused.error;
+            // so that the file is no longer locked
+            drop(refused);
+            Err(refusal_of(rt, alloc, path, error))
+        }
     }
 }

@@ -1,9 +1,9 @@
 //! A device that fails at each of its calls in turn: the import is made again, and each article is there once.
 
-use crate::volumes::{articles, device};
+use crate::volumes::{articles, device, opened};
 use crate::watching::Log;
 use disk::{DiskCall, Faults};
-use importing::{ImportError, Store, import};
+use importing::{ImportError, import};
 use memdisk::MemDisk;
 use std::alloc::Global;
 use std::rt::HostRuntime;
@@ -11,7 +11,7 @@ use std::test::Fail;
 
 /// Imports the batch. Answers the device, and whether it failed.
 fn imported(alloc: Global, disk: MemDisk, octets: &[u8]) -> Result<(MemDisk, bool), Fail> {
-    let mut store = Store::open(alloc, disk)?;
+    let mut store = opened(alloc, disk)?;
     let mut log = Log::new(alloc);
     let mut input = octets;
     let failed = match import(alloc, &mut store, &mut input, &mut log) {
@@ -42,7 +42,7 @@ fn an_import_is_made_again_after_a_fault(rt: HostRuntime) -> Result<(), Fail> {
         assert!(rt; was_failed, "{kind:?} {call}");
         let (again, was_failed) = imported(alloc, failed, &octets)?;
         assert!(rt; !was_failed, "{kind:?} {call}");
-        let store = Store::open(alloc, again)?;
+        let store = opened(alloc, again)?;
         assert_eq!(rt; store.len(), (changes, changes), "{kind:?} {call}");
         disk = store.into_disk();
     }

@@ -1,8 +1,7 @@
 //! Volumes of both formats: a store makes its volume one of format 2.
 
-use crate::volumes::formatted;
+use crate::volumes::{formatted, opened};
 use disk::Disk;
-use importing::Store;
 use memdisk::MemDisk;
 use new_volume::{FORMAT_1, FORMAT_2};
 use std::alloc::Global;
@@ -26,7 +25,7 @@ fn calls_to_open(alloc: Global, format: u32) -> Result<(u64, u64), Fail> {
     let mut disk = formatted(alloc, 1024, 64, format).ok_or("no volume")?;
     let is_second = gate(&mut disk)? == 2;
     let (writes, syncs) = disk.counts();
-    let mut disk = Store::open(alloc, disk)?.into_disk();
+    let mut disk = opened(alloc, disk)?.into_disk();
     let (all_writes, all_syncs) = disk.counts();
     if is_second != (format == FORMAT_2) || gate(&mut disk)? != 2 {
         return Err("another format")?;

@@ -1,20 +1,20 @@
 //! Devices with a volume that has two groups, and batches for them.
 
-use flusher::flush_turn;
-use importing::Store;
+use flusher::{TurnSeat, flush_turn};
 use locked_kernel::Locked;
 use mark::Mark;
 use memdisk::MemDisk;
 use model::{Moment, Status};
 use names::{Description, GroupName, GroupRequest, is_host};
 use new_volume::{FORMAT_1, FORMAT_2, VolumePlan, are_sizes, device_octets};
-use opening::Opened;
+use opening::{OpenError, Opened};
 use rnews::entry;
 use shared_kernel::{Kern, NoGate};
 use std::alloc::{AllocError, Global};
 use std::sync::Wait;
 use test_support_rows::Octets;
 use volume::BatchBuf;
+use volume_store::Store;
 
 const HOST: &[u8] = b"news.example";
 
@@ -84,9 +84,10 @@ fn with_groups<R: Wait>(rt: &R, alloc: Global, disk: MemDisk) -> Option<MemDisk>
     let closed = request(alloc, CLOSED, Status::Closed)?;
     kern.admin(rt, alloc, &closed).ok()?;
     let mut batch = BatchBuf::new(alloc).ok()?;
-    let Ok((mark, mut seat, _)) = Mark::new(alloc) else {
+    let Ok((mark, seat, _)) = Mark::new(alloc) else {
         return None;
     };
+    let mut seat = TurnSeat::new(seat);
     flush_turn(
         rt,
         &mut journal,
@@ -104,6 +105,14 @@ fn with_groups<R: Wait>(rt: &R, alloc: Global, disk: MemDisk) -> Option<MemDisk>
 pub(crate) fn store<R: Wait>(rt: &R, alloc: Global) -> Option<Store<MemDisk>> {
     let disk = device(rt, alloc, 1024, 64)?;
     Store::open(alloc, disk).ok()
+}
+
+/// Opens the volume on a device.
+pub(crate) fn opened(alloc: Global, disk: MemDisk) -> Result<Store<MemDisk>, OpenError> {
+    match Store::open(alloc, disk) {
+        Ok(store) => Ok(store),
+        Err(refused) => Err(refused.error),
+    }
 }
 
 /// The batch of these texts, and octets after them.

@@ -1,8 +1,10 @@
 //! The state of the volume on a device.
 
-ghost use Rattle.std.specs.Prelude.{◌≡◌, ◌⊎◌, IfErr, IfOk, IsTrue};
+ghost use Rattle.std.specs.Prelude.{◌≡◌, ◌≢◌, ◌⊎◌, IfErr, IfOk, IsTrue, MatchResult};
+ghost use Rattle.disk.specs.Device.{Elapses};
 ghost use Rattle.journal.specs.Journal.{IsReady};
-ghost use Rattle.kernel.specs.Opening.{IsDamaged};
+ghost use Rattle.journal.specs.Opening.{Costs, LeavesVolume, LeftKept, NeverSyncs, SyncsFirst};
+ghost use Rattle.kernel.specs.Opening.{HasFailed, IsDamaged, IsStill, OnlyReads};
 ghost use Rattle.volume_label.specs.Label.{IsNoLabel};
 ghost use Rattle.model.specs.Files.{HasRoom};
 ghost use Rattle.model.specs.Layout.{HoldsIn};
@@ -15,35 +17,84 @@ use crate::contents::volume_status;
 use blocks::Blocks;
 use disk::Disk;
 use journal::{Journal, JournalError};
-use kernel::OpenError;
+use opening::{OpenError, Refused};
 use reporting::VolumeStatus;
 use std::alloc::Global;
 use volume_label::read_label;
 
-/// The state of the volume on a device, whose format stays as it is. `Fault` (E1) if the device failed, `Memory` (E2)
-/// if an allocation was refused, `NotAVolume` (E3) if the device holds no volume with a label of its size, and
-/// `Damaged` (E5) if it holds one, but no lawful spool of the label's host in the files of its format.
-pub fn state_on<D: Disk + Drop>(alloc: Global, disk: D) -> Result<VolumeStatus, OpenError>
-    ensures told { IsTrue (D.device disk).tells → IfOk result (IsStateOf (D.device disk).content) }
-    ensures no_volume { IsTrue (D.device disk).tells
-        → IfErr result (λ e. e ≡ OpenError.NotAVolume → IsNoNewsVolume (D.device disk).content) }
-    ensures damaged { IsTrue (D.device disk).tells → IfErr result (λ e. e ≡ OpenError.Damaged → IsDamagedVolume (D.device disk).content) }
+/// A device that was examined, and the state of the volume on it.
+#[derive(Drop)]
+pub struct Examined<D> {
+    pub disk: D,
+    pub state: VolumeStatus,
+}
+
+/// The state of the volume on a device. It is opened as `opening::open` does it, but its format stays as it is: after the
+/// first good sync the images of the open segments are carried home, and nothing else is written. A crash before that
+/// sync leaves what a crash at the start might have left, and one after it the volume that a read gives.
+///
+/// A refusal keeps to this too, and it returns the device. `Fault` (E1) if the device failed. `Memory` (E2) if it did not,
+/// and an allocation was refused; then a read gives what it gave before, or the same volume. `NotAVolume` (E3) if the
+/// device holds no volume with a label of its size. `Damaged` (E5) if it holds one, but no lawful spool of the label's host
+/// in the files of its format.
+pub fn state_on<D: Disk>(alloc: Global, disk: D) -> Result<Examined<D>, Refused<D>>
+    ensures told { IsTrue (D.device disk).tells → IfOk result (λ seen. IsStateOf (D.device disk).content seen.state) }
+    ensures still { IfOk result (λ seen. (D.device seen.disk).failures ≡ (D.device disk).failures) }
+    ensures time { MatchResult result (λ seen. Elapses (D.device disk) (D.device seen.disk))
+        (λ refused. Elapses (D.device disk) (D.device refused.disk)) }
+    ensures volume { MatchResult result (λ seen. LeftKept (D.device disk) (D.device seen.disk))
+        (λ refused. LeftKept (D.device disk) (D.device refused.disk)) }
+    ensures moment { MatchResult result (λ seen. SyncsFirst D.device disk seen.disk)
+        (λ refused. SyncsFirst D.device disk refused.disk ⊎ NeverSyncs D.device disk refused.disk) }
+    ensures judged { IfErr result (λ refused. (refused.error ≡ OpenError.NotAVolume) ⊎ (refused.error ≡ OpenError.Damaged)
+        → SyncsFirst D.device disk refused.disk) }
+    ensures cost { IsTrue (D.device disk).tells
+        → IfOk result (λ seen. Costs 1 (D.device disk).content (D.device disk) (D.device seen.disk)) }
+    ensures fault { IfErr result (λ refused. refused.error ≡ OpenError.Fault
+        → (D.device refused.disk).failures ≢ (D.device disk).failures) }
+    ensures memory { IfErr result (λ refused. refused.error ≡ OpenError.Memory
+        → (D.device refused.disk).failures ≡ (D.device disk).failures) }
+    ensures left { IsTrue (D.device disk).tells
+        → MatchResult result (λ seen. LeavesVolume (D.device disk).content (D.device seen.disk).content)
+        (λ refused. refused.error ≡ OpenError.Memory → LeavesVolume (D.device disk).content (D.device refused.disk).content) }
+    ensures no_volume { IfErr result (λ refused. refused.error ≡ OpenError.NotAVolume → IsTrue (D.device disk).tells
+        → IsNoNewsVolume (D.device disk).content) }
+    ensures damaged { IfErr result (λ refused. refused.error ≡ OpenError.Damaged → IsTrue (D.device disk).tells
+        → IsDamagedVolume (D.device disk).content) }
 {
     let mut journal = match Journal::open(alloc, disk) {
         Ok(journal) => journal,
-        Err(refused) => return Err(journal_error(refused.error)),
+        Err(refused) => {
+            let journal::Refused { disk, error } = refused;
+            return Err(Refused {
+                disk,
+                error: journal_error(error),
+            });
+        }
     };
-    state_in(alloc, &mut journal)
+    match state_in(alloc, &mut journal) {
+        Ok(state) => Ok(Examined {
+            disk: journal.into_disk(),
+            state,
+        }),
+        Err(error) => Err(Refused {
+            disk: journal.into_disk(),
+            error,
+        }),
+    }
 }
 
-/// The state of the volume in a journal that was just opened. It stays in its format.
+/// The state of the volume in a journal that was just opened. The device is only read.
 fn state_in<D: Disk>(alloc: Global, journal: &mut Journal<D>) -> Result<VolumeStatus, OpenError>
     requires { IsReady journal.old }
     ensures told { IsTrue (D.device journal.old.disk).tells
         → IfOk result (IsStateIn journal.old.format journal.old.label journal.old.size journal.old.blocks) }
     ensures no_label { IfErr result (λ e. e ≡ OpenError.NotAVolume → IsNoLabel journal.old.label journal.old.size) }
     ensures damaged { IfErr result (λ e. e ≡ OpenError.Damaged → IsDamaged D.device journal.old) }
-    ensures stays { journal.new.format ≡ journal.old.format }
+    ensures reads { OnlyReads D.device journal.old journal.new }
+    ensures still { MatchResult result (λ state. IsStill D.device journal.old journal.new) (λ error. error ≢ OpenError.Fault
+        → IsStill D.device journal.old journal.new) }
+    ensures fault { IfErr result (λ error. error ≡ OpenError.Fault → HasFailed D.device journal.old journal.new) }
 {
     // what the journal keeps, which the loads need
     prove!(journal.is_idle());

@@ -6,4 +6,4 @@ mod contents;
 mod devices;
 
 pub use contents::volume_status;
-pub use devices::state_on;
+pub use devices::{Examined, state_on};
