@@ -1,9 +1,12 @@
 //! A new volume: its sizes, the octets of its device, its label, and how it is made. docs/FORMATS.md has the layouts.
 #![tactic(auto)]
 
-mod carrying;
+mod calls;
 mod formatting;
 mod laws;
+mod laying;
+mod magic;
+mod superblock;
 
 ghost use Rattle.std.specs.Prelude.{◌≡◌, ◌≤◌, length, vec_len, IfOk, IsTrue};
 ghost use Rattle.model.specs.Layout.{label_octets};
