@@ -1,9 +1,13 @@
-//! Adds a group, or removes articles from one, while no server runs.
+//! Adds a group, or removes articles from groups, while no server runs.
 #![tactic(auto)]
 
-ghost use Rattle.journal.specs.Journal.{IsReady};
+ghost use Rattle.std.specs.Prelude.{OnOk};
+ghost use Rattle.journal.specs.Journal.{IsIdle};
 
-use flusher::{FlushError, flush_turn};
+mod ages;
+
+pub use ages::{AgeOrder, expire_older};
+use flusher::{FlushError, TurnSeat, flush_turn};
 use journal::Journal;
 use locked_kernel::Locked;
 use lookups::LookUps;
@@ -74,9 +78,11 @@ fn flush<R: Wait>(
     kern: &Locked,
     batch: &mut BatchBuf,
 ) -> Result<(), CommandError>
-    requires { IsReady journal.old }
+    requires { IsIdle journal.old }
+    ensures { OnOk result (IsIdle journal.new) }
 {
-    let (mark, mut seat, _) = Mark::new(alloc)?;
+    let (mark, seat, _) = Mark::new(alloc)?;
+    let mut seat = TurnSeat::new(seat);
     match flush_turn(rt, journal, kern, &mark, &mut seat, batch, &NoGate) {
         Ok(_) => Ok(()),
         Err(FlushError::Fault) => Err(CommandError::Fault),
