@@ -1,5 +1,6 @@
 -- What the passes of the check decide.
-use Rattle.std.specs.Prelude.{◌≡◌, ◌⊎◌, ◌<◌, ◌≤◌, ◌↔◌, ℕ, false, List, length, Contains, IsTrue}
+use Rattle.std.specs.Prelude.{◌≡◌, ◌⊎◌, ◌<◌, ◌≤◌, ◌↔◌, ◌==◌, if◌then◌else◌, ℕ, false, drop, List, length, slice_index_or, Contains, IsTrue}
+use Rattle.byteorder.specs.Endian.{big_number}
 use Rattle.model.specs.Stream.{Octets}
 use Rattle.model.specs.Volume.{number_at, AreDistinct}
 use Rattle.model.specs.Files.{FileEntry, IsFile, IsFree, size, block_count, double_pointer, indirect_count, indirect_pointer, pointer}
@@ -81,3 +82,7 @@ abbrev pub HasDistinctNames : ℕ → ℕ → List Octets → Type 0
 HasDistinctNames at inodes blocks =
     (k l : ℕ) → k < at → l < at → IsFile (entry inodes blocks k) → IsFile (entry inodes blocks l)
     → name_in (slot_of inodes blocks k) ≡ name_in (slot_of inodes blocks l) → k ≡ l
+
+-- the number of the last eight digits of an article's name, which begins with 'a' (97), and 0 for a slot with another name
+unfoldable pub rank : Octets → ℕ
+rank slot = if slice_index_or slot 1 0 == 97 then big_number 8 (drop 5 slot) else 0

@@ -6,25 +6,25 @@ ghost use Rattle.std.specs.Bool.{OnTrue, OnFalse};
 ghost use Rattle.std.specs.List.{All};
 ghost use Rattle.model.specs.Files.{AreWithin, HasRoom, IsFileSystem, bitmap_bits, bitmap_blocks, is_marked_used, most_octets};
 ghost use Rattle.fs_layout.specs.Bits.{bit_of};
-ghost use Rattle.fs_check.specs.Checking.{HasEntry, HasOwners, HasSmallEntry, HasDistinctNames, MarksUsed};
+ghost use Rattle.fs_check.specs.Checking.{HasEntry, HasOwners, HasSmallEntry, MarksUsed};
 
 use crate::entry::is_entry;
 use crate::marks::{is_bitmap, mark_owners};
+use crate::names::are_names_distinct;
 use blocks::{BLOCK_SIZE, Blocks};
 use fs_layout::FsError;
 use fs_layout::bits::set_front;
 use fs_layout::inodes::{bitmap_blocks, first_data};
-use fs_layout::records::{RECORD_SIZE, get_slot};
 use octet_numbers::zeros;
-use std::alloc::{AllocError, Global};
-use std::collections::BTreeSet;
+use std::alloc::Global;
 
 mod entry;
 mod marks;
+mod names;
 
 /// Checks the rule of blocks, whatever the blocks contain, and that no file is too large for the format. Changes
-/// nothing. `Damaged` exactly if the rule is broken or a file is too large. `Memory` if there is no room to gather the
-/// names.
+/// nothing. `Damaged` exactly if the rule is broken or a file is too large. `Memory` if there is no room to mark the
+/// blocks or to gather names.
 pub fn check<B: Blocks>(alloc: Global, blocks: &B, inodes: u32, format: u32) -> Result<(), FsError>
     requires room { HasRoom inodes (B.blocks blocks.now) }
     ensures sound { IfOk result (λ _. IsFileSystem inodes (B.blocks blocks.now)
@@ -76,21 +76,4 @@ fn are_entries<B: Blocks>(blocks: &B, inodes: u32, format: u32) -> bool
         }
     }
     true
-}
-
-// Whether no two files have the same name.
-fn are_names_distinct<B: Blocks>(alloc: Global, blocks: &B, inodes: u32) -> Result<bool, AllocError>
-    requires room { HasRoom inodes (B.blocks blocks.now) }
-    requires entries { (k : ℕ) → k < inodes → HasEntry inodes (B.blocks blocks.now) k }
-    ensures { IfOk result (λ distinct. IsTrue distinct ↔ HasDistinctNames inodes inodes (B.blocks blocks.now)) }
-{
-    let mut slots = BTreeSet::new(alloc);
-    let mut slot = [0; RECORD_SIZE];
-    for at in 0..inodes {
-        get_slot(blocks, inodes, at, &mut slot);
-        if slot[0] > 0 && !slots.insert(slot)? {
-            return Ok(false);
-        }
-    }
-    Ok(true)
 }

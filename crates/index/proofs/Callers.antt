@@ -1,11 +1,10 @@
 -- What the callers of the pushes know: laws for their premises.
-use Rattle.std.proofs.Common.{◌≡◌, ◌^◌, ℕ, zero, suc, ◌<◌, ◌≤◌, List, [], ◌∷◌, ◌++◌, length, map, get_or, refl, sym, ◌∙◌, ap, subst, arith}
+use Rattle.std.proofs.Common.{◌≡◌, ◌^◌, ℕ, zero, suc, ◌<◌, ◌≤◌, List, [], ◌∷◌, length, map, get_or, refl, sym, ◌∙◌, ap, subst, arith}
 use Rattle.std.proofs.Common.{inl, inr, Bool, true, false, cond, eqb, eq-eqb}
 use Rattle.std.specs.Prelude.{Option, Some, None, Contains, IsPermutation, bytes_eq, filter, find, flat_map, nat_le, ◌&&◌, ◌||◌}
 use Rattle.std.specs.List.{list_all, list_any, range_with_len}
 use Rattle.std.proofs.lemmas.Bool.{and_parts, leb-true, or_from}
 use Rattle.std.proofs.lemmas.List.{length-take}
-use Rattle.std.proofs.lemmas.List.Elements.{Contains-append_left, Contains-append_right}
 use Rattle.std.proofs.lemmas.List.FromFn.{get_or-map-range_with_len, length-map-range_with_len}
 use Rattle.std.proofs.lemmas.List.Sorted.{Contains-permutation, IsPermutation-sym}
 use Rattle.std.proofs.lemmas.Option.{same_Some}
@@ -16,8 +15,7 @@ use Rattle.model.specs.Indexed.{GroupIndex, group_index}
 use Rattle.model.specs.Layout.{Holds}
 use Rattle.model.specs.Lawful.{MayFile}
 use Rattle.model.specs.Names.{is_group_name}
-use Rattle.model.specs.Spool.{Spool, NewsGroup, articles, expiries, group_named, groups, is_here, is_name}
-use Rattle.model.specs.FileKinds.{article_file, expiry_file, files_by_kind, group_files}
+use Rattle.model.specs.Spool.{Spool, NewsGroup, group_named, groups, is_here, is_name}
 use Rattle.model.specs.SpoolFiles.{files_of, overview_file, overview_name}
 use Rattle.model.specs.declared.change.Filing.{Filing}
 use Rattle.model.proofs.ByKind.{overview_there}

@@ -1,7 +1,7 @@
 -- The index of a spool with one change more.
 use Rattle.std.proofs.Common.{◌≡◌, ℕ, zero, suc, ◌+◌, ◌<◌, ◌≤◌, List, [], ◌∷◌, ◌++◌, length, map, take, get_or, refl, sym, ◌∙◌, ap, arith}
 use Rattle.std.proofs.Common.{zero-add, Bool, true, false, cond, length-append}
-use Rattle.std.specs.Prelude.{Option, Some, None, bytes_eq, find, filter, filter_map, flat_map, option_map, not, ◌||◌, ◌&&◌, nat_le}
+use Rattle.std.specs.Prelude.{Option, Some, None, bytes_eq, find, filter_map, flat_map, option_map, not, ◌||◌, ◌&&◌, nat_le}
 use Rattle.std.specs.List.{list_any, list_all}
 use Rattle.std.specs.Option.{option_or}
 use Rattle.std.proofs.lemmas.Bool.{and_parts, not-true, or_parts, or_from}
@@ -12,10 +12,10 @@ use Rattle.std.proofs.lemmas.Slice.Eq.{bytes_eq-Decides}
 use Rattle.model.specs.Stream.{Octets}
 use Rattle.model.specs.Article.{Carried, are_distinct, groups_of, id}
 use Rattle.model.specs.Names.{is_group_name}
-use Rattle.model.specs.Indexed.{GroupIndex, ends_from, group_index, line_start, new_index, value_of, with_article, with_expiry}
+use Rattle.model.specs.Indexed.{GroupIndex, ends_from, group_index, line_start, new_index, with_article, with_expiry}
 use Rattle.model.specs.Lawful.{IsLawful, MayExpire, MayFile, MayMake}
 use Rattle.model.specs.Spool.{Spool, SpoolEntry, entries_from, entries, NewsArticle, NewsGroup, article_filed, articles, by_id, filed_in}
-use Rattle.model.specs.Spool.{group_made, group_named, groups, has_id, is_here, is_name, news_article, news_group}
+use Rattle.model.specs.Spool.{group_named, groups, has_id, is_here, is_name, news_article, news_group}
 use Rattle.model.specs.FileCalls.{next_line}
 use Rattle.model.specs.SpoolFiles.{overview_file, overview_lines, overview_of}
 use Rattle.model.specs.declared.change.Change.{Change}
@@ -30,17 +30,17 @@ use Rattle.model.proofs.Indexing.{articles_grow, empty_index, expiries_grow, gro
 use Rattle.model.proofs.Joined.{bytes_swap, map_twice}
 use Rattle.index_groups.specs.Filing.{AreLineSizes, end_of, filed_by, filed_once, with_line}
 use Rattle.index.specs.Kept.{kept}
-use Rattle.index.specs.View.{IndexView, Indexes}
+use Rattle.index.specs.View.{IndexView, Indexes, serial_in}
 use Rattle.index.specs.declared.note.Note.{Note}
 
 -- ---- no change
 
-pub none_indexed : (x : IndexView) → x.notes ≡ [] → x.groups ≡ [] → x.ids ≡ [] → Indexes [] x
+pub none_indexed : (x : IndexView) → x.notes ≡ [] → x.groups ≡ [] → ((wanted : Octets) → serial_in x wanted ≡ None) → Indexes [] x
 unfolding entries
 none_indexed x notes groups' ids = record {
   notes_are = notes;
   groups_are = groups' ∙ empty_index.groups_are;
-  ids_are = λ wanted. ap (λ (es : List (Octets × ℕ)). value_of es wanted) ids ∙ empty_index.ids_are wanted;
+  ids_are = λ wanted. ids wanted ∙ empty_index.ids_are wanted;
 }
 
 -- ---- how many
@@ -120,7 +120,7 @@ pub group_indexed : (host : Octets) (S : Spool) (x y : IndexView) (created : New
     → note ≡ kept (record { serial = length S + 1; change = Group created })
     → y.groups ≡ x.groups ++ new ∷ []
     → new ≡ new_index S (news_group (length S + 1) created)
-    → y.ids ≡ x.ids → Indexes (S ++ Group created ∷ []) y
+    → ((wanted : Octets) → serial_in y wanted ≡ serial_in x wanted) → Indexes (S ++ Group created ∷ []) y
 group_indexed host S x y created new note lawful may is notes note_is groups' new_is ids = record {
   notes_are = notes ∙ ap (λ (n : Note). x.notes ++ n ∷ []) note_is ∙ notes_more S x c is;
   groups_are =
@@ -130,7 +130,7 @@ group_indexed host S x y created new note lawful may is notes note_is groups' ne
       ∙ sym (groups_apart S created may.new))
       ∙ sym (map_push (group_index R) (groups S) g) ∙ ap (map (group_index R)) (sym (groups_more S c));
   ids_are = λ wanted.
-      ap (λ (es : List (Octets × ℕ)). value_of es wanted) ids ∙ is.ids_are wanted
+      ids wanted ∙ is.ids_are wanted
       ∙ ap (option_map (λ (a : NewsArticle). a.serial)) (sym (ids_same S c wanted refl));
 } where
   c : Change
@@ -147,7 +147,7 @@ group_indexed host S x y created new note lawful may is notes note_is groups' ne
 pub expiry_indexed : (host : Octets) (S : Spool) (x y : IndexView) (expiry : Expiry) (note : Note) → MayExpire S expiry → Indexes S x
     → y.notes ≡ x.notes ++ note ∷ [] → note ≡ kept (record { serial = length S + 1; change = Expire expiry })
     → y.groups ≡ map (λ i. cond (bytes_eq expiry.group i.group.name) (with_expiry S expiry.number i) i) x.groups
-    → y.ids ≡ x.ids → Indexes (S ++ Expire expiry ∷ []) y
+    → ((wanted : Octets) → serial_in y wanted ≡ serial_in x wanted) → Indexes (S ++ Expire expiry ∷ []) y
 expiry_indexed host S x y expiry note may is notes note_is groups' ids = record {
   notes_are = notes ∙ ap (λ (n : Note). x.notes ++ n ∷ []) note_is ∙ notes_more S x c is;
   groups_are =
@@ -158,7 +158,7 @@ expiry_indexed host S x y expiry note may is notes note_is groups' ids = record 
       (group_index R) (groups S) (λ g. sym (expiries_grow host S expiry g may))
       ∙ ap (map (group_index R)) (sym (groups_more S c ∙ append-nil (groups S)));
   ids_are = λ wanted.
-      ap (λ (es : List (Octets × ℕ)). value_of es wanted) ids ∙ is.ids_are wanted
+      ids wanted ∙ is.ids_are wanted
       ∙ ap (option_map (λ (a : NewsArticle). a.serial)) (sym (ids_same S c wanted refl));
 } where
   c : Change
@@ -298,7 +298,7 @@ pub article_indexed : (host : Octets) (S : Spool) (x y : IndexView) (filing : Fi
     → y.notes ≡ x.notes ++ note ∷ [] → note ≡ kept (record { serial = length S + 1; change = Article filing })
     → AreLineSizes S filing.text filing.envelope.groups sizes → serial ≡ length S + 1
     → y.groups ≡ map (filed_by serial filing.envelope.groups sizes (length filing.envelope.groups)) x.groups
-    → key ≡ id filing.text → ((q : Octets) → value_of y.ids q ≡ cond (bytes_eq q key) (Some serial) (value_of x.ids q))
+    → key ≡ id filing.text → ((q : Octets) → serial_in y q ≡ cond (bytes_eq q key) (Some serial) (serial_in x q))
     → Indexes (S ++ Article filing ∷ []) y
 article_indexed host S x y filing key sizes note serial may is notes note_is sized serial_is groups' key_is ids = record {
   notes_are = notes ∙ ap (λ (n : Note). x.notes ++ n ∷ []) note_is ∙ notes_more S x c is;
@@ -311,8 +311,8 @@ article_indexed host S x y filing key sizes note serial may is notes note_is siz
       (groups S) (λ g. filed_all S filing sizes (filed_distinct host S filing may) sized g)
       ∙ ap (map (group_index R)) (sym (groups_more S c ∙ append-nil (groups S)));
   ids_are = λ q.
-      ids q ∙ ap (λ (k : Octets). cond (bytes_eq q k) (Some serial) (value_of x.ids q)) key_is
-      ∙ ap (λ (n : ℕ). cond (bytes_eq q (id filing.text)) (Some n) (value_of x.ids q)) serial_is
+      ids q ∙ ap (λ (k : Octets). cond (bytes_eq q k) (Some serial) (serial_in x q)) key_is
+      ∙ ap (λ (n : ℕ). cond (bytes_eq q (id filing.text)) (Some n) (serial_in x q)) serial_is
       ∙ ap (λ (o : Option ℕ). cond (bytes_eq q (id filing.text)) (Some (length S + 1)) o) (is.ids_are q)
       ∙ found (λ (a : NewsArticle). a.serial) (by_id S q) (news_article (length S + 1) filing)
       (bytes_eq q (id filing.text)) (bytes_eq (id filing.text) q)

@@ -6,3 +6,4 @@ pub mod Known
 pub mod Callers
 pub mod Moments
 pub mod Newest
+pub mod NewIds

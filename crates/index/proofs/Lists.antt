@@ -1,5 +1,5 @@
 -- Loops over lists: whether one passes, and the greatest.
-use Rattle.std.proofs.Common.{◌≡◌, ℕ, ◌+◌, ◌<◌, List, [], ◌∷◌, ◌++◌, length, map, take, get_or, refl, sym, ◌∙◌, ap, arith, Bool}
+use Rattle.std.proofs.Common.{◌≡◌, ℕ, ◌+◌, ◌<◌, List, [], ◌∷◌, length, map, take, get_or, refl, sym, ◌∙◌, ap, Bool}
 use Rattle.std.proofs.Common.{true, false, cond}
 use Rattle.std.specs.Prelude.{filter, max, ◌&&◌, ◌||◌}
 use Rattle.std.specs.List.{list_any}

@@ -1,18 +1,17 @@
 -- What the look-ups find is what the changes say.
-use Rattle.std.proofs.Common.{◌≡◌, ℕ, suc, ◌-◌, ◌<◌, List, [], ◌∷◌, ◌++◌, length, map, get_or, refl, sym, ◌∙◌, ap, subst, arith}
+use Rattle.std.proofs.Common.{◌≡◌, ℕ, ◌-◌, ◌<◌, List, [], ◌∷◌, length, map, get_or, refl, sym, ◌∙◌, ap, subst, arith}
 use Rattle.std.proofs.Common.{Bool, true, false, cond}
-use Rattle.std.specs.Prelude.{Option, Some, None, bytes_eq, find, filter, filter_map, option_map, slice_get, nat_le, nat_lt, is_some, ◌==◌}
-use Rattle.std.proofs.lemmas.Bool.{cond-false, true≢false}
-use Rattle.std.proofs.lemmas.List.{append_assoc, length-map, get_or-map}
+use Rattle.std.specs.Prelude.{Option, Some, None, bytes_eq, find, option_map, slice_get, nat_le, nat_lt, ◌==◌}
+use Rattle.std.proofs.lemmas.Bool.{true≢false}
+use Rattle.std.proofs.lemmas.List.{length-map, get_or-map}
 use Rattle.std.proofs.lemmas.Option.{same_Some, slice_get-map}
 use Rattle.std.proofs.lemmas.Slice.Eq.{bytes_eq-Decides}
 use Rattle.model.specs.Stream.{Octets}
 use Rattle.model.specs.Indexed.{GroupIndex, group_index, value_of}
-use Rattle.model.specs.Lawful.{IsLawful, IsLawfulAfter}
-use Rattle.model.specs.Spool.{Spool, entries_from, entries, NewsExpiry, NewsArticle, NewsGroup, by_number, expired_at, expiries}
-use Rattle.model.specs.Spool.{expiries_of, expiry_made, filed_in, group_named, groups, is_here, is_name, low, numbered, serial_of}
-use Rattle.model.specs.declared.change.Change.TheVariants.{Group, Article, Expire}
-use Rattle.model.proofs.Growing.{named_front, new_has_nothing}
+use Rattle.model.specs.Lawful.{IsLawful}
+use Rattle.model.specs.Spool.{Spool, NewsExpiry, NewsArticle, NewsGroup, by_number, expired_at}
+use Rattle.model.specs.Spool.{expiries_of, filed_in, group_named, groups, is_name, low, numbered, serial_of}
+use Rattle.model.proofs.Growing.{new_has_nothing}
 use Rattle.model.proofs.Indexing.{new_has_expired}
 use Rattle.model.proofs.Joined.{bytes_differ}
 use Rattle.model.proofs.Rising.{expiries_rise}

@@ -3,3 +3,4 @@ pub mod View
 pub mod Notes
 pub mod Finding
 pub mod Latest
+pub mod Ids

@@ -148,7 +148,7 @@ impl Index {
 }
 
 /// The note of the change with this serial.
-fn note_in(notes: &[Note], serial: u64) -> Option<&Note>
+pub(crate) fn note_in(notes: &[Note], serial: u64) -> Option<&Note>
     ensures { option_map (λ n. n.now) result ≡ note_at notes.now serial }
 {
     if serial == 0 || (notes.len() as u64) < serial {

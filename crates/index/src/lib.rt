@@ -16,11 +16,14 @@ ghost use Rattle.index_groups.specs.Filing.{AreLineSizes, EndBelow};
 ghost use Rattle.index_groups.specs.Naming.{heads};
 
 mod articles;
+mod ids;
 mod latest;
 mod news;
 mod note;
+mod prints;
 mod views;
 
+use ids::Ids;
 use index_groups::{Group, Keys, expire_one, place_of, push_lines, reserve_lines};
 use latest::push_latest;
 use model::{Envelope, Moment, Status, Text};
@@ -38,14 +41,15 @@ pub struct Index {
     groups: Vec<Group>,
     /// the places of the groups by their names
     places: Keys,
-    /// the serials of the articles by their ids
-    ids: Keys,
+    /// the serials of the articles by their ids, which stand in the notes
+    ids: Ids,
 }
 
 impl Model for Index {
-    ghost use Rattle.std.specs.Prelude.{map};
+    ghost use Rattle.std.specs.Prelude.{length, map};
     ghost use Rattle.index_groups.specs.Shown.{shown};
     ghost use Rattle.index_groups.specs.Naming.{AreNamed, heads};
+    ghost use Rattle.index.specs.Ids.{AreUpTo};
     ghost use Rattle.index.specs.Latest.{AreLatest};
     ghost use Rattle.index.specs.View.{IndexView};
 
@@ -53,7 +57,8 @@ impl Model for Index {
 
     ghost view = { λ x. record { notes = x.notes.items; groups = map shown x.groups.items; ids = x.ids } };
 
-    ghost invariant = { λ x. AreNamed x.places (heads (map shown x.groups.items)) × AreLatest x.latest.items x.notes.items };
+    ghost invariant = { λ x. AreNamed x.places (heads (map shown x.groups.items)) × AreLatest x.latest.items x.notes.items
+        × AreUpTo (length x.notes.items) x.ids };
 }
 
 impl Index {
@@ -69,7 +74,7 @@ impl Index {
             latest: Vec::new(alloc),
             groups: Vec::new(alloc),
             places: Keys::new(alloc),
-            ids: Keys::new(alloc),
+            ids: Ids::new(alloc),
         }
     }
 
@@ -124,7 +129,7 @@ impl Index {
     pub fn by_id(&self, wanted: &[u8]) -> Option<u64>
         ensures { (S : Spool) → Indexes S self.now → result ≡ option_map (λ a. a.serial) (by_id S wanted.now) }
     {
-        self.ids.get(wanted)
+        self.ids.get(&self.notes, wanted)
     }
 
     /// The serial of the expiry that removed this number from the group, or 0 if none did.

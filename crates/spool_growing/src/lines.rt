@@ -1,6 +1,6 @@
 //! What an article adds to the numbers and the overviews of its groups.
 
-ghost use Rattle.std.specs.Prelude.{◌≡◌, ◌+◌, ◌^◌, ◌<◌, ◌≤◌, ℕ, List, length, IfOk};
+ghost use Rattle.std.specs.Prelude.{◌≡◌, ◌+◌, ◌^◌, ◌<◌, ◌≤◌, ◌++◌, ◌∷◌, [], ℕ, List, length, IfOk, OnOk};
 ghost use Rattle.std.specs.List.{All};
 ghost use Rattle.model.specs.Files.{table};
 ghost use Rattle.model.specs.Indexed.{ArePlaces};
@@ -25,6 +25,19 @@ pub(crate) struct Lines {
     pub(crate) pieces: Vec<Piece>,
     /// the number of octets of each line
     pub(crate) sizes: Vec<u64>,
+}
+
+impl Lines {
+    /// Adds what the article adds to one more group. Refused only for want of memory.
+    fn push(&mut self, number: Piece, line: Piece) -> Result<(), AllocError>
+        ensures sizes { OnOk result (self.new.sizes.items ≡ self.old.sizes.items ++ length line.octets.items ∷ []) }
+        ensures pieces { OnOk result (self.new.pieces.items ≡ self.old.pieces.items ++ number ∷ line ∷ []) }
+    {
+        self.sizes.push(line.octets.len() as u64)?;
+        self.pieces.push(number)?;
+        self.pieces.push(line)?;
+        Ok(())
+    }
 }
 
 /// What an article adds to the numbers and to the overview of a group. Refused only for want of memory.
@@ -79,13 +92,13 @@ pub(crate) fn lines_of(
     ensures small { IfOk result (λ l. All (λ n. n < 2 ^ 32) l.sizes.items) }
 {
     let overview = Overview::new(alloc, article)?;
-    let mut pieces = Vec::with_capacity(alloc, filed.len().saturating_mul(2))?;
-    let mut sizes = Vec::with_capacity(alloc, filed.len())?;
+    let mut lines = Lines {
+        pieces: Vec::with_capacity(alloc, filed.len().saturating_mul(2))?,
+        sizes: Vec::with_capacity(alloc, filed.len())?,
+    };
     for name in filed {
         let (number, line) = line_in(alloc, index, places, serial, &overview, name.as_slice())?;
-        sizes.push(line.octets.len() as u64)?;
-        pieces.push(number)?;
-        pieces.push(line)?;
+        lines.push(number, line)?;
     }
-    Ok(Lines { pieces, sizes })
+    Ok(lines)
 }

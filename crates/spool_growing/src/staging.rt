@@ -1,13 +1,14 @@
 //! The files that a change makes, on the stage. Each is put into the lowest free inode, and its octets into the lowest
 //! free blocks.
 
-ghost use Rattle.std.specs.Prelude.{◌≡◌, ◌<◌, ◌≤◌, ◌+◌, IfOk, OnOk, length};
-ghost use Rattle.model.specs.Files.{HasRoom, IsFileSystem, table};
+ghost use Rattle.std.specs.Prelude.{◌≡◌, ◌<◌, ◌≤◌, ◌+◌, ◌++◌, IfOk, OnOk, length};
+ghost use Rattle.model.specs.Files.{HasRoom, IsFileSystem, files_in, table};
 ghost use Rattle.model.specs.Records as model_records;
 ghost use Rattle.model.specs.SpoolFiles.{article_name, expiry_name};
-ghost use Rattle.fs.specs.Calls.{IsThere};
+ghost use Rattle.fs.specs.Calls.{IsName, IsThere};
 ghost use Rattle.fs.specs.Touches.{Touches, touched_by_growth};
-ghost use Rattle.filing.specs.Calls.{IsKnown, MakesAt, MayAllGrow, touched_by_pieces};
+ghost use Rattle.filing.specs.Calls.{CreatesAt, IsKnown, MakesAt, MayAllGrow, touched_by_pieces};
+ghost use Rattle.records.specs.Kinds.{front_of};
 ghost use Rattle.spool_growing.specs.Growing.{FilesArticle, HasFree, LacksGroup, MakesGroup};
 
 use blocks::Blocks;
@@ -21,6 +22,31 @@ pub(crate) struct GroupPlaces {
     pub(crate) at: u32,
     pub(crate) numbers: u32,
     pub(crate) overview: u32,
+}
+
+/// Makes a group's file of this kind, empty, and answers its inode. Refused only for want of memory; then the caller must
+/// drop the stage.
+fn make_empty<B: Blocks>(
+    alloc: Global,
+    blocks: &mut B,
+    inodes: u32,
+    free: &mut Free,
+    kind: FileKind,
+    group: &[u8],
+) -> Result<u32, AllocError>
+    requires room { HasRoom inodes (B.blocks blocks.old) }
+    requires rule { IsFileSystem inodes (B.blocks blocks.old) }
+    requires name { IsName (front_of kind ++ group.now) }
+    requires new { ¬ (IsThere (table inodes (B.blocks blocks.old)) (front_of kind ++ group.now)) }
+    requires few { length (files_in (table inodes (B.blocks blocks.old))) < inodes }
+    requires known { IsKnown inodes free.old (B.blocks blocks.old) }
+    ensures created { IfOk result (λ at. CreatesAt inodes at (front_of kind ++ group.now) (B.blocks blocks.old) (B.blocks blocks.new)) }
+    ensures known { OnOk result (IsKnown inodes free.new (B.blocks blocks.new)) }
+    ensures touches { OnOk result (Touches 2 (B.blocks blocks.old) (B.blocks blocks.new)) }
+    ensures kept { B.applied blocks.new ≡ B.applied blocks.old }
+{
+    let name = file_name(alloc, kind, group)?;
+    create_file(blocks, inodes, free, name.as_slice())
 }
 
 /// Makes the files of a group: its record, and empty numbers and overview. Refused only for want of memory; then the
@@ -47,11 +73,9 @@ pub(crate) fn make_group<B: Blocks>(
     ensures kept { B.applied blocks.new ≡ B.applied blocks.old }
 {
     let first = file_name(alloc, FileKind::Group, name)?;
-    let second = file_name(alloc, FileKind::Numbers, name)?;
-    let third = file_name(alloc, FileKind::Overview, name)?;
     let at = make_file(blocks, inodes, free, &first, record)?;
-    let numbers = create_file(blocks, inodes, free, &second)?;
-    let overview = create_file(blocks, inodes, free, &third)?;
+    let numbers = make_empty(alloc, blocks, inodes, free, FileKind::Numbers, name)?;
+    let overview = make_empty(alloc, blocks, inodes, free, FileKind::Overview, name)?;
     Ok(GroupPlaces {
         at,
         numbers,

@@ -115,12 +115,6 @@ article_replayed host inodes blocks R x y p q at f rule replayed its may all ind
 pub no_cause_there : (o : Option Cause) (x : Cause) → o ≡ None → o ≡ Some x → ⊥
 no_cause_there o x none some = absurd (cc)
 
--- the names that were listed and are here
-pub filed_are : (S : Spool) (article : Octets) (names listed here filed : List Octets) → names ≡ groups_of article → listed ≡ names
-    → here ≡ filter (is_here S) listed → filed ≡ here → filed ≡ filter (is_here S) (groups_of article)
-filed_are S article names listed here filed names_are listed_are here_are same = same ∙ here_are
-    ∙ ap (filter (is_here S)) (listed_are ∙ names_are)
-
 pub filed_here : (S : Spool) (article : Octets) (filed : List Octets) → filed ≡ filter (is_here S) (groups_of article) → AreHere S filed
 filed_here S article filed are = subst (AreHere S) (sym are) (are_here S (groups_of article))
 

@@ -1,6 +1,6 @@
 //! Whether the numbers and the overview of a group continue with an article.
 
-ghost use Rattle.std.specs.Prelude.{◌≡◌, ◌+◌, ◌*◌, ◌^◌, ◌<◌, ◌≤◌, ◌↔◌, ℕ, List, IsTrue, false, length, IfOk, IfSome, MatchOption};
+ghost use Rattle.std.specs.Prelude.{◌≡◌, ◌+◌, ◌*◌, ◌^◌, ◌<◌, ◌≤◌, ◌↔◌, ◌++◌, ℕ, List, IsTrue, false, length, IfOk, IfSome, MatchOption};
 ghost use Rattle.std.specs.List.{All};
 ghost use Rattle.model.specs.Article.{overview_line};
 ghost use Rattle.model.specs.Files.{HasRoom, IsFileSystem, table, largest_file};
@@ -10,6 +10,7 @@ ghost use Rattle.index_groups.specs.Filing.{AreLineSizes, end_of};
 ghost use Rattle.index.specs.View.{Indexes};
 ghost use Rattle.spool_opening.specs.Replayed.{AllGoOn, AreHere, IsBounded};
 ghost use Rattle.index_groups.specs.Shown.{shown};
+ghost use Rattle.records.specs.Kinds.{front_of};
 ghost use Rattle.spool_reading.specs.Sorted.{AreSorted};
 ghost use Rattle.spool_opening.specs.Stored.{HasPiece};
 ghost use Rattle.spool_opening.specs.Going.{GoesOn};
@@ -28,13 +29,14 @@ use std::alloc::{AllocError, Global};
 /// The number of octets that an article takes in the numbers of a group.
 pub(crate) const NUMBER_SIZE: u64 = 16;
 
-/// Whether a file of this name has these octets at a place. Refused only for want of memory.
+/// Whether a group's file of this kind has these octets at a place. Refused only for want of memory.
 fn stands<B: Blocks>(
     alloc: Global,
     blocks: &B,
     inodes: u32,
     files: &Files,
-    name: &[u8],
+    kind: FileKind,
+    group: &[u8],
     after: u64,
     piece: &[u8],
 ) -> Result<bool, AllocError>
@@ -42,11 +44,13 @@ fn stands<B: Blocks>(
     requires rule { IsFileSystem inodes (B.blocks blocks.now) }
     requires sorted { AreSorted (table inodes (B.blocks blocks.now)) (length (table inodes (B.blocks blocks.now)))
         files.now.slots.items files.now.named }
-    requires index { (content : List ℕ) → is_of_change (record { name = name.now; content = content }) ≡ false }
-    ensures stands { IfOk result (λ stands. IsTrue stands ↔ HasPiece (table inodes (B.blocks blocks.now)) name.now after piece.now) }
+    requires index { (content : List ℕ) → is_of_change (record { name = front_of kind ++ group.now; content = content }) ≡ false }
+    ensures stands { IfOk result (λ stands. IsTrue stands
+        ↔ HasPiece (table inodes (B.blocks blocks.now)) (front_of kind ++ group.now) after piece.now) }
     ensures short { IfOk result (λ stands. IsTrue stands → length piece.now ≤ largest_file) }
 {
-    let Some(at) = files.named.get(name) else {
+    let name = file_name(alloc, kind, group)?;
+    let Some(at) = files.named.get(&name) else {
         return Ok(false);
     };
     let there = read_file(alloc, blocks, inodes, at, after, piece.len() as u64)?;
@@ -78,18 +82,26 @@ pub fn goes_on<B: Blocks>(
     let high = group.high();
     let end = group.overview_size();
     let line = overview.line(alloc, high + 1)?;
-    let lines = file_name(alloc, FileKind::Overview, group.name())?;
-    if !stands(alloc, blocks, inodes, files, &lines, end, &line)? {
-        return Ok(None);
-    }
-    let record = number_record(serial, end as u32, &line);
-    let numbers = file_name(alloc, FileKind::Numbers, group.name())?;
     if !stands(
         alloc,
         blocks,
         inodes,
         files,
-        &numbers,
+        FileKind::Overview,
+        group.name(),
+        end,
+        &line,
+    )? {
+        return Ok(None);
+    }
+    let record = number_record(serial, end as u32, &line);
+    if !stands(
+        alloc,
+        blocks,
+        inodes,
+        files,
+        FileKind::Numbers,
+        group.name(),
         NUMBER_SIZE * high,
         &record,
     )? {

@@ -1,8 +1,9 @@
 //! Replays the changes of a spool, each from its file.
 
-ghost use Rattle.std.specs.Prelude.{◌≡◌, ◌<◌, ◌+◌, ◌++◌, ◌∷◌, [], ℕ, List, Some, length, IfErr, OnOk};
+ghost use Rattle.std.specs.Prelude.{◌≡◌, ◌<◌, ◌+◌, ◌++◌, ◌∷◌, [], ℕ, List, None, Some, filter, length, IfErr, IfOk, OnOk};
+ghost use Rattle.model.specs.Article.{Carried, cause, groups_of};
 ghost use Rattle.model.specs.Lawful.{MayExpire, MayFile, MayMake};
-ghost use Rattle.model.specs.Spool.{Spool};
+ghost use Rattle.model.specs.Spool.{Spool, is_here};
 ghost use Rattle.model.specs.declared.change.Change.{Change};
 ghost use Rattle.index.specs.View.{Indexes};
 ghost use Rattle.model.specs.Files.{HasRoom, IsFileSystem, table};
@@ -16,7 +17,7 @@ use admission::{groups_here, id_of, may_expire, may_file, may_make};
 use article::{Article, Origin, ReadError};
 use blocks::Blocks;
 use index::Index;
-use model::{Envelope, Moment, Status};
+use model::{Envelope, Moment, Status, Text};
 use places::Places;
 use spool_reading::{Files, ReadSpoolError};
 use std::alloc::Global;
@@ -82,6 +83,39 @@ pub fn replay_group(
     Ok(())
 }
 
+/// The groups of a carried article that exist. `Damaged` exactly if the article may not follow the changes of this index
+/// with this serial and envelope. Otherwise refused only for want of memory.
+fn filed_here(
+    alloc: Global,
+    index: &Index,
+    host: &[u8],
+    serial: u64,
+    article: &Article<'_>,
+    envelope: &Envelope,
+) -> Result<Vec<Text>, ReadSpoolError>
+    requires { cause Carried article.now ≡ None }
+    ensures here { IfOk result (λ here. (S : Spool) → Indexes S index.now → here.items ≡ filter (is_here S) (groups_of article.now)) }
+    ensures ok { OnOk result ((S : Spool) → Indexes S index.now → serial ≡ length S + 1
+        → MayFile host.now S (record { text = article.now; envelope = envelope.now })) }
+    ensures damaged { IfErr result (λ e. e ≡ ReadSpoolError.Damaged → (S : Spool) → Indexes S index.now → serial ≡ length S + 1
+        → MayFile host.now S (record { text = article.now; envelope = envelope.now }) → ⊥) }
+{
+    let names = article.groups(alloc)?;
+    let here = groups_here(alloc, index, names.as_slice())?;
+    if !may_file(
+        alloc,
+        index,
+        host,
+        serial,
+        article,
+        here.as_slice(),
+        envelope,
+    )? {
+        return Err(ReadSpoolError::Damaged);
+    }
+    Ok(here)
+}
+
 /// Replays an article, whose file has this inode. `Damaged` exactly if it may not follow the changes before it, or if
 /// the numbers and the overview of one of its groups do not continue with it.
 pub fn replay_article<B: Blocks>(
@@ -114,24 +148,10 @@ pub fn replay_article<B: Blocks>(
         Err(ReadError::Bad(_)) => return Err(ReadSpoolError::Damaged),
         Err(ReadError::Memory) => return Err(ReadSpoolError::Memory),
     };
-    let names = article.groups(alloc)?;
-    let listed = names.as_slice();
-    let here = groups_here(alloc, &replay.index, listed)?;
     let count = replay.index.len();
     let serial = count + 1;
+    let here = filed_here(alloc, &replay.index, host, serial, &article, &envelope)?;
     let filed = here.as_slice();
-    let may = may_file(
-        alloc,
-        &replay.index,
-        host,
-        serial,
-        &article,
-        filed,
-        &envelope,
-    )?;
-    if !may {
-        return Err(ReadSpoolError::Damaged);
-    }
     let Some(sizes) = line_sizes(
         alloc,
         blocks,

@@ -1,4 +1,4 @@
-use Rattle.std.proofs.Common.{◌≡◌, ℕ, sym, ◌∙◌}
+use Rattle.std.proofs.Common.{sym, ◌∙◌}
 use Rattle.std.proofs.lemmas.Bool.{false≢true, OnFalse_at, OnTrue_at}
 use Rattle.fs_check.proofs.Sound.{bitmap_from_rule, owners_from_rule}
 use Rattle.fs_check.proofs.are_marked.Goals as goal

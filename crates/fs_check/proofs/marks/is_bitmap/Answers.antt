@@ -1,6 +1,6 @@
-use Rattle.std.proofs.Common.{◌≡◌, ◌<◌, ◌+◌, ◌*◌, ℕ, inl, inr, length, refl, sym, ◌∙◌, subst, arith}
-use Rattle.std.proofs.lemmas.Bool.{cases_lt, false≢true}
-use Rattle.model.specs.Files.{bitmap_blocks, is_marked_used}
+use Rattle.std.proofs.Common.{◌≡◌, ◌+◌, ◌*◌, length, refl, sym, ◌∙◌, arith}
+use Rattle.std.proofs.lemmas.Bool.{false≢true}
+use Rattle.model.specs.Files.{bitmap_blocks}
 use Rattle.fs_check.proofs.Bitmaps.{all_marks}
 use Rattle.fs_check.proofs.marks.is_bitmap.Goals as goal
 

@@ -1,4 +1,4 @@
-use Rattle.std.proofs.Common.{◌≡◌, ◌*◌, ℕ, length, take, drop, ap, ◌∙◌, arith, length-take, length-drop}
+use Rattle.std.proofs.Common.{◌≡◌, ◌*◌, length, take, drop, ap, ◌∙◌, arith, length-take, length-drop}
 use Rattle.model.specs.Stream.{Octets}
 use Rattle.fs_check.proofs.Bitmaps.{same_bits, same_marks}
 use Rattle.fs_check.proofs.marks.is_bitmap_block.Goals as goal

@@ -1,15 +1,17 @@
 use Rattle.std.proofs.Common.{◌≡◌, ◌+◌, ◌++◌, ◌∷◌, [], ℕ, List, length, map, sym, ap, subst, ◌∙◌, arith, cond}
-use Rattle.std.specs.Prelude.{Some, bytes_eq}
-use Rattle.model.specs.Indexed.{value_of}
+use Rattle.std.specs.Prelude.{Some, bytes_eq, option_map}
+use Rattle.model.specs.Spool.{NewsArticle, by_id}
 use Rattle.index_groups.specs.Filing.{filed_by}
 use Rattle.index_groups.specs.Naming.{AreNamed, heads}
 use Rattle.index_groups.specs.Shown.{shown}
 use Rattle.index_groups.proofs.Steps.{filed_twice, heads_by}
+use Rattle.index.specs.Ids.{AreUpTo, serial_with}
 use Rattle.index.specs.Latest.{AreLatest}
-use Rattle.index.specs.View.{IndexView}
+use Rattle.index.specs.View.{IndexView, serial_in}
 use Rattle.index.specs.declared.note.Note.{Note}
 use Rattle.index.specs.declared.note.Note.TheVariants as note
 use Rattle.index.proofs.Growing.{article_indexed, new_serial}
+use Rattle.index.proofs.NewIds.{added_up_to, ids_added}
 use Rattle.index.proofs.Index.push_article.Goals as goal
 
 pub invariant_of-self-2 : goal.invariant_of-self-2
@@ -27,6 +29,14 @@ invariant_of-self-2 c =
           c.in_ok-reserve.ensures.items))
           (c.push_latest.ensures c.self.inside.notes.items
           (subst (λ (ms : List ℕ). AreLatest ms c.self.inside.notes.items) (sym c.in_ok-reserve-2.ensures.items) c.self.invariant.1)),
+      subst (λ (ns : List Note). AreUpTo (length ns) c.insert.new.self)
+          (sym (c.in-Ok.ensures.items
+          ∙ ap (λ (ns : List Note). ns ++ note.Article c.new-own_id.result c.args.size c.args.envelope.groups c.args.envelope.moment ∷ [])
+          c.in_ok-reserve.ensures.items))
+          (added_up_to c.self.inside.ids c.insert.new.self c.self.inside.notes.items
+          (note.Article c.new-own_id.result c.args.size c.args.envelope.groups c.args.envelope.moment) c.args.id.now (c.len.result + 1)
+          c.self.invariant.2 (omega (arith, c.len.ensures, c.self.inside.notes.ok))
+          (ap Some (c.new-own_id.ensures ∙ c.in_ok-from_slice.ensures.items)) c.in_ok-insert.ensures.ok),
     )
 
 pub returns-clause-ok : goal.returns-clause-ok
@@ -51,5 +61,13 @@ returns-clause-ok c = λ host S text may key size sized is.
     (length c.args.envelope.groups)) x.groups)
     c.self.view_is)
     key
-    (λ q. c.in_ok-insert.ensures.ok q
-    ∙ ap (λ (x : IndexView). cond (bytes_eq q c.args.id.now) (Some (c.len.result + 1)) (value_of x.ids q)) c.self.view_is)
+    (λ q. ap (λ (ns : List Note). serial_with c.insert.new.self ns q) (c.in-Ok.ensures.items ∙ ap (λ (ns : List Note). ns
+    ++ note.Article c.new-own_id.result c.args.size c.args.envelope.groups c.args.envelope.moment ∷ []) c.in_ok-reserve.ensures.items)
+    ∙ ids_added c.self.inside.ids c.insert.new.self c.self.inside.notes.items
+    (note.Article c.new-own_id.result c.args.size c.args.envelope.groups c.args.envelope.moment) c.args.id.now (c.len.result + 1)
+    c.self.invariant.2 (omega (arith, c.len.ensures, c.self.inside.notes.ok))
+    (ap Some (c.new-own_id.ensures ∙ c.in_ok-from_slice.ensures.items))
+    (ap (λ (x : IndexView). serial_in x c.args.id.now) c.self.view_is ∙ is.ids_are c.args.id.now
+    ∙ ap (option_map (λ (a : NewsArticle). a.serial)) (ap (by_id S) key ∙ may.new))
+    c.in_ok-insert.ensures.ok q
+    ∙ ap (λ (x : IndexView). cond (bytes_eq q c.args.id.now) (Some (c.len.result + 1)) (serial_in x q)) c.self.view_is)

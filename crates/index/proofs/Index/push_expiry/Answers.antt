@@ -5,11 +5,13 @@ use Rattle.index_groups.specs.Naming.{AreNamed, heads}
 use Rattle.index_groups.specs.Shown.{shown}
 use Rattle.index_groups.specs.declared.group.Group.{Group}
 use Rattle.index_groups.proofs.Steps.{heads_expired, kept_size, written}
+use Rattle.index.specs.Ids.{AreUpTo, serial_with}
 use Rattle.index.specs.Latest.{AreLatest}
-use Rattle.index.specs.View.{IndexView}
+use Rattle.index.specs.View.{IndexView, serial_in}
 use Rattle.index.specs.declared.note.Note.{Note}
 use Rattle.index.specs.declared.note.Note.TheVariants as note
 use Rattle.index.proofs.Growing.{expiry_indexed, new_serial}
+use Rattle.index.proofs.NewIds.{ids_stay, up_to_note}
 use Rattle.index.proofs.Index.push_expiry.Goals as goal
 
 pub invariant_of-self-2 : goal.invariant_of-self-2
@@ -31,6 +33,10 @@ invariant_of-self-2 c =
           c.in_ok-reserve.ensures.items))
           (c.push_latest.ensures c.self.inside.notes.items
           (subst (λ (ms : List ℕ). AreLatest ms c.self.inside.notes.items) (sym c.in_ok-reserve-2.ensures.items) c.self.invariant.1)),
+      subst (λ (ns : List Note). AreUpTo (length ns) c.self.inside.ids)
+          (sym (c.in-Ok.ensures.items ∙ ap (λ (ns : List Note). ns ++ note.Expiry c.new-group.result c.args.number ∷ [])
+          c.in_ok-reserve.ensures.items))
+          (up_to_note c.self.inside.ids c.self.inside.notes.items (note.Expiry c.new-group.result c.args.number) c.self.invariant.2),
     )
 
 pub returns-clause-ok : goal.returns-clause-ok
@@ -54,4 +60,7 @@ returns-clause-ok c = λ host S may is.
     (ap (λ (g : Octets). note.Expiry g c.args.number) (c.new-group.ensures ∙ c.in_ok-from_slice.ensures.items))
     (ap (map shown) back ∙ more ∙ ap (λ (n : ℕ). map (expired_once n c.args.name.now c.args.number) (map shown items)) next
     ∙ ap (λ (x : IndexView). map (expired_once (length S + 1) c.args.name.now c.args.number) x.groups) c.self.view_is)
-    (ap (λ (x : IndexView). x.ids) c.self.view_is)
+    (λ wanted. ap (λ (ns : List Note). serial_with c.self.inside.ids ns wanted)
+    (c.in-Ok.ensures.items ∙ ap (λ (ns : List Note). ns ++ note.Expiry c.new-group.result c.args.number ∷ []) c.in_ok-reserve.ensures.items)
+    ∙ ids_stay c.self.inside.ids c.self.inside.notes.items (note.Expiry c.new-group.result c.args.number) c.self.invariant.2 wanted
+    ∙ ap (λ (x : IndexView). serial_in x wanted) c.self.view_is)

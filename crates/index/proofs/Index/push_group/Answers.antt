@@ -7,11 +7,13 @@ use Rattle.index_groups.specs.Naming.{heads}
 use Rattle.index_groups.specs.Shown.{shown}
 use Rattle.index_groups.specs.declared.group.Group.{Group}
 use Rattle.index_groups.proofs.Naming.{named_pushed}
+use Rattle.index.specs.Ids.{AreUpTo, serial_with}
 use Rattle.index.specs.Latest.{AreLatest}
-use Rattle.index.specs.View.{IndexView}
+use Rattle.index.specs.View.{IndexView, serial_in}
 use Rattle.index.specs.declared.note.Note.{Note}
 use Rattle.index.specs.declared.note.Note.TheVariants as note
 use Rattle.index.proofs.Growing.{group_indexed, new_serial}
+use Rattle.index.proofs.NewIds.{ids_stay, up_to_note}
 use Rattle.index.proofs.Index.push_group.Goals as goal
 
 pub invariant_of-self-2 : goal.invariant_of-self-2
@@ -21,16 +23,20 @@ invariant_of-self-2 c =
     let groups : c.push.new.self.items ≡ c.self.inside.groups.items ++ c.in_ok-group.group ∷ [] =
     c.in-Ok.ensures.items ∙ ap (λ (gs : List Group). gs ++ c.in_ok-group.group ∷ []) c.in_ok-reserve-3.ensures.items in
     let count : c.len-2.result ≡ length c.self.inside.groups.items =
-    omega (arith, c.len-2.ensures, c.reserve-3.new.self.ok, ap (λ (gs : List Group). length gs) c.in_ok-reserve-3.ensures.items) in (
+    omega (arith, c.len-2.ensures, c.reserve-3.new.self.ok, ap (λ (gs : List Group). length gs) c.in_ok-reserve-3.ensures.items) in
+    let notes : c.push-2.new.self.items ≡ c.self.inside.notes.items ++ note.Group ∷ [] =
+    c.in-Ok-push.ensures.items ∙ ap (λ (ns : List Note). ns ++ note.Group ∷ []) c.in_ok-reserve.ensures.items in (
       named_pushed shown c.self.inside.groups.items c.push.new.self.items c.in_ok-group.group c.self.inside.places c.insert.new.self
           c.args.name.now c.self.invariant.0 groups name
           (ap (λ (gs : List GroupIndex). list_any (bytes_eq c.args.name.now) (heads gs)) view ∙ c.requires)
           (λ q. c.in_ok-insert.ensures.ok q
           ∙ ap (λ (n : ℕ). cond (bytes_eq q c.args.name.now) (Some n) (value_of c.self.inside.places q)) count),
       subst (AreLatest c.push_latest.new.latest.items)
-          (sym (c.in-Ok-push.ensures.items ∙ ap (λ (ns : List Note). ns ++ note.Group ∷ []) c.in_ok-reserve.ensures.items))
+          (sym notes)
           (c.push_latest.ensures c.self.inside.notes.items
           (subst (λ (ms : List ℕ). AreLatest ms c.self.inside.notes.items) (sym c.in_ok-reserve-2.ensures.items) c.self.invariant.1)),
+      subst (λ (ns : List Note). AreUpTo (length ns) c.self.inside.ids) (sym notes)
+          (up_to_note c.self.inside.ids c.self.inside.notes.items note.Group c.self.invariant.2),
     )
 
 pub returns-clause-ok : goal.returns-clause-ok
@@ -63,4 +69,7 @@ returns-clause-ok c = λ host S lawful may is.
       expired = [];
       last = n;
     }) serial)
-    (ap (λ (x : IndexView). x.ids) c.self.view_is)
+    (λ wanted. ap (λ (ns : List Note). serial_with c.self.inside.ids ns wanted)
+    (c.in-Ok-push.ensures.items ∙ ap (λ (ns : List Note). ns ++ note.Group ∷ []) c.in_ok-reserve.ensures.items)
+    ∙ ids_stay c.self.inside.ids c.self.inside.notes.items note.Group c.self.invariant.2 wanted
+    ∙ ap (λ (x : IndexView). serial_in x wanted) c.self.view_is)

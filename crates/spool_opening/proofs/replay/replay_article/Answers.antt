@@ -3,7 +3,7 @@ use Rattle.model.specs.Article.{id}
 use Rattle.model.specs.Files.{table}
 use Rattle.model.specs.declared.change.Filing.{Filing}
 use Rattle.index.proofs.Callers.{few_groups}
-use Rattle.spool_opening.proofs.Filed.{all_of_text, article_replayed, bounded, ends_below, filed_are, filed_here, may_of_text}
+use Rattle.spool_opening.proofs.Filed.{all_of_text, article_replayed, bounded, ends_below, filed_here, may_of_text}
 use Rattle.spool_opening.proofs.Filed.{no_cause_there, same_groups, sizes_of_text}
 use Rattle.spool_opening.proofs.replay.replay_article.Goals as goal
 
@@ -21,9 +21,7 @@ pub returns-in_default-clause-damaged : goal.returns-in_default-clause-damaged
 returns-in_default-clause-damaged g c = λ e S is may all.
     let f : Filing = record { text = c.in-Ok.article; envelope = c.args.envelope } in
     let text : c.in-Ok.article ≡ c.args.text.now = c.in-Ok.ensures.ok in
-    let filed = filed_are S c.in-Ok.article c.in_ok-names.names.items c.as_slice-listed.result.now c.in_ok-here.here.items
-    c.as_slice-filed.result.now c.in_ok-names.ensures c.as_slice-listed.ensures.value
-    (c.in_ok-here.ensures S is) c.as_slice-filed.ensures.value in
+    let filed = c.as_slice-filed.ensures.value ∙ c.in_ok-here.ensures.here S is in
     let same = same_groups c.args.host.now S f c.as_slice-filed.result.now filed
     (may_of_text c.args.host.now S c.args.text.now c.in-Ok.article c.args.envelope (sym text) may) in
     let none = rw c.in_default.is at c.in_ok-sizes.ensures.lines in
@@ -36,10 +34,8 @@ push_article-requires-clause-few g c =
     let its = c.requires.replayed in
     let S = its.changes in
     let is = its.replayed.indexed in
-    let filed = filed_are S c.in-Ok.article c.in_ok-names.names.items c.as_slice-listed.result.now c.in_ok-here.here.items
-    c.as_slice-filed.result.now c.in_ok-names.ensures c.as_slice-listed.ensures.value
-    (c.in_ok-here.ensures S is) c.as_slice-filed.ensures.value in
-    let may = (c.in_ok-may.ensures S is filed (ap (λ (n : ℕ). n + 1) (c.len-count.ensures S is))).0 c.if-not-may.false in
+    let filed = c.as_slice-filed.ensures.value ∙ c.in_ok-here.ensures.here S is in
+    let may = c.in_ok-here.ensures.ok S is (ap (λ (n : ℕ). n + 1) (c.len-count.ensures S is)) in
     few_groups c.args.host.now S (record { text = c.in-Ok.article; envelope = c.args.envelope }) may
 
 pub push_article-requires-clause-sizes : goal.push_article-requires-clause-sizes
@@ -47,10 +43,8 @@ push_article-requires-clause-sizes g c =
     let its = c.requires.replayed in
     let S = its.changes in
     let is = its.replayed.indexed in
-    let filed = filed_are S c.in-Ok.article c.in_ok-names.names.items c.as_slice-listed.result.now c.in_ok-here.here.items
-    c.as_slice-filed.result.now c.in_ok-names.ensures c.as_slice-listed.ensures.value
-    (c.in_ok-here.ensures S is) c.as_slice-filed.ensures.value in
-    let may = (c.in_ok-may.ensures S is filed (ap (λ (n : ℕ). n + 1) (c.len-count.ensures S is))).0 c.if-not-may.false in
+    let filed = c.as_slice-filed.ensures.value ∙ c.in_ok-here.ensures.here S is in
+    let may = c.in_ok-here.ensures.ok S is (ap (λ (n : ℕ). n + 1) (c.len-count.ensures S is)) in
     let same = same_groups c.args.host.now S (record { text = c.in-Ok.article; envelope = c.args.envelope })
     c.as_slice-filed.result.now filed may in
     let small = rw c.in-Some.is at c.in_ok-sizes.ensures.small in
@@ -75,10 +69,8 @@ returns-clause-ok g c = λ R replayed its.
     let e = c.args.envelope in
     let text : c.in-Ok.article ≡ c.args.text.now = c.in-Ok.ensures.ok in
     let serial = ap (λ (n : ℕ). n + 1) (c.len-count.ensures R is) in
-    let filed = filed_are R c.in-Ok.article c.in_ok-names.names.items c.as_slice-listed.result.now c.in_ok-here.here.items
-    c.as_slice-filed.result.now c.in_ok-names.ensures c.as_slice-listed.ensures.value
-    (c.in_ok-here.ensures R is) c.as_slice-filed.ensures.value in
-    let may = (c.in_ok-may.ensures R is filed serial).0 c.if-not-may.false in
+    let filed = c.as_slice-filed.ensures.value ∙ c.in_ok-here.ensures.here R is in
+    let may = c.in_ok-here.ensures.ok R is serial in
     let same = same_groups c.args.host.now R (record { text = c.in-Ok.article; envelope = e }) c.as_slice-filed.result.now filed may in
     let may_text = may_of_text c.args.host.now R c.in-Ok.article c.args.text.now e text may in
     let lines = rw c.in-Some.is at c.in_ok-sizes.ensures.lines in
