@@ -1,18 +1,20 @@
 -- The runs of a block and of the blocks behind it, and calls one after the other.
-use Rattle.std.proofs.Common.{◌≡◌, ◌≢◌, ◌⊎◌, inl, inr, ◌<◌, ◌≤◌, ℕ, zero, suc, ◌+◌, ◌-◌, ◌*◌, ◌%◌, if◌then◌else◌, List, [], ◌∷◌, ◌++◌}
+use Rattle.std.proofs.Common.{◌≡◌, ◌⊎◌, inl, inr, ◌<◌, ◌≤◌, ℕ, zero, suc, ◌+◌, ◌-◌, ◌*◌, if◌then◌else◌, Bool, true, false}
+use Rattle.std.proofs.Common.{List, [], ◌∷◌, ◌++◌}
 use Rattle.std.proofs.Common.{length, get_or, map, take, drop, Option, Some, None, refl, sym, ◌∙◌, ap, subst, arith, length-take}
 use Rattle.std.proofs.Common.{length-drop, Result, Ok, Err, IsErr}
 use Rattle.std.proofs.lemmas.List.{length-map, ext_get_or, drop-drop, get_or-drop, get_or-take, get_or_append_left, get_or-append_right}
 use Rattle.std.proofs.lemmas.List.{get_or_past, take-append-drop, map-append}
 use Rattle.std.proofs.lemmas.List.FromFn.{length-map-range_with_len, get_or-map-range_with_len}
-use Rattle.std.proofs.lemmas.Bool.{cases_lt, ne_eqb}
+use Rattle.std.proofs.lemmas.Bool.{cases_Bool, cases_lt}
 use Rattle.disk.specs.Calls.{Call, Does, Makes, Writes}
 use Rattle.disk.specs.Device.{Device}
 use Rattle.disk.specs.Image.{part}
 use Rattle.disk.specs.declared.DiskError.{DiskError}
 use Rattle.disk.proofs.Images.{length-part, get_or-part}
 use Rattle.wcache.specs.Runs.{Run, runs_from, writes_of}
-use Rattle.wcache.specs.Slots.{IsNextRun, cell, places}
+use Rattle.wcache.specs.Slots.{AreSlots, IsNextRun, cell, is_collected, places}
+use Rattle.wcache.specs.declared.collected.Fill.{Fill}
 use Rattle.wcache.proofs.RunLaws.{runs_front, runs_same, runs_skip, runs_split}
 use Rattle.wcache.proofs.Slots.{cell_collected}
 
@@ -32,137 +34,137 @@ places_all taken n none k = choose (cases_lt k n)
         ∙ sym (none k past)
 
 -- a run in front
-pub run_first : (ps : List ℕ) (at : ℕ) (rest : List (Option ℕ)) → 1 ≤ length ps → ((i : ℕ) → 0 < i → i < length ps → (at + i) % 4096 ≢ 0)
-    → (get_or rest 0 None ≡ None) ⊎ ((at + length ps) % 4096 ≡ 0)
+pub run_first : (ps : List ℕ) (at : ℕ) (rest : List (Option ℕ)) → 1 ≤ length ps → get_or rest 0 None ≡ None
     → runs_from at (map (λ (o : ℕ). Some o) ps ++ rest) ≡ record { at = at; octets = ps } ∷ runs_from (at + length ps) rest
-run_first [] at rest some inside ends = absurd (omega (arith, some))
-run_first (o ∷ os) at rest some inside ends =
+run_first [] at rest some ends = absurd (omega (arith, some))
+run_first (o ∷ os) at rest some ends =
     let same : at + length os + 1 ≡ at + suc (length os) = omega arith in
-    runs_front os o at rest (λ i low high. inside i low (omega (arith, high))) (later ends)
-    ∙ ap (λ (k : ℕ). record { at = at; octets = o ∷ os } ∷ runs_from k rest) same
-  where
-    later : (get_or rest 0 None ≡ None) ⊎ ((at + suc (length os)) % 4096 ≡ 0)
-        → (get_or rest 0 None ≡ None) ⊎ ((at + length os + 1) % 4096 ≡ 0)
-    later (inl none) = inl none
-    later (inr begins) =
-        let same : at + length os + 1 ≡ at + suc (length os) = omega arith in
-        inr (ap (λ (k : ℕ). k % 4096) same ∙ begins)
+    runs_front os o at rest ends ∙ ap (λ (k : ℕ). record { at = at; octets = o ∷ os } ∷ runs_from k rest) same
 
-cell_none : (flags octets : List ℕ) (p : ℕ) → (get_or flags p 0 ≡ 1 → ⊥) → cell flags octets p ≡ None
-cell_none flags octets p other = ap (λ b. if b then Some (get_or octets p 0) else None) (ne_eqb (get_or flags p 0) 1 other)
+cell_none : (fills : List Fill) (flags octets : List ℕ) (p : ℕ) → (is_collected fills flags p ≡ true → ⊥) → cell fills flags octets p ≡ None
+cell_none fills flags octets p other = elim (cases_Bool (is_collected fills flags p)) [
+  | inl is ↦ absurd (other is)
+  | inr isnt ↦ ap (λ (b : Bool). if b then Some (get_or octets p 0) else None) isnt
+]
 
--- the run from a place with a flag up to the first without one
-pub next_run : (flags : List ℕ) (from first past : ℕ) → ((i : ℕ) → get_or flags i 0 ≤ 1) → from ≤ first → get_or flags first 0 ≡ 1
-    → ((k : ℕ) → from ≤ k → k < first → get_or flags k 0 ≡ 1 → ⊥)
-    → first ≤ past → past ≤ 4096 → first < 4096 → ((k : ℕ) → first ≤ k → k < past → get_or flags k 0 ≡ 0 → ⊥)
-    → (past ≡ 4096) ⊎ (get_or flags past 0 ≡ 0) → IsNextRun flags from first past
-next_run flags from first past bits low found none over high within each ends = record {
+-- the run from a place with a collected octet up to the first without one
+pub next_run : (fills : List Fill) (flags : List ℕ) (from first past : ℕ) → from ≤ first → first < length flags
+    → (first ≡ length flags) ⊎ (is_collected fills flags first ≡ true)
+    → ((k : ℕ) → from ≤ k → k < first → is_collected fills flags k ≡ true → ⊥)
+    → first ≤ past → past ≤ length flags → ((k : ℕ) → first ≤ k → k < past → is_collected fills flags k ≡ false → ⊥)
+    → (past ≡ length flags) ⊎ (is_collected fills flags past ≡ false) → IsNextRun fills flags from first past
+next_run fills flags from first past low within found none over high each ends = record {
   low = low;
-  some = apart ends;
+  some = longer found ends;
   high = high;
   none = none;
-  each = λ k after before. let bit = bits k in let other = each k after before in omega (arith, bit, other);
+  each = λ k after before. elim (cases_Bool (is_collected fills flags k)) [
+    | inl is ↦ is
+    | inr isnt ↦ absurd (each k after before isnt)
+  ];
   ends = ends;
 }
   where
-    apart : (past ≡ 4096) ⊎ (get_or flags past 0 ≡ 0) → first < past
-    apart (inl at_end) = omega (arith, at_end, within)
-    apart (inr zero_flag) = elim (cases_lt first past) [
+    longer : (first ≡ length flags) ⊎ (is_collected fills flags first ≡ true)
+        → (past ≡ length flags) ⊎ (is_collected fills flags past ≡ false)
+        → first < past
+    longer (inl at_end) ends = absurd (omega (arith, at_end, within))
+    longer (inr is) (inl at_end) = omega (arith, at_end, within)
+    longer (inr is) (inr isnt) = elim (cases_lt first past) [
       | inl before ↦ before
       | inr behind ↦
-          let same : past ≡ first = omega (arith, behind, over) in
-          let two : get_or flags past 0 ≡ get_or flags first 0 = ap (λ (k : ℕ). get_or flags k 0) same in
-          absurd (omega (arith, two, found, zero_flag))
+          let same : first ≡ past = omega (arith, behind, over) in
+          absurd (let two : true ≡ false = sym is ∙ ap (λ (k : ℕ). is_collected fills flags k) same ∙ isnt in cc)
     ]
 
--- one run of a block
-module _ (flags octets : List ℕ) (start from : ℕ) (whole : length flags ≡ 4096) (whole_octets : length octets ≡ 4096)
-    (aligned : start % 4096 ≡ 0) (within : from ≤ 4096) where
-  abbrev cs : List (Option ℕ)
-  cs = places (cell flags octets) (length flags)
+-- one run of adjacent slots
+module _ (fills : List Fill) (flags octets : List ℕ) (start from : ℕ) (whole : length octets ≡ length flags) (within : from ≤ length flags)
+  where
+    abbrev cs : List (Option ℕ)
+    cs = places (cell fills flags octets) (length flags)
 
-  size : length cs ≡ 4096
-  size = length-places (cell flags octets) (length flags) ∙ whole
+    size : length cs ≡ length flags
+    size = length-places (cell fills flags octets) (length flags)
 
-  at_place : (k : ℕ) → k < 4096 → get_or cs k None ≡ cell flags octets k
-  at_place k low = places_at (cell flags octets) (length flags) k (omega (arith, low, whole))
+    at_place : (k : ℕ) → k < length flags → get_or cs k None ≡ cell fills flags octets k
+    at_place k low = places_at (cell fills flags octets) (length flags) k low
 
-  -- no flag from one place up to another
-  pub skipped : (to : ℕ) → from ≤ to → to ≤ 4096 → ((k : ℕ) → from ≤ k → k < to → get_or flags k 0 ≡ 1 → ⊥)
-      → runs_from (start + from) (drop from cs) ≡ runs_from (start + to) (drop to cs)
-  skipped to low high none =
-      let place : start + from + (to - from) ≡ start + to = omega (arith, low) in
-      let behind : from + (to - from) ≡ to = omega (arith, low) in
-      runs_skip (to - from) (start + from) (drop from cs) (λ k below. get_or-drop from cs k None
-      ∙ at_place (from + k) (omega (arith, below, high))
-      ∙ cell_none flags octets (from + k) (none (from + k) (omega arith) (omega (arith, below))))
-      ∙ ap (λ (n : ℕ). runs_from n (drop (to - from) (drop from cs))) place
-      ∙ ap (λ (l : List (Option ℕ)). runs_from (start + to) l) (drop-drop (to - from) from cs ∙ ap (λ (n : ℕ). drop n cs) behind)
+    -- no collected octet from one place up to another
+    pub skipped : (to : ℕ) → from ≤ to → to ≤ length flags → ((k : ℕ) → from ≤ k → k < to → is_collected fills flags k ≡ true → ⊥)
+        → runs_from (start + from) (drop from cs) ≡ runs_from (start + to) (drop to cs)
+    skipped to low high none =
+        let place : start + from + (to - from) ≡ start + to = omega (arith, low) in
+        let behind : from + (to - from) ≡ to = omega (arith, low) in
+        runs_skip (to - from) (start + from) (drop from cs) (λ k below. get_or-drop from cs k None
+        ∙ at_place (from + k) (omega (arith, below, high))
+        ∙ cell_none fills flags octets (from + k) (none (from + k) (omega arith) (omega (arith, below))))
+        ∙ ap (λ (n : ℕ). runs_from n (drop (to - from) (drop from cs))) place
+        ∙ ap (λ (l : List (Option ℕ)). runs_from (start + to) l) (drop-drop (to - from) from cs ∙ ap (λ (n : ℕ). drop n cs) behind)
 
-  pub one_run : (first past : ℕ) → from ≤ first → first < past → past ≤ 4096 → ((k : ℕ) → from ≤ k → k < first → get_or flags k 0 ≡ 1 → ⊥)
-      → ((k : ℕ) → first ≤ k → k < past → get_or flags k 0 ≡ 1)
-      → (past ≡ 4096) ⊎ (get_or flags past 0 ≡ 0)
-      → runs_from (start + from) (drop from cs) ≡ record { at = start + first; octets = part first (past - first) octets } ∷ runs_from
-      (start + past) (drop past cs)
-  one_run first past low some high none each ends =
-      let behind : start + first + length (part first (past - first) octets) ≡ start + past = omega (arith, piece_size, some) in
-      skipped first low (omega (arith, some, high)) none
-      ∙ ap (λ (l : List (Option ℕ)). runs_from (start + first) l) cut
-      ∙ run_first (part first (past - first) octets) (start + first) (drop past cs) (omega (arith, piece_size, some)) inside (finish ends)
-      ∙ ap (λ (n : ℕ). record { at = start + first; octets = (part first (past - first) octets) } ∷ runs_from n (drop past cs)) behind
-    where
-      piece_size : length (part first (past - first) octets) ≡ past - first
-      piece_size = length-part first (past - first) octets (omega (arith, whole_octets, some, high))
+    pub one_run : (first past : ℕ) → IsNextRun fills flags from first past
+        → runs_from (start + from) (drop from cs) ≡ record { at = start + first; octets = part first (past - first) octets } ∷ runs_from
+        (start + past) (drop past cs)
+    one_run first past run =
+        let some = run.some in
+        let high = run.high in
+        let behind : start + first + length (part first (past - first) octets) ≡ start + past = omega (arith, piece_size, some) in
+        skipped first run.low (omega (arith, some, high)) run.none
+        ∙ ap (λ (l : List (Option ℕ)). runs_from (start + first) l) cut
+        ∙ run_first (part first (past - first) octets) (start + first) (drop past cs) (omega (arith, piece_size, some)) finish
+        ∙ ap (λ (n : ℕ). record { at = start + first; octets = (part first (past - first) octets) } ∷ runs_from n (drop past cs)) behind
+      where
+        piece_size : length (part first (past - first) octets) ≡ past - first
+        piece_size = length-part first (past - first) octets (omega (arith, whole, run.some, run.high))
 
-      front : take (past - first) (drop first cs) ≡ map (λ (o : ℕ). Some o) (part first (past - first) octets)
-      front =
-          ext_get_or None (take (past - first) (drop first cs)) (map (λ (o : ℕ). Some o) (part first (past - first) octets))
-          (omega (
-            arith,
-            length-take (past - first) (drop first cs),
-            length-drop first cs,
-            size,
-            length-map (part first (past - first) octets) (λ (o : ℕ). Some o),
-            piece_size,
-            some,
-            high,
-          ))
-          (λ k below.
-          let k_low : k < past - first = omega (arith, below, length-take (past - first) (drop first cs)) in
-          get_or-take (past - first) (drop first cs) k None k_low
-          ∙ get_or-drop first cs k None
-          ∙ at_place (first + k) (omega (arith, k_low, high))
-          ∙ cell_collected flags octets (first + k) (each (first + k) (omega arith) (omega (arith, k_low)))
-          ∙ ap (λ (o : ℕ). Some o) (sym (get_or-part first (past - first) octets k 0 k_low))
-          ∙ mapped (part first (past - first) octets) k (omega (arith, k_low, piece_size)))
-        where
-          mapped : (ps : List ℕ) (k : ℕ) → k < length ps → Some (get_or ps k 0) ≡ get_or (map (λ (o : ℕ). Some o) ps) k None
-          mapped [] k below = absurd (omega (arith, below))
-          mapped (p ∷ ps) zero below = refl
-          mapped (p ∷ ps) (suc k) below = mapped ps k (omega (arith, below))
+        front : take (past - first) (drop first cs) ≡ map (λ (o : ℕ). Some o) (part first (past - first) octets)
+        front =
+            ext_get_or None (take (past - first) (drop first cs)) (map (λ (o : ℕ). Some o) (part first (past - first) octets))
+            (omega (
+              arith,
+              length-take (past - first) (drop first cs),
+              length-drop first cs,
+              size,
+              length-map (part first (past - first) octets) (λ (o : ℕ). Some o),
+              piece_size,
+              run.some,
+              run.high,
+            ))
+            (λ k below.
+            let k_low : k < past - first = omega (arith, below, length-take (past - first) (drop first cs)) in
+            get_or-take (past - first) (drop first cs) k None k_low
+            ∙ get_or-drop first cs k None
+            ∙ at_place (first + k) (omega (arith, k_low, run.high))
+            ∙ cell_collected fills flags octets (first + k) (run.each (first + k) (omega arith) (omega (arith, k_low)))
+            ∙ ap (λ (o : ℕ). Some o) (sym (get_or-part first (past - first) octets k 0 k_low))
+            ∙ mapped (part first (past - first) octets) k (omega (arith, k_low, piece_size)))
+          where
+            mapped : (ps : List ℕ) (k : ℕ) → k < length ps → Some (get_or ps k 0) ≡ get_or (map (λ (o : ℕ). Some o) ps) k None
+            mapped [] k below = absurd (omega (arith, below))
+            mapped (p ∷ ps) zero below = refl
+            mapped (p ∷ ps) (suc k) below = mapped ps k (omega (arith, below))
 
-      cut : drop first cs ≡ map (λ (o : ℕ). Some o) (part first (past - first) octets) ++ drop past cs
-      cut =
-          let place : first + (past - first) ≡ past = omega (arith, some) in
-          sym (take-append-drop (past - first) (drop first cs))
-          ∙ ap (λ (l : List (Option ℕ)). l ++ drop (past - first) (drop first cs)) front
-          ∙ ap (λ (l : List (Option ℕ)). map (λ (o : ℕ). Some o) (part first (past - first) octets) ++ l) (drop-drop (past - first) first cs
-          ∙ ap (λ (n : ℕ). drop n cs) place)
+        cut : drop first cs ≡ map (λ (o : ℕ). Some o) (part first (past - first) octets) ++ drop past cs
+        cut =
+            let place : first + (past - first) ≡ past = omega (arith, run.some) in
+            sym (take-append-drop (past - first) (drop first cs))
+            ∙ ap (λ (l : List (Option ℕ)). l ++ drop (past - first) (drop first cs)) front
+            ∙ ap (λ (l : List (Option ℕ)). map (λ (o : ℕ). Some o) (part first (past - first) octets) ++ l)
+            (drop-drop (past - first) first cs
+            ∙ ap (λ (n : ℕ). drop n cs) place)
 
-      inside : (i : ℕ) → 0 < i → i < length (part first (past - first) octets) → (start + first + i) % 4096 ≢ 0
-      inside i one below is = omega (arith, one, below, is, aligned, piece_size, high)
+        not_past : past < length flags → (past ≡ length flags) ⊎ (is_collected fills flags past ≡ false)
+            → is_collected fills flags past ≡ true → ⊥
+        not_past below (inl at_end) is = omega (arith, at_end, below)
+        not_past below (inr isnt) is = let two : true ≡ false = sym is ∙ isnt in cc
 
-      finish : (past ≡ 4096) ⊎ (get_or flags past 0 ≡ 0)
-          → (get_or (drop past cs) 0 None ≡ None) ⊎ ((start + first + length (part first (past - first) octets)) % 4096 ≡ 0)
-      finish (inl at_end) = inr (omega (arith, at_end, aligned, piece_size, some))
-      finish (inr zero_flag) = inl (behind (cases_lt past 4096))
-        where
-          behind : (past < 4096) ⊎ (4096 ≤ past) → get_or (drop past cs) 0 None ≡ None
-          behind (inl below) =
+        finish : get_or (drop past cs) 0 None ≡ None
+        finish = elim (cases_lt past (length flags)) [
+          | inl below ↦
               let place : past + 0 ≡ past = omega arith in
               get_or-drop past cs 0 None ∙ ap (λ (n : ℕ). get_or cs n None) place ∙ at_place past below
-              ∙ cell_none flags octets past (λ is. omega (arith, is, zero_flag))
-          behind (inr above) = get_or_past (drop past cs) 0 None (omega (arith, length-drop past cs, size, above))
+              ∙ cell_none fills flags octets past (not_past below run.ends)
+          | inr above ↦ get_or_past (drop past cs) 0 None (omega (arith, length-drop past cs, size, above))
+        ]
 
 -- ---- calls one after the other
 
@@ -246,19 +248,19 @@ module _ {D : Type 0} (device : D → Device) where
 
 -- ---- blocks of a table
 
-module _ (taken : ℕ → Option ℕ) (block : ℕ) where
-  -- the octets of a block
+module _ (taken : ℕ → Option ℕ) (block count : ℕ) where
+  -- the octets of some blocks
   abbrev pub cells_of : List (Option ℕ)
-  cells_of = drop (4096 * block) (places taken (4096 * block + 4096))
+  cells_of = drop (4096 * block) (places taken (4096 * block + 4096 * count))
 
-  pub cells_size : length cells_of ≡ 4096
-  cells_size = let size = length-places taken (4096 * block + 4096) in
-      omega (arith, length-drop (4096 * block) (places taken (4096 * block + 4096)), size)
+  pub cells_size : length cells_of ≡ 4096 * count
+  cells_size = let size = length-places taken (4096 * block + 4096 * count) in
+      omega (arith, length-drop (4096 * block) (places taken (4096 * block + 4096 * count)), size)
 
-  pub cells_at : (i : ℕ) → i < 4096 → taken (4096 * block + i) ≡ get_or cells_of i None
+  pub cells_at : (i : ℕ) → i < 4096 * count → taken (4096 * block + i) ≡ get_or cells_of i None
   cells_at i low =
-      sym (get_or-drop (4096 * block) (places taken (4096 * block + 4096)) i None
-      ∙ places_at taken (4096 * block + 4096) (4096 * block + i) (omega (arith, low)))
+      sym (get_or-drop (4096 * block) (places taken (4096 * block + 4096 * count)) i None
+      ∙ places_at taken (4096 * block + 4096 * count) (4096 * block + i) (omega (arith, low)))
 
 module _ (taken : ℕ → Option ℕ) (n : ℕ) (past : (k : ℕ) → n ≤ k → taken k ≡ None) where
   -- the octets from a block on
@@ -268,29 +270,33 @@ module _ (taken : ℕ → Option ℕ) (n : ℕ) (past : (k : ℕ) → n ≤ k �
   from_at : (block k : ℕ) → get_or (cells_from block) k None ≡ taken (4096 * block + k)
   from_at block k = get_or-drop (4096 * block) (places taken n) k None ∙ places_all taken n past (4096 * block + k)
 
-  -- the runs of a block, and those behind it
-  pub block_split : (block : ℕ)
-      → runs_from (4096 * block) (cells_from block) ≡ runs_from (4096 * block) (cells_of taken block) ++ runs_from (4096 * (block + 1))
-      (cells_from (block + 1))
-  block_split block =
-      let size = cells_size taken block in
-      let behind : 4096 * block + length (cells_of taken block) ≡ 4096 * (block + 1) = omega (arith, size) in
-      runs_same (cells_from block) (cells_of taken block ++ cells_from (block + 1)) (4096 * block) (λ k. same k (cases_lt k 4096))
-      ∙ runs_split (cells_of taken block) (cells_from (block + 1)) (4096 * block) (omega (arith, size))
-      ∙ ap (λ (m : ℕ). runs_from (4096 * block) (cells_of taken block) ++ runs_from m (cells_from (block + 1))) behind
+  -- the runs of some blocks, and those behind them, if the first octet there was not collected
+  pub block_split : (block count : ℕ) → taken (4096 * (block + count)) ≡ None
+      → runs_from (4096 * block) (cells_from block) ≡ runs_from (4096 * block) (cells_of taken block count)
+      ++ runs_from (4096 * (block + count)) (cells_from (block + count))
+  block_split block count gap =
+      let size = cells_size taken block count in
+      let behind : 4096 * block + length (cells_of taken block count) ≡ 4096 * (block + count) = omega (arith, size) in
+      let first : 4096 * (block + count) + 0 ≡ 4096 * (block + count) = omega arith in
+      runs_same (cells_from block) (cells_of taken block count ++ cells_from (block + count)) (4096 * block)
+      (λ k. same k (cases_lt k (4096 * count)))
+      ∙ runs_split (cells_of taken block count) (cells_from (block + count)) (4096 * block)
+      (from_at (block + count) 0 ∙ ap (λ (k : ℕ). taken k) first ∙ gap)
+      ∙ ap (λ (m : ℕ). runs_from (4096 * block) (cells_of taken block count) ++ runs_from m (cells_from (block + count))) behind
     where
-      same : (k : ℕ) → (k < 4096) ⊎ (4096 ≤ k)
-          → get_or (cells_from block) k None ≡ get_or (cells_of taken block ++ cells_from (block + 1)) k None
+      same : (k : ℕ) → (k < 4096 * count) ⊎ (4096 * count ≤ k)
+          → get_or (cells_from block) k None ≡ get_or (cells_of taken block count ++ cells_from (block + count)) k None
       same k (inl low) =
-          let size = cells_size taken block in
-          from_at block k ∙ cells_at taken block k low
-          ∙ sym (get_or_append_left (cells_of taken block) (cells_from (block + 1)) None k (omega (arith, low, size)))
+          let size = cells_size taken block count in
+          from_at block k ∙ cells_at taken block count k low
+          ∙ sym (get_or_append_left (cells_of taken block count) (cells_from (block + count)) None k (omega (arith, low, size)))
       same k (inr high) =
-          let place : 4096 * block + k ≡ 4096 * (block + 1) + (k - 4096) = omega (arith, high) in
+          let place : 4096 * block + k ≡ 4096 * (block + count) + (k - 4096 * count) = omega (arith, high) in
           from_at block k
           ∙ ap (λ (m : ℕ). taken m) place
-          ∙ sym (from_at (block + 1) (k - 4096))
-          ∙ sym (get_or-append_right (cells_of taken block) (cells_from (block + 1)) 4096 k None (cells_size taken block) high)
+          ∙ sym (from_at (block + count) (k - 4096 * count))
+          ∙ sym (get_or-append_right (cells_of taken block count) (cells_from (block + count)) (4096 * count) k None
+          (cells_size taken block count) high)
 
   -- blocks without an octet are passed over
   pub blocks_skipped : (from block : ℕ) → from ≤ block → ((k : ℕ) → 4096 * from ≤ k → k < 4096 * block → taken k ≡ None)
@@ -310,20 +316,17 @@ module _ (taken : ℕ → Option ℕ) (n : ℕ) (past : (k : ℕ) → n ≤ k �
   pub other_table : (m : ℕ) → ((k : ℕ) → m ≤ k → taken k ≡ None) → runs_from 0 (places taken n) ≡ runs_from 0 (places taken m)
   other_table m none = runs_same (places taken n) (places taken m) 0 (λ k. places_all taken n past k ∙ sym (places_all taken m none k))
 
--- a block without an octet has no run
-pub none_given : (xs : List (Option ℕ)) (at : ℕ) → length xs ≡ 4096 → ((i : ℕ) → i < 4096 → get_or xs i None ≡ None) → runs_from at xs ≡ []
-none_given xs at whole none =
-    let past : drop 4096 xs ≡ [] = Rattle.std.proofs.lemmas.List.drop_all 4096 xs (omega (arith, whole)) in
-    runs_skip 4096 at xs none ∙ ap (λ (l : List (Option ℕ)). runs_from (at + 4096) l) past
-
--- the runs of a slot are those of its block
-pub slot_runs : (flags octets : List ℕ) (taken : ℕ → Option ℕ) (xs : List (Option ℕ)) (at : ℕ) → length flags ≡ 4096 → length xs ≡ 4096
-    → ((i : ℕ) → i < 4096 → taken i ≡ cell flags octets i) → ((i : ℕ) → i < 4096 → taken i ≡ get_or xs i None)
-    → runs_from at (places (cell flags octets) (length flags)) ≡ runs_from at xs
-slot_runs flags octets taken xs at whole size cells each =
-    ap (λ (l : List (Option ℕ)). runs_from at l)
-    (ext_get_or None (places (cell flags octets) (length flags)) xs (length-places (cell flags octets) (length flags) ∙ whole ∙ sym size)
+-- the runs of some slots are those of their blocks
+pub slots_runs : (fills : List Fill) (flags octets : List ℕ) (taken : ℕ → Option ℕ) (block count : ℕ)
+    → AreSlots block count taken fills flags octets
+    → runs_from (4096 * block) (places (cell fills flags octets) (length flags)) ≡ runs_from (4096 * block) (cells_of taken block count)
+slots_runs fills flags octets taken block count are =
+    let n : length flags ≡ 4096 * count = are.whole.flags_size ∙ ap (λ (m : ℕ). 4096 * m) are.fills_size in
+    ap (λ (l : List (Option ℕ)). runs_from (4096 * block) l)
+    (ext_get_or None (places (cell fills flags octets) (length flags)) (cells_of taken block count)
+    (length-places (cell fills flags octets) (length flags) ∙ n ∙ sym (cells_size taken block count))
     (λ i within.
-    let n = length-places (cell flags octets) (length flags) in
-    let low : i < 4096 = omega (arith, within, n, whole) in
-    places_at (cell flags octets) (length flags) i (omega (arith, low, whole)) ∙ sym (cells i low) ∙ each i low))
+    let size = length-places (cell fills flags octets) (length flags) in
+    let low : i < length flags = omega (arith, within, size) in
+    let in_blocks : i < 4096 * count = omega (arith, low, n) in
+    places_at (cell fills flags octets) (length flags) i low ∙ sym (are.cells i in_blocks) ∙ cells_at taken block count i in_blocks))

@@ -1,7 +1,9 @@
+pub mod Adjacent
 pub mod Blocks
 pub mod Cached
 pub mod Caching
 pub mod Chain
+pub mod Moving
 pub mod Places
 pub mod Putting
 pub mod RunLaws

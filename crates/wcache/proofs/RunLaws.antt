@@ -1,6 +1,6 @@
 -- Runs of collected octets, from a place on.
-use Rattle.std.proofs.Common.{◌≡◌, ◌≢◌, ◌⊎◌, inl, inr, ◌<◌, ◌≤◌, ◌==◌, ◌&&◌, ℕ, zero, suc, ◌+◌, ◌-◌, ◌%◌, if◌then◌else◌, not, Bool, true}
-use Rattle.std.proofs.Common.{false, List, [], ◌∷◌, ◌++◌, length, get_or, map, drop, Option, Some, None, refl, sym, ◌∙◌, ap, arith}
+use Rattle.std.proofs.Common.{◌≡◌, ◌<◌, ◌≤◌, ◌==◌, ℕ, zero, suc, ◌+◌, ◌-◌, if◌then◌else◌, Bool, true, false, List, [], ◌∷◌, ◌++◌, length}
+use Rattle.std.proofs.Common.{inl, inr, ◌⊎◌, get_or, map, drop, Option, Some, None, refl, ◌∙◌, ap, arith}
 use Rattle.std.proofs.lemmas.Bool.{cases_Bool, eq-eqb, ne_eqb, eqb-true}
 use Rattle.wcache.specs.Runs.{Run, join, runs_from}
 
@@ -10,12 +10,8 @@ some_none octet is = cc
 none_some : (octet : ℕ) → None ≡ Some octet → ⊥
 none_some octet is = cc
 
-and_false : (b : Bool) → b && false ≡ false
-and_false true = refl
-and_false false = refl
-
 abbrev pub joins : ℕ → ℕ → Bool
-joins at place = (place == at + 1) && not ((at + 1) % 4096 == 0)
+joins at place = place == at + 1
 
 abbrev pub lone : ℕ → ℕ → Run
 lone at octet = record { at = at; octets = octet ∷ [] }
@@ -33,15 +29,9 @@ abbrev pub StandsApart : ℕ → List Run → Type 0
 StandsApart at [] = Unit {0}
 StandsApart at (run ∷ runs) = joins at run.at ≡ false
 
-apart_at_a_block : (at : ℕ) (runs : List Run) → (at + 1) % 4096 ≡ 0 → StandsApart at runs
-apart_at_a_block at [] begins = tt
-apart_at_a_block at (run ∷ runs) begins =
-    ap (λ (b : Bool). (run.at == at + 1) && not b) (eq-eqb ((at + 1) % 4096) 0 begins) ∙ and_false (run.at == at + 1)
-
 apart_behind : (at : ℕ) (runs : List Run) → Behind (at + 2) runs → StandsApart at runs
 apart_behind at [] behind = tt
-apart_behind at (run ∷ runs) behind =
-    ap (λ (b : Bool). b && not ((at + 1) % 4096 == 0)) (ne_eqb run.at (at + 1) (λ is. omega (arith, is, behind)))
+apart_behind at (run ∷ runs) behind = ne_eqb run.at (at + 1) (λ is. omega (arith, is, behind))
 
 behind_weaker : (at to : ℕ) (runs : List Run) → at ≤ to → Behind to runs → Behind at runs
 behind_weaker at to [] below behind = tt
@@ -58,12 +48,8 @@ unfolding join
 join_joins at octet run runs is =
     ap (λ (b : Bool). if b then longer at octet run ∷ runs else lone at octet ∷ run ∷ runs) is
 
-pub join_behind : (at octet place : ℕ) (run : Run) (runs : List Run) → run.at ≡ at + 1 → ((at + 1) % 4096 ≢ 0)
-    → join at octet (run ∷ runs) ≡ longer at octet run ∷ runs
-join_behind at octet place run runs is other =
-    join_joins at octet run runs
-    (ap (λ (b : Bool). b && not ((at + 1) % 4096 == 0)) (eq-eqb run.at (at + 1) is)
-    ∙ ap (λ (b : Bool). not b) (ne_eqb ((at + 1) % 4096) 0 other))
+pub join_behind : (at octet : ℕ) (run : Run) (runs : List Run) → run.at ≡ at + 1 → join at octet (run ∷ runs) ≡ longer at octet run ∷ runs
+join_behind at octet run runs is = join_joins at octet run runs (eq-eqb run.at (at + 1) is)
 
 -- what an octet in front leaves, either way
 pub join_cases : (P : List Run → Type 0) (at octet : ℕ) (runs : List Run) → P (lone at octet ∷ runs)
@@ -72,15 +58,8 @@ unfolding join
 join_cases P at octet [] alone joined = alone
 join_cases P at octet (run ∷ runs) alone joined = choose (cases_Bool (joins at run.at))
   where
-    place_is : (b : Bool) → (run.at == at + 1) ≡ b → joins at run.at ≡ true → run.at ≡ at + 1
-    place_is true same is = eqb-true run.at (at + 1) same
-    place_is false other is = absurd (falsehood (sym (ap (λ (b : Bool). b && not ((at + 1) % 4096 == 0)) other) ∙ is))
-      where
-        falsehood : false ≡ true → ⊥
-        falsehood e = cc
-
     choose : (joins at run.at ≡ true) ⊎ (joins at run.at ≡ false) → P (join at octet (run ∷ runs))
-    choose (inl is) = rw is (joined run runs refl (place_is (run.at == at + 1) refl is))
+    choose (inl is) = rw is (joined run runs refl (eqb-true run.at (at + 1) is))
     choose (inr other) = rw other alone
 
 runs_behind : (cs : List (Option ℕ)) (at : ℕ) → Behind at (runs_from at cs)
@@ -101,46 +80,30 @@ runs_skip (suc n) at (None ∷ rest) none =
     runs_skip n (at + 1) rest (λ k low. none (suc k) (omega arith)) ∙ ap (λ (k : ℕ). runs_from k (drop n rest)) same
 runs_skip (suc n) at (Some octet ∷ rest) none = absurd (some_none octet (none zero (omega arith)))
 
--- a run in front, which ends where no octet was collected or where a block ends
-pub runs_front : (os : List ℕ) (octet at : ℕ) (rest : List (Option ℕ)) → ((i : ℕ) → 0 < i → i ≤ length os → (at + i) % 4096 ≢ 0)
-    → (get_or rest 0 None ≡ None) ⊎ ((at + length os + 1) % 4096 ≡ 0)
+-- no run begins right behind a place where no octet was collected
+apart_at_a_gap : (at place : ℕ) (rest : List (Option ℕ)) → place ≡ at + 1 → get_or rest 0 None ≡ None
+    → StandsApart at (runs_from place rest)
+apart_at_a_gap at place [] here none = tt
+apart_at_a_gap at place (None ∷ later) here none =
+    apart_behind at (runs_from (place + 1) later)
+    (behind_weaker (at + 2) (place + 1) (runs_from (place + 1) later) (omega (arith, here)) (runs_behind later (place + 1)))
+apart_at_a_gap at place (Some o ∷ later) here none = absurd (some_none o none)
+
+-- a run in front, which ends where no octet was collected
+pub runs_front : (os : List ℕ) (octet at : ℕ) (rest : List (Option ℕ)) → get_or rest 0 None ≡ None
     → runs_from at (Some octet ∷ (map (λ (o : ℕ). Some o) os ++ rest)) ≡ record {
       at = at;
       octets = octet ∷ os;
     } ∷ runs_from (at + length os + 1) rest
-runs_front [] octet at rest inside ends =
+runs_front [] octet at rest ends =
     let same : at + 1 ≡ at + 0 + 1 = omega arith in
-    join_apart at octet (runs_from (at + 1) rest) (apart rest ends) ∙ ap (λ (k : ℕ). lone at octet ∷ runs_from k rest) same
-  where
-    apart : (rest : List (Option ℕ)) → (get_or rest 0 None ≡ None) ⊎ ((at + 0 + 1) % 4096 ≡ 0) → StandsApart at (runs_from (at + 1) rest)
-    apart rest (inr begins) =
-        let same : at + 0 + 1 ≡ at + 1 = omega arith in
-        apart_at_a_block at (runs_from (at + 1) rest) (ap (λ (k : ℕ). k % 4096) (sym same) ∙ begins)
-    apart [] (inl none) = tt
-    apart (None ∷ later) (inl none) =
-        let same : at + 1 + 1 ≡ at + 2 = omega arith in
-        apart_behind at (runs_from (at + 1 + 1) later)
-        (behind_weaker (at + 2) (at + 1 + 1) (runs_from (at + 1 + 1) later) (omega arith) (runs_behind later (at + 1 + 1)))
-    apart (Some o ∷ later) (inl none) = absurd (some_none o none)
-runs_front (o ∷ os) octet at rest inside ends =
+    join_apart at octet (runs_from (at + 1) rest) (apart_at_a_gap at (at + 1) rest refl ends)
+    ∙ ap (λ (k : ℕ). lone at octet ∷ runs_from k rest) same
+runs_front (o ∷ os) octet at rest ends =
     let same : at + 1 + length os + 1 ≡ at + suc (length os) + 1 = omega arith in
-    let behind = runs_front os o (at + 1) rest (λ i low high. deeper i low high) (later ends) in
-    ap (λ (runs : List Run). join at octet runs) behind
-    ∙ join_behind at octet 0 (record { at = at + 1; octets = o ∷ os }) (runs_from (at + 1 + length os + 1) rest) refl
-    (inside 1 (omega arith) (omega arith))
+    ap (λ (runs : List Run). join at octet runs) (runs_front os o (at + 1) rest ends)
+    ∙ join_behind at octet (record { at = at + 1; octets = o ∷ os }) (runs_from (at + 1 + length os + 1) rest) refl
     ∙ ap (λ (k : ℕ). record { at = at; octets = octet ∷ o ∷ os } ∷ runs_from k rest) same
-  where
-    deeper : (i : ℕ) → 0 < i → i ≤ length os → (at + 1 + i) % 4096 ≢ 0
-    deeper i low high is =
-        let same : at + 1 + i ≡ at + (1 + i) = omega arith in
-        inside (1 + i) (omega arith) (omega arith) (ap (λ (k : ℕ). k % 4096) (sym same) ∙ is)
-
-    later : (get_or rest 0 None ≡ None) ⊎ ((at + suc (length os) + 1) % 4096 ≡ 0)
-        → (get_or rest 0 None ≡ None) ⊎ ((at + 1 + length os + 1) % 4096 ≡ 0)
-    later (inl none) = inl none
-    later (inr begins) =
-        let same : at + 1 + length os + 1 ≡ at + suc (length os) + 1 = omega arith in
-        inr (ap (λ (k : ℕ). k % 4096) same ∙ begins)
 
 join_append : (at octet : ℕ) (front back : List Run) → (front ≡ [] → StandsApart at back)
     → join at octet (front ++ back) ≡ join at octet front ++ back
@@ -153,33 +116,24 @@ join_append at octet (run ∷ runs) back apart = choose (joins at run.at)
     choose true = refl
     choose false = refl
 
-nonempty : (run : Run) (runs : List Run) → run ∷ runs ≡ [] → ⊥
-nonempty run runs is = cc
-
-join_some : (at octet : ℕ) (runs : List Run) → join at octet runs ≡ [] → ⊥
-join_some at octet runs = join_cases (λ (all : List Run). all ≡ [] → ⊥) at octet runs (nonempty (lone at octet) runs)
-    (λ run rest is place. nonempty (longer at octet run) rest)
-
--- runs end where a block ends
-pub runs_split : (xs ys : List (Option ℕ)) (at : ℕ) → (at + length xs) % 4096 ≡ 0
+-- no run goes over a place where no octet was collected
+pub runs_split : (xs ys : List (Option ℕ)) (at : ℕ) → get_or ys 0 None ≡ None
     → runs_from at (xs ++ ys) ≡ runs_from at xs ++ runs_from (at + length xs) ys
-runs_split [] ys at ends =
+runs_split [] ys at gap =
     let same : at ≡ at + 0 = omega arith in
     ap (λ (k : ℕ). runs_from k ys) same
-runs_split (None ∷ xs) ys at ends =
+runs_split (None ∷ xs) ys at gap =
     let same : at + 1 + length xs ≡ at + suc (length xs) = omega arith in
-    runs_split xs ys (at + 1) (ap (λ (k : ℕ). k % 4096) same ∙ ends) ∙ ap (λ (k : ℕ). runs_from (at + 1) xs ++ runs_from k ys) same
-runs_split (Some octet ∷ xs) ys at ends =
+    runs_split xs ys (at + 1) gap ∙ ap (λ (k : ℕ). runs_from (at + 1) xs ++ runs_from k ys) same
+runs_split (Some octet ∷ xs) ys at gap =
     let same : at + 1 + length xs ≡ at + suc (length xs) = omega arith in
-    ap (λ (runs : List Run). join at octet runs) (runs_split xs ys (at + 1) (ap (λ (k : ℕ). k % 4096) same ∙ ends))
-    ∙ join_append at octet (runs_from (at + 1) xs) (runs_from (at + 1 + length xs) ys) (λ none. apart xs ends)
+    ap (λ (runs : List Run). join at octet runs) (runs_split xs ys (at + 1) gap)
+    ∙ join_append at octet (runs_from (at + 1) xs) (runs_from (at + 1 + length xs) ys) (λ none. apart xs)
     ∙ ap (λ (k : ℕ). join at octet (runs_from (at + 1) xs) ++ runs_from k ys) same
   where
-    apart : (xs : List (Option ℕ)) → (at + suc (length xs)) % 4096 ≡ 0 → StandsApart at (runs_from (at + 1 + length xs) ys)
-    apart [] ends =
-        let here : at + 1 ≡ at + suc 0 = omega arith in
-        apart_at_a_block at (runs_from (at + 1 + 0) ys) (ap (λ (k : ℕ). k % 4096) here ∙ ends)
-    apart (x ∷ xs) ends =
+    apart : (xs : List (Option ℕ)) → StandsApart at (runs_from (at + 1 + length xs) ys)
+    apart [] = apart_at_a_gap at (at + 1 + 0) ys (omega arith) gap
+    apart (x ∷ xs) =
         apart_behind at (runs_from (at + 1 + suc (length xs)) ys)
         (behind_weaker (at + 2) (at + 1 + suc (length xs)) (runs_from (at + 1 + suc (length xs)) ys) (omega arith)
         (runs_behind ys (at + 1 + suc (length xs))))

@@ -1,5 +1,5 @@
--- What a sync gives the device: in rising place, one write for each longest run of collected octets within a block of 4,096.
-use Rattle.std.specs.Prelude.{ℕ, ◌+◌, ◌%◌, ◌==◌, ◌&&◌, not, if◌then◌else◌, List, [], ◌∷◌, ◌++◌, map, Option, Some, None}
+-- What a sync gives the device: in rising place, one write for each longest run of collected octets.
+use Rattle.std.specs.Prelude.{ℕ, ◌+◌, ◌==◌, if◌then◌else◌, List, [], ◌∷◌, ◌++◌, map, Option, Some, None}
 use Rattle.disk.specs.Calls.{Call}
 
 -- octets from a place on
@@ -7,11 +7,11 @@ pub record Run : Type 0 where
   pub at : ℕ
   pub octets : List ℕ
 
--- an octet put before some runs: it joins the run that begins right after it, unless a block begins there
+-- an octet put before some runs: it joins the run that begins right after it
 unfoldable pub join : ℕ → ℕ → List Run → List Run
 join at octet [] = record { at = at; octets = octet ∷ [] } ∷ []
 join at octet (run ∷ runs) =
-    if (run.at == at + 1) && not ((at + 1) % 4096 == 0)
+    if run.at == at + 1
     then record { at = at; octets = octet ∷ run.octets } ∷ runs
     else record { at = at; octets = octet ∷ [] } ∷ run ∷ runs
 

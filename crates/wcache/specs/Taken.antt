@@ -7,4 +7,4 @@ use Rattle.wcache.specs.declared.collected.Collected.{Collected}
 
 -- the octet that was collected for a place
 abbrev pub taken : Collected → ℕ → Option ℕ
-taken c k = octet_at (get nat_cmp c.slots) c.flags.items c.octets.items k
+taken c k = octet_at (get nat_cmp c.slots) c.fills.items c.flags.items c.octets.items k

@@ -142,9 +142,9 @@ impl<D: Disk> Disk for WCache<D> {
         }
     }
 
-    /// Gives the device below, in rising place, one write for each longest run of collected octets within a block of
-    /// 4,096. Then it asks one sync. It stops at the first of these calls that is refused. The collected octets are
-    /// discarded only after `Ok`. It takes no memory of its own: `Memory` comes only from the device below.
+    /// Gives the device below, in rising place, one write for each longest run of collected octets. Then it asks one
+    /// sync. It stops at the first of these calls that is refused. The collected octets are discarded only after `Ok`. It
+    /// takes no memory of its own: `Memory` comes only from the device below.
     fn sync(&mut self) -> Result<(), DiskError>
         ensures calls { Makes D.device (calls_of self.old.collected) result self.old.disk self.new.disk }
         ensures forgets { OnOk result (self.new.collected ≡ replicate (length self.old.collected) None) }
@@ -163,7 +163,7 @@ impl<D: Disk> Disk for WCache<D> {
         ensures refused { OnRefused result (cache_device D.device self.old) (cache_device D.device self.new) }
         ensures memory { IfErr result (λ error. error ≡ DiskError.Memory → IsTrue (D.write_grows || D.sync_grows)) }
     {
-        match give_and_sync(&mut self.disk, &self.collected) {
+        match give_and_sync(&mut self.disk, &mut self.collected) {
             Ok(()) => {
                 self.collected.clear();
                 self.syncs = self.syncs.wrapping_add(1);

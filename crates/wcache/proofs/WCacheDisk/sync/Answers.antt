@@ -3,7 +3,7 @@ use Rattle.wcache.specs.Slots.{places}
 use Rattle.wcache.specs.Taken.{taken}
 use Rattle.wcache.proofs.Blocks.{length-places}
 use Rattle.wcache.proofs.Caching.{err_crash, err_since, ok_content, ok_crash, ok_durable, ok_since, sync_given}
-use Rattle.wcache.proofs.Places.{get_or-places_none, places_none}
+use Rattle.wcache.proofs.Places.{get_or-places_none, places_none, places_same}
 use Rattle.wcache.proofs.WCacheDisk.sync.Goals as goal
 use Rattle.wcache.proofs.Sizes.{sized}
 
@@ -93,7 +93,7 @@ invariant_of-self-in-Err-Fault g c =
           (let n = length-places (taken c.self.inside.collected) c.self.inside.len in
           omega (arith, n, c.self.invariant.size)) (Err c.in-Err-Fault.field-0)
           (c.in-Err-Fault.ensures.makes c.self.inside.len c.self.invariant.past)).time.size ∙ c.self.invariant.size;
-      past = c.self.invariant.past;
+      past = λ k past. c.give_and_sync.ensures.same k ∙ c.self.invariant.past k past;
     }
 
 pub returns-in-Err-Fault-clause-calls : goal.returns-in-Err-Fault-clause-calls
@@ -102,14 +102,22 @@ returns-in-Err-Fault-clause-calls g c =
 
 pub returns-in-Err-Fault-clause-crash : goal.returns-in-Err-Fault-clause-crash
 returns-in-Err-Fault-clause-crash g c =
-    rw (← c.self.view_is) (err_crash g.row.D.Denot g.D.Disk.device
+    rw (
+      ← c.self.view_is,
+      places_same (taken c.self.inside.collected) (taken c.give_and_sync.new.collected) c.self.inside.len
+          c.give_and_sync.ensures.same,
+    ) (err_crash g.row.D.Denot g.D.Disk.device
     (sized g.row.D.Denot g.D.Disk.device g.met.D.Disk.image_size g.met.D.Disk.counts_content) c.self.inside.disk c.give_and_sync.new.disk
     (places (taken c.self.inside.collected) c.self.inside.len) (let n = length-places (taken c.self.inside.collected) c.self.inside.len in
     omega (arith, n, c.self.invariant.size)) c.in-Err-Fault.field-0 (c.in-Err-Fault.ensures.makes c.self.inside.len c.self.invariant.past))
 
 pub returns-in-Err-Fault-clause-since : goal.returns-in-Err-Fault-clause-since
 returns-in-Err-Fault-clause-since g c =
-    rw (← c.self.view_is) (err_since g.row.D.Denot g.D.Disk.device
+    rw (
+      ← c.self.view_is,
+      places_same (taken c.self.inside.collected) (taken c.give_and_sync.new.collected) c.self.inside.len
+          c.give_and_sync.ensures.same,
+    ) (err_since g.row.D.Denot g.D.Disk.device
     (sized g.row.D.Denot g.D.Disk.device g.met.D.Disk.image_size g.met.D.Disk.counts_content) c.self.inside.disk c.give_and_sync.new.disk
     (places (taken c.self.inside.collected) c.self.inside.len) (let n = length-places (taken c.self.inside.collected) c.self.inside.len in
     omega (arith, n, c.self.invariant.size)) c.in-Err-Fault.field-0 (c.in-Err-Fault.ensures.makes c.self.inside.len c.self.invariant.past))
@@ -132,7 +140,7 @@ invariant_of-self-in-Err-Memory g c =
           (let n = length-places (taken c.self.inside.collected) c.self.inside.len in
           omega (arith, n, c.self.invariant.size)) (Err c.in-Err-Memory.field-0)
           (c.in-Err-Memory.ensures.makes c.self.inside.len c.self.invariant.past)).time.size ∙ c.self.invariant.size;
-      past = c.self.invariant.past;
+      past = λ k past. c.give_and_sync.ensures.same k ∙ c.self.invariant.past k past;
     }
 
 pub returns-in-Err-Memory-clause-calls : goal.returns-in-Err-Memory-clause-calls
@@ -141,7 +149,11 @@ returns-in-Err-Memory-clause-calls g c =
 
 pub returns-in-Err-Memory-clause-crash : goal.returns-in-Err-Memory-clause-crash
 returns-in-Err-Memory-clause-crash g c =
-    rw (← c.self.view_is) (err_crash g.row.D.Denot g.D.Disk.device
+    rw (
+      ← c.self.view_is,
+      places_same (taken c.self.inside.collected) (taken c.give_and_sync.new.collected) c.self.inside.len
+          c.give_and_sync.ensures.same,
+    ) (err_crash g.row.D.Denot g.D.Disk.device
     (sized g.row.D.Denot g.D.Disk.device g.met.D.Disk.image_size g.met.D.Disk.counts_content) c.self.inside.disk c.give_and_sync.new.disk
     (places (taken c.self.inside.collected) c.self.inside.len) (let n = length-places (taken c.self.inside.collected) c.self.inside.len in
     omega (arith, n, c.self.invariant.size)) c.in-Err-Memory.field-0
@@ -149,7 +161,11 @@ returns-in-Err-Memory-clause-crash g c =
 
 pub returns-in-Err-Memory-clause-since : goal.returns-in-Err-Memory-clause-since
 returns-in-Err-Memory-clause-since g c =
-    rw (← c.self.view_is) (err_since g.row.D.Denot g.D.Disk.device
+    rw (
+      ← c.self.view_is,
+      places_same (taken c.self.inside.collected) (taken c.give_and_sync.new.collected) c.self.inside.len
+          c.give_and_sync.ensures.same,
+    ) (err_since g.row.D.Denot g.D.Disk.device
     (sized g.row.D.Denot g.D.Disk.device g.met.D.Disk.image_size g.met.D.Disk.counts_content) c.self.inside.disk c.give_and_sync.new.disk
     (places (taken c.self.inside.collected) c.self.inside.len) (let n = length-places (taken c.self.inside.collected) c.self.inside.len in
     omega (arith, n, c.self.invariant.size)) c.in-Err-Memory.field-0
@@ -182,7 +198,11 @@ returns-in-Err-Memory-clause-refused g c =
     length-places (taken c.self.inside.collected) c.self.inside.len in
     omega (arith, n, c.self.invariant.size)) (Err c.in-Err-Memory.field-0)
     (c.in-Err-Memory.ensures.makes c.self.inside.len c.self.invariant.past) in
-    rw (← c.self.view_is)
+    rw (
+      ← c.self.view_is,
+      places_same (taken c.self.inside.collected) (taken c.give_and_sync.new.collected) c.self.inside.len
+          c.give_and_sync.ensures.same,
+    )
     (λ is. record {
       time = record { size = given.time.size; tells = given.time.tells; later = given.time.later };
       content = λ t. given.refused t c.in-Err-Memory.field-0-is;
@@ -203,3 +223,15 @@ returns-in-Err-Memory-clause-refused g c =
       syncs = refl;
       failures = given.uncounted c.in-Err-Memory.field-0-is;
     })
+
+pub returns-in-Err-Fault-clause-keeps : goal.returns-in-Err-Fault-clause-keeps
+returns-in-Err-Fault-clause-keeps g c =
+    rw (← c.self.view_is)
+    (places_same (taken c.self.inside.collected) (taken c.give_and_sync.new.collected) c.self.inside.len
+    c.give_and_sync.ensures.same)
+
+pub returns-in-Err-Memory-clause-keeps : goal.returns-in-Err-Memory-clause-keeps
+returns-in-Err-Memory-clause-keeps g c =
+    rw (← c.self.view_is)
+    (places_same (taken c.self.inside.collected) (taken c.give_and_sync.new.collected) c.self.inside.len
+    c.give_and_sync.ensures.same)

@@ -5,11 +5,11 @@ use Rattle.wcache.specs.Taken.{taken}
 use Rattle.wcache.proofs.Blocks.{IsGivingTo}
 use Rattle.wcache.proofs.giving.give.Given as goal
 
-abbrev pub invariant-loop-block : goal.invariant-loop-block
-invariant-loop-block g l =
+abbrev pub invariant-loop-slots : goal.invariant-loop-slots
+invariant-loop-slots g l =
     let n = (g.D.Disk.device l.initial.disk).size in
     IsGivingTo g.D.Disk.device (writes_of (runs_from 0 (places (taken l.collected) n)))
     (writes_of (runs_from (4096 * l.from) (drop (4096 * l.from) (places (taken l.collected) n)))) l.initial.disk l.disk
 
-abbrev pub decreases-loop-block : goal.decreases-loop-block
-decreases-loop-block g l = 2 ^ 52 - l.from
+abbrev pub decreases-loop-slots : goal.decreases-loop-slots
+decreases-loop-slots g l = 2 ^ 52 - l.from

@@ -1,28 +1,13 @@
-use Rattle.std.proofs.Common.{◌≡◌, ◌≤◌, ℕ, ◌+◌, ◌-◌, List, length, get_or, take, drop, ◌∙◌, ap, arith, length-drop}
-use Rattle.std.proofs.lemmas.List.{take_rest, get_or-drop}
-use Rattle.std.proofs.lemmas.Bool.{eq-eqb}
-use Rattle.memchr.specs.Find.{Passes, is_byte}
+use Rattle.std.proofs.Common.{inl, inr, arith}
+use Rattle.std.proofs.lemmas.Bool.{cases_lt}
 use Rattle.wcache.proofs.giving.next_at.Goals as goal
 
--- the rest of the flags, as a slice has them
-rest_at : (flags : List ℕ) (from k : ℕ) → from ≤ k → get_or (take (length flags - from) (drop from flags)) (k - from) 0 ≡ get_or flags k 0
-rest_at flags from k low =
-    let place : from + (k - from) ≡ k = omega (arith, low) in
-    ap (λ (l : List ℕ). get_or l (k - from) 0) (take_rest flags from) ∙ get_or-drop from flags (k - from) 0
-    ∙ ap (λ (n : ℕ). get_or flags n 0) place
-
-passes : (flags : List ℕ) (flag from k : ℕ) → from ≤ k → get_or flags k 0 ≡ flag
-    → Passes (is_byte flag) (take (length flags - from) (drop from flags)) (k - from)
-passes flags flag from k low is = eq-eqb (get_or (take (length flags - from) (drop from flags)) (k - from) 0) flag (rest_at flags from k low
-    ∙ is)
-
-pub returns-in-Some-clause-first : goal.returns-in-Some-clause-first
-returns-in-Some-clause-first c k low high is =
-    c.in-Some.ensures.0.before (k - c.args.from) (omega arith) (omega (arith, low, high))
-    (passes c.args.flags.now c.args.flag c.args.from k low is)
-
-pub returns-in-None-clause-none : goal.returns-in-None-clause-none
-returns-in-None-clause-none c none k low high is =
-    c.in-None.ensures (k - c.args.from) (omega arith)
-    (omega (arith, low, high, length-drop c.args.from c.args.flags.now, take_rest c.args.flags.now c.args.from))
-    (passes c.args.flags.now c.args.flag c.args.from k low is)
+pub loop-at-preserved : goal.loop-at-preserved
+loop-at-preserved c = record {
+  low = omega (arith, c.loop-at.invariant.low);
+  high = omega (arith, c.loop-at-test.true, c.requires.whole.flags_size);
+  none = λ k low high is. elim (cases_lt k c.loop-at.at) [
+    | inl before ↦ c.loop-at.invariant.none k low before is
+    | inr behind ↦ c.next_in_slot-found.ensures.none k behind (omega (arith, high, c.if-found-past.false)) is
+  ];
+}

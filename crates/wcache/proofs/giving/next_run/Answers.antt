@@ -2,8 +2,8 @@ use Rattle.std.proofs.Common.{arith}
 use Rattle.wcache.proofs.Blocks.{next_run}
 use Rattle.wcache.proofs.giving.next_run.Goals as goal
 
-pub returns-in-Some-clause-some : goal.returns-in-Some-clause-some
-returns-in-Some-clause-some c =
-    next_run c.args.flags.now c.args.from c.in-Some.start c.run_end.result c.requires.bits c.in-Some.ensures.low c.in-Some.ensures.found
-    c.in-Some.ensures.first c.run_end.ensures.low c.run_end.ensures.high (omega (arith, c.in-Some.ensures.high, c.requires.size))
-    c.run_end.ensures.none c.run_end.ensures.ends
+pub returns-clause-some : goal.returns-clause-some
+returns-clause-some c =
+    next_run c.args.slots.now.fills.now c.args.slots.now.flags.now c.args.from c.next_at-start.result c.next_at.result
+    c.next_at-start.ensures.low (omega (arith, c.next_at-start.ensures.high)) c.next_at-start.ensures.found c.next_at-start.ensures.none
+    c.next_at.ensures.low c.next_at.ensures.high c.next_at.ensures.none c.next_at.ensures.found
