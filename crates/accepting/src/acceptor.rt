@@ -1,26 +1,26 @@
 //! The acceptors: each has a listener, and joins a session for each caller that is let in.
 
-use crate::Caller;
 use crate::lingering::read_at_once;
+use crate::{Caller, Way};
 use crossbeam_channel::Sender;
-use logging::{Log, LogEvent, SessionRefusal};
-use networks::{Network, may_call};
+use logging::{Log, SessionRefusal};
+use networks::{Guest, Guests, Network, NoSeat, may_call};
 use releasing::{Shared, give_short_writes};
 use shared_kernel::{JoinError, Kern};
 use std::alloc::Global;
 use std::io::{self, Write};
-use std::net::{Net, Shutdown, SocketAddr, TcpListener, TcpStream};
+use std::net::{IpAddr, Net, Shutdown, SocketAddr, TcpListener, TcpStream};
 use std::os::fd::OwnedFd;
 use std::sync::atomic::{AtomicBool, Ordering};
-use std::sync::{Arc, Wait};
+use std::sync::{Arc, Mutex, Wait};
 use std::thread;
 use std::time::{Clock, Duration};
 
 /// The reply to a caller that gets no session (RFC 3977, section 5.1.1).
-const SERVICE_ENDS: &[u8] = b"400 Service ends\r\n";
+pub(crate) const SERVICE_ENDS: &[u8] = b"400 Service ends\r\n";
 
 /// The reply to a caller from an address that is not let in (RFC 3977, section 5.1.1).
-const ACCESS_DENIED: &[u8] = b"502 Access denied\r\n";
+pub(crate) const ACCESS_DENIED: &[u8] = b"502 Access denied\r\n";
 
 /// How long an acceptor waits if the system gives it no socket, in milliseconds.
 const PAUSE_MILLIS: u64 = 10;
@@ -31,9 +31,13 @@ const WAITING: u32 = 256;
 
 /// The doors of a server: one for each of its listeners.
 pub struct Doors<'a> {
-    pub listeners: &'a [TcpListener],
+    listeners: &'a [TcpListener],
+    /// The listeners for proxies.
+    proxied: &'a [TcpListener],
     /// The networks from which callers are let in, besides the loopback networks.
     pub networks: &'a [Network],
+    /// One seat for each session's thread. They are those of all listeners.
+    guests: Mutex<Guests>,
     /// A second handle of each listener, as a stream, since std shuts only streams down.
     handles: Vec<TcpStream>,
     /// The doors let nobody in any more.
@@ -44,29 +48,34 @@ impl<'a> Drop for Doors<'a> {
     fn drop(self) {
         let Doors {
             listeners: _,
+            proxied: _,
             networks: _,
+            guests,
             handles,
             are_shut: _,
         } = self;
+        drop(guests);
         drop(handles);
     }
 }
 
 impl<'a> Doors<'a> {
-    /// Open doors. `None` if memory is refused, or a descriptor: each listener takes one more.
+    /// Open doors to these seats. `None` if memory is refused, or a descriptor: each listener takes one more.
     pub fn new(
         alloc: Global,
         listeners: &'a [TcpListener],
+        proxied: &'a [TcpListener],
         networks: &'a [Network],
+        guests: Guests,
     ) -> Option<Doors<'a>> {
-        let mut handles = Vec::with_capacity(alloc, listeners.len()).ok()?;
-        for listener in listeners {
-            let handle = OwnedFd::from(listener.try_clone().ok()?);
-            handles.push(TcpStream::from(handle)).ok()?;
-        }
+        let mut handles = Vec::new(alloc);
+        push_handles(&mut handles, listeners)?;
+        push_handles(&mut handles, proxied)?;
         Some(Doors {
             listeners,
+            proxied,
             networks,
+            guests: Mutex::new(guests),
             handles,
             are_shut: AtomicBool::new(false),
         })
@@ -82,8 +91,19 @@ impl<'a> Doors<'a> {
         for listener in self.listeners {
             turn_waiting_away(listener);
         }
+        for listener in self.proxied {
+            turn_waiting_away(listener);
+        }
         for handle in &self.handles {
             let _ = handle.shutdown(Shutdown::Read);
+        }
+    }
+
+    /// The listeners to which callers come in this way.
+    pub fn listeners(&self, way: Way) -> &'a [TcpListener] {
+        match way {
+            Way::Direct => self.listeners,
+            Way::Proxied => self.proxied,
         }
     }
 
@@ -91,6 +111,35 @@ impl<'a> Doors<'a> {
     pub fn are_shut(&self) -> bool {
         self.are_shut.load(Ordering::SeqCst)
     }
+
+    /// Frees the seat of a caller whose session's thread is free for another.
+    pub fn free<R: Wait>(&self, rt: &R, seat: usize) {
+        self.guests.lock(rt).leave(seat);
+    }
+
+    /// Gives the caller of a seat one by its address, which is known now, and answers which. Refused if its address has as
+    /// many as it may have; then it has none.
+    pub(crate) fn name<R: Wait>(
+        &self,
+        rt: &R,
+        seat: usize,
+        address: IpAddr,
+    ) -> Result<usize, SessionRefusal> {
+        let named = self.guests.lock(rt).name(seat, address);
+        match named {
+            Ok(seat) => Ok(seat),
+            Err(why) => Err(no_seat(why)),
+        }
+    }
+}
+
+/// Puts a second handle of each of these listeners behind the others. `None` if memory is refused, or a descriptor.
+fn push_handles(handles: &mut Vec<TcpStream>, listeners: &[TcpListener]) -> Option<()> {
+    for listener in listeners {
+        let handle = OwnedFd::from(listener.try_clone().ok()?);
+        handles.push(TcpStream::from(handle)).ok()?;
+    }
+    Some(())
 }
 
 /// Tells the callers that wait at a listener that the service ends. From then on the listener waits for nobody.
@@ -158,6 +207,8 @@ pub struct Acceptor<'a, 'b, R, K, G> {
     pub shared: &'b Shared<'a, R, K, G>,
     pub doors: &'b Doors<'a>,
     pub log: &'b Log,
+    /// How its callers come.
+    pub way: Way,
     pub calls: Sender<Caller>,
 }
 
@@ -167,6 +218,7 @@ impl<'a, 'b, R, K, G> Drop for Acceptor<'a, 'b, R, K, G> {
             shared: _,
             doors: _,
             log: _,
+            way: _,
             calls,
         } = self;
         drop(calls);
@@ -208,29 +260,64 @@ impl<
         }
     }
 
-    /// Joins a session for a caller that is let in, and hands the caller to a session's thread. A caller that gets no
-    /// session is refused. `Over` if there will be no more sessions.
+    /// Joins a session for a caller that is let in and gets a seat, and hands the caller to a session's thread. For whom a
+    /// proxy connects is read there, so whether that caller is let in is seen there, too. A caller
+    /// that gets no session is refused. `Over` if there will be no more sessions.
     fn admit(&self, newcomer: Newcomer, entrance: &mut Entrance<'_>) -> Result<(), Over> {
-        if !may_call(self.doors.networks, newcomer.peer.ip()) {
-            self.note(newcomer.peer, SessionRefusal::Access);
-            turn_away(&newcomer.stream, ACCESS_DENIED);
+        let Newcomer { stream, peer } = newcomer;
+        let guest = match self.way {
+            Way::Direct => Guest::At(peer.ip()),
+            Way::Proxied => Guest::Unnamed,
+        };
+        if self.way == Way::Direct && !may_call(self.doors.networks, peer.ip()) {
+            self.note(peer, SessionRefusal::Access);
+            turn_away(&stream, ACCESS_DENIED);
             return Ok(());
         }
+        let entered = self.doors.guests.lock(self.shared.rt).enter(guest);
+        let seat = match entered {
+            Ok(seat) => seat,
+            Err(why) => {
+                self.refuse(&stream, peer, no_seat(why));
+                return Ok(());
+            }
+        };
+        let admitted = self.join(Newcomer { stream, peer }, seat, entrance.is_open());
+        match admitted {
+            Ok(true) => Ok(()),
+            Ok(false) => {
+                self.doors.free(self.shared.rt, seat);
+                Ok(())
+            }
+            Err(over) => Err(over),
+        }
+    }
+
+    /// Joins a session for a caller that has a seat, and hands the caller to a session's thread. Answers false if the caller is
+    /// refused, and has no use for the seat. `Over` if there will be no more sessions.
+    fn join(&self, newcomer: Newcomer, seat: usize, has_room: bool) -> Result<bool, Over> {
         match self.shared.kern.join(self.shared.rt, self.shared.alloc) {
-            Ok(sid) => self.welcome(newcomer, sid, entrance.is_open()),
+            Ok(sid) => self.welcome(newcomer, sid, seat, has_room),
             Err(error) => {
                 self.refuse(&newcomer.stream, newcomer.peer, refusal_of(error));
                 if error == JoinError::Halted {
                     return Err(Over);
                 }
-                Ok(())
+                Ok(false)
             }
         }
     }
 
     /// Hands a caller whose session was joined to a session's thread. If that is not possible, or if the operator stops
-    /// the server, the session is left and the caller refused. `Over` if there are no more such threads.
-    fn welcome(&self, newcomer: Newcomer, sid: u64, has_room: bool) -> Result<(), Over> {
+    /// the server, the session is left and the caller refused, which answers false. `Over` if there are no more such
+    /// threads.
+    fn welcome(
+        &self,
+        newcomer: Newcomer,
+        sid: u64,
+        seat: usize,
+        has_room: bool,
+    ) -> Result<bool, Over> {
         let Shared {
             rt,
             alloc,
@@ -240,20 +327,29 @@ impl<
             ..
         } = self.shared;
         let Newcomer { stream, peer } = newcomer;
-        if let Some(why) = obstacle(&stream, limits.silence, has_room, bells.is_stopping()) {
+        if let Some(why) = obstacle(&stream, limits.first, has_room, bells.is_stopping()) {
             kern.leave(*rt, sid);
             self.refuse(&stream, peer, why);
-            return Ok(());
+            return Ok(false);
         }
         match Arc::new(*alloc, stream) {
-            Ok(stream) => match self.calls.send(*rt, Caller { sid, peer, stream }) {
-                Ok(()) => Ok(()),
-                Err(_) => Err(Over),
-            },
+            Ok(stream) => {
+                let caller = Caller {
+                    sid,
+                    seat,
+                    way: self.way,
+                    peer,
+                    stream,
+                };
+                match self.calls.send(*rt, caller) {
+                    Ok(()) => Ok(true),
+                    Err(_) => Err(Over),
+                }
+            }
             Err(refused) => {
                 kern.leave(*rt, sid);
                 self.refuse(&refused.value, peer, SessionRefusal::Memory);
-                Ok(())
+                Ok(false)
             }
         }
     }
@@ -265,13 +361,21 @@ impl<
     }
 
     fn note(&self, peer: SocketAddr, why: SessionRefusal) {
-        self.log.note(self.shared.rt, LogEvent::Refused(peer, why));
+        self.log.note_refused(self.shared.rt, peer, why);
     }
 }
 
 /// No more callers get a session.
 #[derive(Clone, Copy)]
 struct Over;
+
+/// Why a caller got no seat, as the log says it.
+fn no_seat(why: NoSeat) -> SessionRefusal {
+    match why {
+        NoSeat::Full => SessionRefusal::Sessions,
+        NoSeat::Address => SessionRefusal::Address,
+    }
+}
 
 /// Why a caller got no session of the kernel.
 fn refusal_of(error: JoinError) -> SessionRefusal {
@@ -310,7 +414,7 @@ fn set_up(stream: &TcpStream, silence: Duration) -> io::Result<()> {
 
 /// Sends a caller its only reply, and waits for nothing. What the caller has already sent is read first, since a close
 /// with unread octets could discard the reply.
-fn turn_away(stream: &TcpStream, reply: &[u8]) {
+pub(crate) fn turn_away(stream: &TcpStream, reply: &[u8]) {
     if stream.set_nonblocking(true).is_err() {
         return;
     }

@@ -4,10 +4,22 @@ use std::alloc::Global;
 use std::net::{SocketAddr, TcpStream};
 use std::sync::Arc;
 
+/// How the callers of a listener come.
+#[derive(Clone, Copy, PartialEq, Eq)]
+pub enum Way {
+    /// By themselves.
+    Direct,
+    /// By a proxy, which begins with a line that says for whom it connects.
+    Proxied,
+}
+
 /// A caller whose session was joined.
 #[derive(Drop)]
 pub struct Caller {
     pub sid: u64,
+    /// Its seat among the guests. It is free once its session's thread is.
+    pub seat: usize,
+    pub way: Way,
     pub peer: SocketAddr,
     pub stream: Arc<TcpStream, Global>,
 }

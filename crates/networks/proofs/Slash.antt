@@ -46,7 +46,7 @@ slash_is_last text ip k n within here last small e =
     ap (λ t. get_or t k 0) e ∙ get_or-append_right ip (47 ∷ decimal n) k 0 (omega arith) in
     let index : k - length ip ≡ suc j = omega arith in
     let digit : get_or text k 0 ≡ get_or (decimal n) j 0 = digits_at ∙ ap (λ i. get_or (47 ∷ decimal n) i 0) index in
-    omega (arith, digit_of_decimal (decimal n) n j small refl (omega (arith, size)), digit, here)
+    omega (arith, digit_of_decimal (decimal n) n j (omega (arith, small)) refl (omega (arith, size)), digit, here)
     in
     omega (arith, not_after, not_before)
 

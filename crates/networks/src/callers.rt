@@ -14,8 +14,8 @@ pub fn may_call(networks: &[Network], address: IpAddr) -> bool
     is_loopback(address) || any_holds(networks, address)
 }
 
-/// Whether an address is in a loopback network.
-fn is_loopback(address: IpAddr) -> bool
+/// Whether an address is in a loopback network, 127.0.0.0/8 or ::1. An IPv4-mapped address counts as the IPv4 address.
+pub fn is_loopback(address: IpAddr) -> bool
     ensures { IsTrue result ↔ IsLoopback address }
 {
     address.to_canonical().is_loopback()

@@ -5,7 +5,7 @@ ghost use Rattle.std.specs.declared.net.ip_addr.IpAddr.{IpAddr};
 ghost use Rattle.networks.specs.Addresses.{width_of};
 
 use crate::bits::{same_first_bits, width};
-use crate::numerals::read_length;
+use crate::numerals::read_number;
 use std::net::IpAddr;
 
 /// How many bits stand before the IPv4 address in an IPv4-mapped address `::ffff:a.b.c.d` (RFC 4291, 2.5.5.2).
@@ -43,7 +43,7 @@ impl Network {
         let Ok(address) = IpAddr::parse_ascii(&octets[..slash]) else {
             return None;
         };
-        match read_length(&octets[slash + 1..], width(&address)) {
+        match read_number(&octets[slash + 1..], width(&address)) {
             Some(length) => Some(Network::of(address, length)),
             None => None,
         }

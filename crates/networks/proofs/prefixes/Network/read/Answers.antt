@@ -40,18 +40,18 @@ returns-in-None-clause-none c =
     let one : own ≡ a = IsIpText_unique (take k text) own a front spelled in
     c.in-None.ensures.none n (subst (λ w. n ≤ w) (ap width_of (sym one) ∙ sym c.width-2.ensures) fits) (rest ∙ ap (drop (k + 1)) same ∙ e))
 
-pub returns-in-Some-read_length-clause-found : goal.returns-in-Some-read_length-clause-found
-returns-in-Some-read_length-clause-found c =
+pub returns-in-Some-read_number-clause-found : goal.returns-in-Some-read_number-clause-found
+returns-in-Some-read_number-clause-found c =
     let text = c.args.text.now in
     let k = c.in-Some.slash in
     let own = c.in-Ok-parse_ascii.address in
-    let n = c.in-Some-read_length.length in
+    let n = c.in-Some-read_number.length in
     let same = c.as_bytes-octets.ensures.value in
     let front = subst (λ t. IsIpText (take k t) own) same c.in-Ok-parse_ascii.ensures in
     let at = rfind_char 47 text (Some k) c.in-Some.ensures.cases (lit< tt) in
     let octets = c.as_bytes-octets.result.now in
     let rest = take_all (length octets - (k + 1)) (drop (k + 1) octets) (omega (arith, length-drop (k + 1) octets)) in
-    let found = c.in-Some-read_length.ensures.found in (
+    let found = c.in-Some-read_number.ensures.found in (
       own,
       n,
       inr (
@@ -60,5 +60,5 @@ returns-in-Some-read_length-clause-found c =
         front,
         subst (λ w. n ≤ w) c.width-2.ensures found.1,
       ),
-      c.of-in-Some-read_length.ensures,
+      c.of-in-Some-read_number.ensures,
     )

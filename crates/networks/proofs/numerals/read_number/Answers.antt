@@ -5,10 +5,10 @@ use Rattle.std.proofs.lemmas.Int.Digits.{digits_more, digits_value_more}
 use Rattle.std.proofs.lemmas.List.{take_all}
 use Rattle.std.proofs.lemmas.Str.{digit_value_digit}
 use Rattle.networks.proofs.Numeral.{shape, digit_of_decimal, value_of_decimal, front_below, decimal_of_digits}
-use Rattle.networks.proofs.numerals.read_length.Goals as goal
-use Rattle.networks.proofs.numerals.read_length.Goals.{then-is_empty-via-then-is_empty, then-is_empty-via-else-is_empty+then-numeral-gt3}
-use Rattle.networks.proofs.numerals.read_length.Goals.{else-numeral-eq48-via-then-numeral-eq48+else-numeral-gt1}
-use Rattle.networks.proofs.numerals.read_length.Goals.{else-numeral-eq48-via-else-numeral-eq48}
+use Rattle.networks.proofs.numerals.read_number.Goals as goal
+use Rattle.networks.proofs.numerals.read_number.Goals.{then-is_empty-via-then-is_empty, then-is_empty-via-else-is_empty+then-numeral-gt-MOST_DIGITS}
+use Rattle.networks.proofs.numerals.read_number.Goals.{else-numeral-eq48-via-then-numeral-eq48+else-numeral-gt1}
+use Rattle.networks.proofs.numerals.read_number.Goals.{else-numeral-eq48-via-else-numeral-eq48}
 
 pub returns-then-is_empty-clause-none : goal.returns-then-is_empty-clause-none
 returns-then-is_empty-clause-none c =
@@ -16,7 +16,7 @@ returns-then-is_empty-clause-none c =
     let right = shape c.args.numeral.now n (omega (arith, small, c.requires)) e in
     elim c.then-is_empty.branch [
       | then-is_empty-via-then-is_empty w ↦ omega (arith, right.some, eqb-true _ _ (sym c.is_empty.ensures ∙ w.if-is_empty.true))
-      | then-is_empty-via-else-is_empty+then-numeral-gt3 w ↦ omega (arith, right.few, w.if-numeral-gt3.true)
+      | then-is_empty-via-else-is_empty+then-numeral-gt-MOST_DIGITS w ↦ omega (arith, right.few, w.if-numeral-gt-MOST_DIGITS.true)
     ]
 
 pub returns-then-numeral-gt1-clause-none : goal.returns-then-numeral-gt1-clause-none
@@ -38,7 +38,7 @@ overflow_mul-number c =
       arith,
       c.loop-digit.invariant.value,
       front_below c.args.numeral.now c.loop-digit.digit-index c.loop-digit.invariant.digits
-          c.if-numeral-gt3.false,
+          c.if-numeral-gt-MOST_DIGITS.false,
     )
 
 pub overflow_add-number : goal.overflow_add-number
@@ -48,7 +48,7 @@ overflow_add-number c =
       c.from.ensures,
       c.if-not-is_ascii_digit.ensures.cases.1,
       c.loop-digit.invariant.value,
-      front_below c.args.numeral.now c.loop-digit.digit-index c.loop-digit.invariant.digits c.if-numeral-gt3.false,
+      front_below c.args.numeral.now c.loop-digit.digit-index c.loop-digit.invariant.digits c.if-numeral-gt-MOST_DIGITS.false,
     )
 
 pub loop-digit-preserved : goal.loop-digit-preserved
@@ -94,4 +94,4 @@ returns-else-number-limit-clause-found c =
     ]
     in
     let value : c.loop-digit.number ≡ digits_value 10 text = c.loop-digit.invariant.value ∙ ap (digits_value 10) whole in
-    (decimal_of_digits text all (omega (arith, nonempty)) c.if-numeral-gt3.false lone ∙ ap decimal (sym value), c.if-number-limit.false)
+    (decimal_of_digits text all (omega (arith, nonempty)) c.if-numeral-gt-MOST_DIGITS.false lone ∙ ap decimal (sym value), c.if-number-limit.false)
