@@ -1,2 +1,4 @@
+pub mod Clock
 pub mod Counting
+pub mod Events
 pub mod Line

@@ -4,6 +4,7 @@ use Rattle.std.specs.Net.Text.{socket_text}
 use Rattle.model.specs.Stream.{Octets}
 use Rattle.model.specs.Calendar.{date_reply}
 use Rattle.logging.specs.declared.events.SessionCounts.{SessionCounts}
+use Rattle.logging.specs.declared.events.BegunSession.{BegunSession}
 use Rattle.logging.specs.declared.events.EndedSession.{EndedSession}
 use Rattle.logging.specs.declared.events.Ending.{Ending}
 use Rattle.logging.specs.declared.events.Ending.TheVariants as ending
@@ -12,6 +13,7 @@ use Rattle.logging.specs.declared.events.LogEvent.TheVariants as event
 use Rattle.logging.specs.declared.events.OpeningStep.{OpeningStep}
 use Rattle.logging.specs.declared.events.OpeningStep.TheVariants as step
 use Rattle.logging.specs.declared.events.UsedPart.{UsedPart}
+use Rattle.logging.specs.declared.events.RefusedCallers.{RefusedCallers}
 use Rattle.logging.specs.declared.events.SessionRefusal.{SessionRefusal}
 use Rattle.logging.specs.declared.events.SessionRefusal.TheVariants as refusal
 
@@ -31,15 +33,20 @@ ending_text ending.Closed = codes "closed"
 ending_text ending.Silent = codes "silent"
 ending_text ending.Stalled = codes "stalled"
 ending_text ending.Failed = codes "failed"
+ending_text ending.Http = codes "http"
+ending_text ending.Full = codes "full"
 ending_text ending.Memory = codes "memory"
+ending_text ending.Dropped = codes "dropped"
 ending_text ending.Stopped = codes "stopped"
 
 abbrev pub refusal_text : SessionRefusal → Octets
 refusal_text refusal.Access = codes "access"
 refusal_text refusal.Sessions = codes "sessions"
+refusal_text refusal.Address = codes "address"
 refusal_text refusal.Descriptors = codes "descriptors"
 refusal_text refusal.Memory = codes "memory"
 refusal_text refusal.Failed = codes "failed"
+refusal_text refusal.Proxy = codes "proxy"
 refusal_text refusal.Halted = codes "halted"
 
 abbrev pub counts_text : SessionCounts → Octets
@@ -47,10 +54,17 @@ counts_text counts =
     codes "messages=" ++ decimal counts.messages ++ codes " taken=" ++ decimal counts.taken ++ codes " refused="
     ++ decimal counts.refused ++ codes " in=" ++ decimal counts.octets_in ++ codes " out=" ++ decimal counts.octets_out
 
+abbrev pub begun_text : BegunSession → Octets
+begun_text begun = codes "peer=" ++ socket_text begun.peer ++ codes " session=" ++ decimal begun.session
+
 abbrev pub ended_text : EndedSession → Octets
 ended_text ended =
     codes "peer=" ++ socket_text ended.peer ++ codes " session=" ++ decimal ended.session ++ codes " "
     ++ counts_text ended.counts ++ codes " why=" ++ ending_text ended.why
+
+abbrev pub refused_text : RefusedCallers → Octets
+refused_text refused =
+    codes "peer=" ++ socket_text refused.peer ++ codes " why=" ++ refusal_text refused.why ++ codes " times=" ++ decimal refused.times
 
 -- used/all
 abbrev pub part_text : UsedPart → Octets
@@ -62,8 +76,9 @@ step_text step.Checking = codes "step=checking"
 
 -- the event and its fields
 abbrev pub event_text : LogEvent → Octets
+event_text (event.Begin begun) = codes "event=begin " ++ begun_text begun
 event_text (event.End ended) = codes "event=end " ++ ended_text ended
-event_text (event.Refused peer why) = codes "event=refused peer=" ++ socket_text peer ++ codes " why=" ++ refusal_text why
+event_text (event.Refused refused) = codes "event=refused " ++ refused_text refused
 event_text event.Fault = codes "event=fault"
 event_text event.Halted = codes "event=halted"
 event_text event.Clock = codes "event=clock"

@@ -2,7 +2,8 @@
 
 ghost use Rattle.std.specs.Prelude.{◌≡◌, ◌≤◌, ◌*◌, ◌↔◌, IsTrue, Some};
 ghost use Rattle.logging.specs.Counting.{counted, no_counts, step_after};
-ghost use Rattle.logging.specs.Line.{counts_text, ended_text, ending_text, event_text, part_text, refusal_text, step_text};
+ghost use Rattle.logging.specs.Events.{comes_once};
+ghost use Rattle.logging.specs.Line.{begun_text, counts_text, ended_text, ending_text, event_text, part_text, refusal_text, refused_text, step_text};
 
 use std::fmt::{self, Display};
 use std::net::SocketAddr;
@@ -14,14 +15,20 @@ pub enum Ending {
     Quit,
     /// The caller closed its socket, or sends nothing more.
     Closed,
-    /// The caller sent nothing for too long.
+    /// The caller sent nothing for too long, or a message too slowly.
     Silent,
     /// The caller took none of its replies for too long.
     Stalled,
     /// The socket failed.
     Failed,
+    /// The caller speaks HTTP.
+    Http,
+    /// The caller sent an article, and what is free of the volume is left to the operator.
+    Full,
     /// Memory was refused.
     Memory,
+    /// The operator ended it.
+    Dropped,
     /// The server ends.
     Stopped,
 }
@@ -36,25 +43,32 @@ impl Display for Ending {
             Ending::Silent => "silent",
             Ending::Stalled => "stalled",
             Ending::Failed => "failed",
+            Ending::Http => "http",
+            Ending::Full => "full",
             Ending::Memory => "memory",
+            Ending::Dropped => "dropped",
             Ending::Stopped => "stopped",
         })
     }
 }
 
 /// Why a caller got no session.
-#[derive(Clone, Copy)]
+#[derive(Clone, Copy, PartialEq, Eq)]
 pub enum SessionRefusal {
     /// Its address is not one from which callers are let in.
     Access,
     /// There are as many sessions as the server can have.
     Sessions,
+    /// Its address has as many sessions as one may have.
+    Address,
     /// The system has no descriptor left for a further caller.
     Descriptors,
     /// Memory was refused.
     Memory,
     /// Its socket failed.
     Failed,
+    /// It came by a proxy, and its first line doesn't say for whom.
+    Proxy,
     /// The server ends.
     Halted,
 }
@@ -66,11 +80,32 @@ impl Display for SessionRefusal {
         f.write_str(match self {
             SessionRefusal::Access => "access",
             SessionRefusal::Sessions => "sessions",
+            SessionRefusal::Address => "address",
             SessionRefusal::Descriptors => "descriptors",
             SessionRefusal::Memory => "memory",
             SessionRefusal::Failed => "failed",
+            SessionRefusal::Proxy => "proxy",
             SessionRefusal::Halted => "halted",
         })
+    }
+}
+
+/// Callers of one address that got no session for one cause, as a line of the log counts them.
+#[derive(Clone, Copy)]
+pub struct RefusedCallers {
+    /// The address and the port of the first of them.
+    pub peer: SocketAddr,
+    pub why: SessionRefusal,
+    /// How many there were.
+    pub times: u64,
+}
+
+impl Display for RefusedCallers {
+    ghost output = { λ refused. Some (refused_text refused) };
+
+    fn fmt<W: fmt::Write>(&self, f: &mut fmt::Formatter<W>) -> fmt::Result {
+        let RefusedCallers { peer, why, times } = *self;
+        write!(f, "peer={peer} why={why} times={times}")
     }
 }
 
@@ -139,6 +174,24 @@ impl Display for SessionCounts {
         } = *self;
         write!(f, "messages={messages} taken={taken} refused={refused}")?;
         write!(f, " in={octets_in} out={octets_out}")
+    }
+}
+
+/// A session that has begun.
+#[derive(Clone, Copy)]
+pub struct BegunSession {
+    /// The caller's address.
+    pub peer: SocketAddr,
+    /// The number of the session.
+    pub session: u64,
+}
+
+impl Display for BegunSession {
+    ghost output = { λ begun. Some (begun_text begun) };
+
+    fn fmt<W: fmt::Write>(&self, f: &mut fmt::Formatter<W>) -> fmt::Result {
+        let BegunSession { peer, session } = *self;
+        write!(f, "peer={peer} session={session}")
     }
 }
 
@@ -235,10 +288,12 @@ impl Display for OpeningStep {
 /// What a line of the log reports.
 #[derive(Clone, Copy)]
 pub enum LogEvent {
+    /// A session has begun.
+    Begin(BegunSession),
     /// A session has ended.
     End(EndedSession),
-    /// A caller at this address got no session.
-    Refused(SocketAddr, SessionRefusal),
+    /// Callers of an address got no session.
+    Refused(RefusedCallers),
     /// The device failed: nothing is written any more, and the server ends.
     Fault,
     /// The kernel or the journal was halted, though the device didn't fail, and the server ends.
@@ -254,13 +309,31 @@ pub enum LogEvent {
     Opening(OpeningStep),
 }
 
+impl LogEvent {
+    /// Whether a server notes such an event once, or, as `Full`, once for each of two causes. Callers have no part in how
+    /// often it comes.
+    pub fn comes_once(&self) -> bool
+        ensures { result ≡ comes_once self.now }
+    {
+        match *self {
+            LogEvent::Fault | LogEvent::Halted | LogEvent::Clock | LogEvent::Full { .. } => true,
+            LogEvent::Begin(_)
+            | LogEvent::End(_)
+            | LogEvent::Refused(_)
+            | LogEvent::Lost(_)
+            | LogEvent::Opening(_) => false,
+        }
+    }
+}
+
 impl Display for LogEvent {
     ghost output = { λ event. Some (event_text event) };
 
     fn fmt<W: fmt::Write>(&self, f: &mut fmt::Formatter<W>) -> fmt::Result {
         match *self {
+            LogEvent::Begin(begun) => write!(f, "event=begin {begun}"),
             LogEvent::End(ended) => write!(f, "event=end {ended}"),
-            LogEvent::Refused(peer, why) => write!(f, "event=refused peer={peer} why={why}"),
+            LogEvent::Refused(refused) => write!(f, "event=refused {refused}"),
             LogEvent::Fault => write!(f, "event=fault"),
             LogEvent::Halted => write!(f, "event=halted"),
             LogEvent::Clock => write!(f, "event=clock"),

@@ -5,12 +5,13 @@
 mod clock;
 mod events;
 mod lines;
+mod refusals;
 mod writing;
 
 pub use clock::{Moments, beginning_of_1970, moment};
 pub use events::{
-    CountedMessage, EndedSession, Ending, LogEvent, OpeningStep, SessionCounts, SessionRefusal,
-    UsedPart,
+    BegunSession, CountedMessage, EndedSession, Ending, LogEvent, OpeningStep, RefusedCallers,
+    SessionCounts, SessionRefusal, UsedPart,
 };
 pub use lines::{LogEntry, line};
 pub use writing::{Log, Verbosity};

@@ -2,19 +2,34 @@
 //!
 //! That thread may wait forever for the reader of the log, so it is not joined. No other thread waits for it: a line
 //! that finds no room is counted, as is one that cannot be written, and the count is written before the next line.
+//!
+//! Refused callers are summed up by address and cause, for a second.
+//!
+//! Events that come once have a channel of their own, so that no caller can take the room of their lines. The thread
+//! waits for the other channel alone, and is woken through it.
 
-use crate::{LogEntry, LogEvent, beginning_of_1970, line, moment};
-use crossbeam_channel::{Receiver, Sender, bounded};
+use crate::refusals::Refusals;
+use crate::{LogEntry, LogEvent, SessionRefusal, beginning_of_1970, line, moment};
+use crossbeam_channel::{Receiver, RecvTimeoutError, Sender, bounded};
 use model::Moment;
 use std::alloc::{AllocError, Global};
 use std::io::Write;
+use std::mem;
+use std::net::SocketAddr;
 use std::sync::atomic::{AtomicU64, Ordering};
-use std::sync::{Arc, Wait};
+use std::sync::{Arc, Mutex, Wait};
 use std::thread::{self, Threads};
-use std::time::{Clock, Duration};
+use std::time::{Clock, Duration, Instant};
 
 /// The most lines that are noted but not yet written.
 const LINES: usize = 1024;
+
+/// The most lines beside these of events that come once. A server notes fewer in all: `full` twice, `clock`, and `fault`
+/// or `halted`.
+const LINES_ONCE: usize = 8;
+
+/// Refused callers are counted for so many seconds before the log tells of them.
+const COUNTING_SECS: u64 = 1;
 
 /// At the end the reader of the log has this many seconds to take the lines that are due.
 const ENDING_SECS: u64 = 1;
@@ -23,7 +38,7 @@ const ENDING_SECS: u64 = 1;
 #[derive(Clone, Copy, Debug, PartialEq, Eq)]
 pub enum Verbosity {
     All,
-    /// All but the ends of sessions.
+    /// All but the beginnings and the ends of sessions.
     Quiet,
 }
 
@@ -31,19 +46,57 @@ pub enum Verbosity {
 #[derive(Drop)]
 pub struct Log {
     verbosity: Verbosity,
-    entries: Sender<LogEntry>,
-    /// The lines that found no room or could not be written, and which the log has not yet reported.
-    lost: Arc<AtomicU64, Global>,
+    due: Sender<Due>,
+    /// The events that come once.
+    once: Sender<LogEntry>,
+    untold: Untold,
     /// It is disconnected once the last line is written.
     written: Receiver<()>,
+}
+
+/// What the log has not yet told.
+#[derive(Drop)]
+struct Untold {
+    refused: Arc<Mutex<Refusals>, Global>,
+    /// The lines that found no room or could not be written.
+    lost: Arc<AtomicU64, Global>,
+}
+
+impl Untold {
+    fn new(alloc: Global) -> Result<Untold, AllocError> {
+        Ok(Untold {
+            refused: Arc::new(alloc, Mutex::new(Refusals::new(alloc)?))?,
+            lost: Arc::new(alloc, AtomicU64::new(0))?,
+        })
+    }
+
+    /// The same for another thread.
+    fn try_clone(&self) -> Result<Untold, AllocError> {
+        Ok(Untold {
+            refused: Arc::try_clone(&self.refused)?,
+            lost: Arc::try_clone(&self.lost)?,
+        })
+    }
+}
+
+/// What the thread that writes waits for.
+#[derive(Clone, Copy)]
+enum Due {
+    /// A line to be written.
+    Line(LogEntry),
+    /// An event that comes once, in the channel of those.
+    Once,
+    /// The first of the refused callers that are counted.
+    Refused,
 }
 
 /// The thread that writes the lines.
 #[derive(Drop)]
 struct Writing {
     alloc: Global,
-    entries: Receiver<LogEntry>,
-    lost: Arc<AtomicU64, Global>,
+    due: Receiver<Due>,
+    once: Receiver<LogEntry>,
+    untold: Untold,
     /// It sends no message. It is dropped with the thread.
     _written: Sender<()>,
 }
@@ -54,46 +107,91 @@ impl Log {
         R: Threads + Wait + Clock + Copy + Send + 'static,
         F: Write + Send + Drop + 'static,
     >(rt: &R, alloc: Global, faults: F, verbosity: Verbosity) -> Result<Log, AllocError> {
-        let (entries, to_write) = bounded(alloc, LINES)?;
-        let (_written, written) = bounded(alloc, 1)?;
-        let lost = Arc::new(alloc, AtomicU64::new(0))?;
-        let writing = Writing {
-            alloc,
-            entries: to_write,
-            lost: Arc::try_clone(&lost)?,
-            _written,
+        let (log, writing) = Log::make(alloc, verbosity)?;
+        let telling = Telling {
+            refused: Refusals::new(alloc)?,
+            due_at: None,
         };
         let own = *rt;
-        let _writer = thread::spawn(rt, move || writing.write_all(&own, faults))?;
-        Ok(Log {
+        let _writer = thread::spawn(rt, move || writing.write_all(&own, faults, telling))?;
+        Ok(log)
+    }
+
+    /// The log, and what its thread has of it.
+    fn make(alloc: Global, verbosity: Verbosity) -> Result<(Log, Writing), AllocError> {
+        let (due, to_write) = bounded(alloc, LINES)?;
+        let (once, to_write_once) = bounded(alloc, LINES_ONCE)?;
+        let (_written, written) = bounded(alloc, 1)?;
+        let untold = Untold::new(alloc)?;
+        let writing = Writing {
+            alloc,
+            due: to_write,
+            once: to_write_once,
+            untold: untold.try_clone()?,
+            _written,
+        };
+        let log = Log {
             verbosity,
-            entries,
-            lost,
+            due,
+            once,
+            untold,
             written,
-        })
+        };
+        Ok((log, writing))
     }
 
     /// Notes an event, now. It does not wait for the thread that writes: if the reader of the log has left no room for
-    /// another line, the line is counted as lost.
+    /// another line, the line is counted as lost. That does not happen to an event that comes once.
     pub fn note<R: Wait + Clock>(&self, rt: &R, event: LogEvent) {
-        if self.verbosity == Verbosity::Quiet && matches!(event, LogEvent::End(_)) {
+        if self.verbosity == Verbosity::Quiet
+            && matches!(event, LogEvent::Begin(_) | LogEvent::End(_))
+        {
             return;
         }
         let entry = entry(moment(rt), event);
-        if self.entries.try_send(rt, entry).is_err() {
-            self.lost.fetch_add(1, Ordering::SeqCst);
+        let has_room = if event.comes_once() {
+            self.note_once(rt, entry)
+        } else {
+            self.due.try_send(rt, Due::Line(entry)).is_ok()
+        };
+        if !has_room {
+            self.untold.lost.fetch_add(1, Ordering::SeqCst);
         }
+    }
+
+    /// Notes a caller that got no session, now. A second after the first one there is a line for each address and cause.
+    /// It does not wait for the thread that writes. A caller of an address and a cause for which there is no room is counted
+    /// as a lost line.
+    pub fn note_refused<R: Wait + Clock>(&self, rt: &R, peer: SocketAddr, why: SessionRefusal) {
+        let now = moment(rt).unwrap_or(beginning_of_1970());
+        let mut refused = self.untold.refused.lock(rt);
+        let is_first = refused.is_empty();
+        let is_counted = refused.count(now, peer, why);
+        drop(refused);
+        if !is_counted {
+            self.untold.lost.fetch_add(1, Ordering::SeqCst);
+        }
+        if is_first {
+            // Where there is no room to wake the thread, it is awake, and looks for refused callers after each line.
+            let _ = self.due.try_send(rt, Due::Refused);
+        }
+    }
+
+    /// Notes an event that comes once, and wakes the thread that writes. Where there is no room to wake it, it is awake:
+    /// it has lines to write, and looks for such events after each.
+    fn note_once<R: Wait>(&self, rt: &R, entry: LogEntry) -> bool {
+        if self.once.try_send(rt, entry).is_err() {
+            return false;
+        }
+        let _ = self.due.try_send(rt, Due::Once);
+        true
     }
 
     /// Ends the log. The lines that were noted are still written, and their reader has a second to take them. Then it
     /// returns, whether they are taken or not.
     pub fn end<R: Wait + Clock>(self, rt: &R) {
-        let Log {
-            entries,
-            written,
-            ..
-        } = self;
-        drop(entries);
+        let Log { due, written, .. } = self;
+        drop(due);
         let _ = written.recv_timeout(rt, Duration::from_secs(ENDING_SECS));
     }
 }
@@ -114,26 +212,109 @@ struct Output<F> {
     is_cut: bool,
 }
 
+/// The refused callers that the log tells of next.
+#[derive(Drop)]
+struct Telling {
+    /// They are put here while their lines are written. It is empty between.
+    refused: Refusals,
+    /// When they are due. `None` if none are counted.
+    due_at: Option<Instant>,
+}
+
 impl Writing {
     /// Writes the lines until there are no more. A line that cannot be written is lost.
-    fn write_all<R: Wait + Clock, F: Write + Drop>(self, rt: &R, faults: F) {
+    fn write_all<R: Wait + Clock, F: Write + Drop>(self, rt: &R, faults: F, telling: Telling) {
+        let mut telling = telling;
         let mut output = Output {
             faults,
             is_cut: false,
         };
         for _ in rt.forever() {
-            let Ok(entry) = self.entries.recv(rt) else {
-                break;
-            };
-            self.write_lost(&mut output, &entry);
-            self.write(&mut output, &entry, 1);
+            match self.next_due(rt, telling.due_at) {
+                Ok(Due::Line(entry)) => self.write_next(&mut output, &entry),
+                Ok(Due::Once | Due::Refused) | Err(RecvTimeoutError::Timeout) => {}
+                Err(RecvTimeoutError::Disconnected) => break,
+            }
+            self.write_once(rt, &mut output);
+            self.tell_if_due(rt, &mut output, &mut telling);
         }
+        self.write_once(rt, &mut output);
+        self.tell_of_refused(rt, &mut output, &mut telling.refused);
         self.write_lost(&mut output, &entry(moment(rt), LogEvent::Lost(0)));
+    }
+
+    /// What is due next. `Timeout` once this time has come.
+    fn next_due<R: Wait + Clock>(
+        &self,
+        rt: &R,
+        due_at: Option<Instant>,
+    ) -> Result<Due, RecvTimeoutError> {
+        match due_at {
+            Some(due_at) => self.due.recv_deadline(rt, due_at),
+            None => self
+                .due
+                .recv(rt)
+                .map_err(|_| RecvTimeoutError::Disconnected),
+        }
+    }
+
+    /// Tells of the refused callers if they are due. If they are not yet, they will be: a second after they are first found here,
+    /// or at once if the clock cannot be read.
+    fn tell_if_due<R: Wait + Clock, F: Write + Drop>(
+        &self,
+        rt: &R,
+        output: &mut Output<F>,
+        telling: &mut Telling,
+    ) {
+        if self.untold.refused.lock(rt).is_empty() {
+            return;
+        }
+        let due_at = match (Instant::now(rt), telling.due_at) {
+            (Ok(now), Some(due_at)) if now < due_at => Some(due_at),
+            (Ok(now), None) => now.checked_add(Duration::from_secs(COUNTING_SECS)),
+            _ => None,
+        };
+        telling.due_at = due_at;
+        if due_at.is_none() {
+            self.tell_of_refused(rt, output, &mut telling.refused);
+        }
+    }
+
+    /// Writes a line for each address and cause of the refused callers that were counted. This takes none, and leaves none.
+    fn tell_of_refused<R: Wait, F: Write + Drop>(
+        &self,
+        rt: &R,
+        output: &mut Output<F>,
+        refused: &mut Refusals,
+    ) {
+        mem::swap(&mut *self.untold.refused.lock(rt), refused);
+        for at in 0..refused.len() {
+            if let Some(entry) = refused.entry(at) {
+                self.write_next(output, &entry);
+            }
+        }
+        refused.clear();
+    }
+
+    /// Writes the lines of the events that come once, as far as they were noted.
+    fn write_once<R: Wait, F: Write + Drop>(&self, rt: &R, output: &mut Output<F>) {
+        for _ in rt.forever() {
+            let Ok(entry) = self.once.try_recv(rt) else {
+                return;
+            };
+            self.write_next(output, &entry);
+        }
+    }
+
+    /// Writes the line of an entry, and before it how many lines were lost.
+    fn write_next<F: Write + Drop>(&self, output: &mut Output<F>, entry: &LogEntry) {
+        self.write_lost(output, entry);
+        self.write(output, entry, 1);
     }
 
     /// Says how many lines were lost, if any were. The line has the time of this entry.
     fn write_lost<F: Write + Drop>(&self, output: &mut Output<F>, entry: &LogEntry) {
-        let lost = self.lost.swap(0, Ordering::SeqCst);
+        let lost = self.untold.lost.swap(0, Ordering::SeqCst);
         if lost > 0 {
             let told = LogEntry {
                 moment: entry.moment,
@@ -150,7 +331,7 @@ impl Writing {
             Err(AllocError) => false,
         };
         if !is_written {
-            self.lost.fetch_add(lines, Ordering::SeqCst);
+            self.untold.lost.fetch_add(lines, Ordering::SeqCst);
         }
     }
 }

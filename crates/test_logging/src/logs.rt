@@ -1,6 +1,8 @@
 //! Logs that are read late, or never.
 
-use logging::{EndedSession, Ending, Log, LogEvent, SessionCounts, Verbosity};
+use logging::{
+    EndedSession, Ending, Log, LogEvent, OpeningStep, SessionCounts, UsedPart, Verbosity,
+};
 use std::alloc::Global;
 use std::io::{self, Write};
 use std::net::{Ipv4Addr, SocketAddr};
@@ -20,6 +22,9 @@ const FEW: usize = 10;
 
 /// A wait of a test takes at most this many milliseconds.
 const WAIT_MILLIS: u32 = 20_000;
+
+/// An event that may come often.
+const OFTEN: LogEvent = LogEvent::Opening(OpeningStep::Checking);
 
 /// What a log is written to: nothing is taken before the reader comes.
 #[derive(Drop)]
@@ -99,14 +104,7 @@ pub(crate) fn read_late<R: Threads + Wait + Clock + Copy + Send + 'static>(
     rt: &R,
     alloc: Global,
 ) -> Option<bool> {
-    let Play { log, shared } = start(rt, alloc, Verbosity::All, false)?;
-    log.note(rt, LogEvent::Fault);
-    if !wait_for(rt, &shared.is_awaited) {
-        return None;
-    }
-    for _ in 0..LINES + MORE {
-        log.note(rt, LogEvent::Halted);
-    }
+    let Play { log, shared } = start_full(rt, alloc)?;
     shared.is_reading.store(true, Ordering::SeqCst);
     log.end(rt);
     let has_all = has_lines(rt, &shared, 1026);
@@ -114,8 +112,63 @@ pub(crate) fn read_late<R: Threads + Wait + Clock + Copy + Send + 'static>(
     let mut lines = text.split(|octet| *octet == b'\n');
     let is_first = ends(lines.next(), b" event=fault");
     let is_second = ends(lines.next(), b" event=lost lines=10");
-    let is_third = ends(lines.next(), b" event=halted");
+    let is_third = ends(lines.next(), b" event=opening step=checking");
     Some(has_all && is_first && is_second && is_third)
+}
+
+/// A log whose reader has not come yet, and in which ten lines have found no room.
+fn start_full<R: Threads + Wait + Clock + Copy + Send + 'static>(
+    rt: &R,
+    alloc: Global,
+) -> Option<Play> {
+    let play = start(rt, alloc, Verbosity::All, false)?;
+    play.log.note(rt, LogEvent::Fault);
+    if !wait_for(rt, &play.shared.is_awaited) {
+        return None;
+    }
+    for _ in 0..LINES + MORE {
+        play.log.note(rt, OFTEN);
+    }
+    Some(play)
+}
+
+/// Whether a log that is full still has the lines of all events that come once, ahead of those that wait, and counts
+/// none of them as lost.
+pub(crate) fn once_of_a_full_log<R: Threads + Wait + Clock + Copy + Send + 'static>(
+    rt: &R,
+    alloc: Global,
+) -> Option<bool> {
+    let Play { log, shared } = start_full(rt, alloc)?;
+    let (blocks, inodes) = (UsedPart { used: 9, all: 10 }, UsedPart { used: 1, all: 10 });
+    log.note(rt, LogEvent::Full { blocks, inodes });
+    log.note(rt, LogEvent::Clock);
+    log.note(rt, LogEvent::Halted);
+    shared.is_reading.store(true, Ordering::SeqCst);
+    log.end(rt);
+    let has_all = has_lines(rt, &shared, 1029);
+    let text = shared.text.lock(rt);
+    let mut lines = text.split(|octet| *octet == b'\n');
+    let is_first = ends(lines.next(), b" event=fault");
+    let is_second = ends(lines.next(), b" event=lost lines=10");
+    let is_third = ends(lines.next(), b" event=full blocks=9/10 inodes=1/10");
+    let is_fourth = ends(lines.next(), b" event=clock");
+    let is_fifth = ends(lines.next(), b" event=halted");
+    let is_sixth = ends(lines.next(), b" event=opening step=checking");
+    Some(has_all && is_first && is_second && is_third && is_fourth && is_fifth && is_sixth)
+}
+
+/// Whether a log that nothing else was noted in has the line of an event that comes once while it goes on.
+pub(crate) fn once_of_an_idle_log<R: Threads + Wait + Clock + Copy + Send + 'static>(
+    rt: &R,
+    alloc: Global,
+) -> Option<bool> {
+    let Play { log, shared } = start(rt, alloc, Verbosity::All, true)?;
+    log.note(rt, LogEvent::Clock);
+    let has_first = has_lines(rt, &shared, 1);
+    log.note(rt, LogEvent::Fault);
+    let has_second = has_lines(rt, &shared, 2);
+    log.end(rt);
+    Some(has_first && has_second)
 }
 
 /// Waits until this many lines are written, and no more. Answers false at the limit.

@@ -1,11 +1,19 @@
 //! The tests of the log.
 
-use crate::logs::{lines_of, never_read, read_late, written_in_part};
+use crate::logs::{
+    lines_of, never_read, once_of_a_full_log, once_of_an_idle_log, read_late, written_in_part,
+};
 use logging::Verbosity;
 
 #[test]
 fn a_log_tells_of_lost_lines(rt: HostRuntime) {
     assert_eq!(rt; read_late(&rt, rt.alloc()), Some(true));
+}
+
+#[test]
+fn no_caller_takes_the_room_of_what_comes_once(rt: HostRuntime) {
+    assert_eq!(rt; once_of_a_full_log(&rt, rt.alloc()), Some(true));
+    assert_eq!(rt; once_of_an_idle_log(&rt, rt.alloc()), Some(true));
 }
 
 #[test]

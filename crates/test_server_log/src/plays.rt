@@ -54,8 +54,16 @@ fn limits(scene: Scene) -> Limits {
     let short = Duration::from_millis(SHORT_MILLIS);
     let standard = Limits::standard();
     match scene {
+        Scene::Nothing => Limits {
+            first: short,
+            ..standard
+        },
         Scene::Silence => Limits {
             silence: short,
+            ..standard
+        },
+        Scene::Slow => Limits {
+            message: short,
             ..standard
         },
         Scene::Stall => Limits {

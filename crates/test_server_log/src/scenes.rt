@@ -4,7 +4,8 @@ use shared_kernel::SESSIONS;
 use std::alloc::Global;
 use std::net::{Net, SocketAddr, TcpListener, TcpStream};
 use std::sync::Wait;
-use std::time::Clock;
+use std::thread;
+use std::time::{Clock, Duration};
 use test_support_server::{Caller, GREETING, Lines, POST, SERVICE_ENDS};
 
 /// What a play is about.
@@ -12,8 +13,12 @@ use test_support_server::{Caller, GREETING, Lines, POST, SERVICE_ENDS};
 pub(crate) enum Scene {
     /// Callers that end in different ways, on both listeners.
     Ends,
-    /// A caller that is silent for longer than it may be.
+    /// A caller that sends no command for longer than it may.
+    Nothing,
+    /// A caller that is silent after a command for longer than it may be.
     Silence,
+    /// A caller whose second line comes more slowly than it may.
+    Slow,
     /// A caller that takes nothing for longer than it may.
     Stall,
     /// More callers than are served.
@@ -88,6 +93,11 @@ const ASKED: &str = "HELP\r\nHELP\r\nHELP\r\nHELP\r\nHELP\r\nHELP\r\nHELP\r\nHEL
 
 const ASKS: u32 = 8_000;
 
+/// How many octets a caller sends that is slow, and the milliseconds between them.
+const DRIPS: u32 = 1_000;
+
+const DRIP_MILLIS: u64 = 20;
+
 /// The callers of a play.
 pub(crate) struct Visit<'a, R> {
     pub(crate) rt: &'a R,
@@ -115,10 +125,20 @@ impl<'a, R: Net<Listener = TcpListener, Stream = TcpStream> + Wait + Clock> Visi
     pub(crate) fn is_as_it_must(&self, scene: Scene) -> bool {
         match scene {
             Scene::Ends => self.answers.have(self.rt, "1") && self.all_end(),
-            Scene::Silence => match self.come(0) {
+            Scene::Nothing => match self.come(0) {
                 Some(_caller) => {
                     self.tells(" messages=0 taken=0 refused=0 in=0 out=43 why=silent")
                 }
+                None => false,
+            },
+            Scene::Silence => match self.ask_once() {
+                Some(_caller) => {
+                    self.tells(" messages=1 taken=0 refused=0 in=20 out=64 why=silent")
+                }
+                None => false,
+            },
+            Scene::Slow => match self.ask_once() {
+                Some(caller) => self.drip(&caller) && self.tells(" why=silent"),
                 None => false,
             },
             Scene::Stall => match self.come(0) {
@@ -128,7 +148,7 @@ impl<'a, R: Net<Listener = TcpListener, Stream = TcpStream> + Wait + Clock> Visi
             Scene::Crowd => self.crowd() && self.logged.are(self.rt, SESSIONS + 2),
             Scene::Fault => self.tells(" event=fault")
                 && self.is_told()
-                && self.tells(" why=halted"),
+                && self.tells(" why=halted times=1"),
         }
     }
 
@@ -144,6 +164,27 @@ impl<'a, R: Net<Listener = TcpListener, Stream = TcpStream> + Wait + Clock> Visi
         } else {
             None
         }
+    }
+
+    /// A caller whose first command was answered.
+    fn ask_once(&self) -> Option<Caller> {
+        let mut caller = self.come(0)?;
+        if caller.sends("STAT <9@a.example>\r\n") && caller.reads("430 No such article") {
+            Some(caller)
+        } else {
+            None
+        }
+    }
+
+    /// Sends octets that end no line, one after another, until the socket takes no more. Answers false if it takes all.
+    fn drip(&self, caller: &Caller) -> bool {
+        for _ in 0..DRIPS {
+            if !caller.sends("D") {
+                return true;
+            }
+            thread::sleep(self.rt, Duration::from_millis(DRIP_MILLIS));
+        }
+        false
     }
 
     /// Whether the second listener tells its next caller that the service ends.
@@ -190,7 +231,7 @@ impl<'a, R: Net<Listener = TcpListener, Stream = TcpStream> + Wait + Clock> Visi
                 return false;
             }
         }
-        self.is_told() && self.tells(" why=sessions")
+        self.is_told() && self.tells(" why=sessions times=1")
     }
 }
 

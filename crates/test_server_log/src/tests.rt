@@ -18,8 +18,18 @@ fn the_log_tells_how_sessions_end(rt: HostRuntime) {
 }
 
 #[test]
+fn the_log_tells_of_a_caller_that_sends_no_command(rt: HostRuntime) {
+    assert_eq!(rt; play(&rt, rt.alloc(), Scene::Nothing), Some(GOOD));
+}
+
+#[test]
 fn the_log_tells_of_a_silent_caller(rt: HostRuntime) {
     assert_eq!(rt; play(&rt, rt.alloc(), Scene::Silence), Some(GOOD));
+}
+
+#[test]
+fn the_log_tells_of_a_slow_caller(rt: HostRuntime) {
+    assert_eq!(rt; play(&rt, rt.alloc(), Scene::Slow), Some(GOOD));
 }
 
 #[test]
