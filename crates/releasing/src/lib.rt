@@ -2,14 +2,16 @@
 //! calls all of them after each commit. docs/ARCHITECTURE.md, "The threads of serve", says which thread wakes which.
 #![tactic(auto)]
 
-mod limits;
+mod leaving;
 mod outgoing;
 mod releaser;
 mod shared;
+mod turns;
 mod writer;
 
-pub use limits::Limits;
-pub use outgoing::{Cut, Delivery, give_short_writes};
-pub use releaser::release_all;
-pub use shared::{Closing, Shared};
+pub use delivering::{Limits, give_short_writes};
+pub use leaving::{TakenBack, Untold};
+pub use outgoing::{Cut, Delivery};
+pub use releaser::{release_all, release_committed};
+pub use shared::{Asking, Closing, Shared};
 pub use writer::{Released, ReplyWriter};

@@ -1,24 +1,14 @@
 //! The octets of one session that have left the kernel, on their way into its socket.
 
-ghost use Rattle.std.specs.Prelude.{◌≡◌, ◌≤◌, length};
-
 use crate::Shared;
+use delivering::{Written, deliver};
+use model::{Message, Moment};
 use outbox::{RELEASE_ENTRIES, RELEASE_OCTETS, ReadyBuf};
-use shared_kernel::{Gate, Kern};
+use shared_kernel::{ExecError, ExecOutcome, Gate, Kern};
 use std::alloc::{AllocError, Global};
-use std::io::{self, ErrorKind, Write};
 use std::net::{Shutdown, TcpStream};
 use std::sync::{Arc, Wait};
 use std::time::Duration;
-
-/// A write that may not wait gets this many milliseconds, the fewest that the system allows. A socket that does not
-/// block at all would not block its reads either.
-const SHORT_MILLIS: u64 = 1;
-
-/// The time for which a socket may take nothing is split into this many writes. Linux wakes a waiting write only once a
-/// third of the socket's buffer is free, which may take longer with a slow caller; the next write finds whatever is
-/// free.
-const WAITS: u32 = 12;
 
 /// Whether a write may wait until its socket takes more.
 #[derive(Clone, Copy, PartialEq, Eq)]
@@ -29,18 +19,6 @@ pub(crate) enum Patience {
     Long,
 }
 
-/// How far a write went.
-#[derive(Clone, Copy, PartialEq, Eq)]
-pub(crate) enum Written {
-    All,
-    /// The socket takes no more now.
-    Part,
-    /// The socket took nothing for too long.
-    Stalled,
-    /// The socket failed.
-    Failed,
-}
-
 /// Why nothing more is written to a caller.
 #[derive(Clone, Copy, Debug, PartialEq, Eq)]
 pub enum Cut {
@@ -48,14 +26,23 @@ pub enum Cut {
     Stalled,
     /// The socket failed.
     Failed,
+    /// The operator ended the session.
+    Dropped,
 }
 
 /// What was written to a caller.
 #[derive(Clone, Copy, Debug, PartialEq, Eq)]
 pub struct Delivery {
     pub octets: u64,
-    /// `None` if all that was released to the caller was written.
+    /// `None` if all that was released to the caller was written, and the operator did not end the session.
     pub cut: Option<Cut>,
+}
+
+/// A block that a session's thread has left to the thread that flushes, and when it came.
+#[derive(Drop)]
+pub(crate) struct LeftBlock {
+    pub(crate) block: Message,
+    pub(crate) moment: Moment,
 }
 
 /// The octets taken from the kernel for a session, and how many of them are written.
@@ -66,6 +53,11 @@ pub(crate) struct Outgoing {
     pub(crate) stream: Option<Arc<TcpStream, Global>>,
     pub(crate) ready: ReadyBuf,
     written: usize,
+    /// A block that waits for the thread that flushes. As long as there is one, nothing is ready, and the kernel holds no
+    /// output of the session.
+    left: Option<LeftBlock>,
+    /// What became of the last block that was left, until the session's thread asks.
+    filed: Option<Result<ExecOutcome, ExecError>>,
     /// What was written to this caller so far.
     sent: Delivery,
 }
@@ -77,6 +69,8 @@ impl Outgoing {
             stream: None,
             ready: ReadyBuf::new(alloc)?,
             written: 0,
+            left: None,
+            filed: None,
             sent: Delivery {
                 octets: 0,
                 cut: None,
@@ -97,8 +91,47 @@ impl Outgoing {
     /// Ends the session, discards what was taken, and answers what was written to the caller.
     pub(crate) fn end(&mut self) -> Delivery {
         self.stream = None;
+        self.left = None;
+        self.filed = None;
         self.clear();
         self.sent
+    }
+
+    /// The octets that were written to this caller so far.
+    pub(crate) fn octets_out(&self) -> u64 {
+        self.sent.octets
+    }
+
+    /// Leaves a block. It is given back if something is ready.
+    pub(crate) fn leave(&mut self, block: LeftBlock) -> Result<(), LeftBlock> {
+        if !self.ready.is_empty() {
+            return Err(block);
+        }
+        self.left = Some(block);
+        Ok(())
+    }
+
+    /// Takes a block that was left.
+    pub(crate) fn take_left(&mut self) -> Option<LeftBlock> {
+        self.left.take()
+    }
+
+    /// Notes what became of a block that was left. If the session is closed, or a refusal ends it, nothing more is read from
+    /// the caller: so the session's thread, which may wait for octets, meets that end.
+    pub(crate) fn note_filed(&mut self, answer: Result<ExecOutcome, ExecError>) {
+        self.filed = Some(answer);
+        let goes_on = match answer {
+            Ok(answered) => answered.next.is_some(),
+            Err(_) => false,
+        };
+        if !goes_on {
+            self.shut_down(Shutdown::Read);
+        }
+    }
+
+    /// What became of the last block that was left. It is answered once.
+    pub(crate) fn take_filed(&mut self) -> Option<Result<ExecOutcome, ExecError>> {
+        self.filed.take()
     }
 
     /// Whether what was taken must be written before more is taken.
@@ -169,90 +202,12 @@ impl Outgoing {
             written,
             ..
         } = self;
-        let Some(stream) = stream else {
-            return Written::Failed;
-        };
-        let at_once = write_on(rt, stream, ready.octets(), written);
-        if at_once != Written::Part || patience == Patience::None {
-            return at_once;
-        }
-        if stream.set_write_timeout(Some(stall / WAITS)).is_err() {
-            return Written::Failed;
-        }
-        match write_patiently(rt, stream, ready.octets(), written) {
-            Written::All if give_short_writes(stream).is_ok() => Written::All,
-            Written::Part => Written::Stalled,
-            _ => Written::Failed,
+        match stream {
+            Some(stream) => {
+                let stall = (patience == Patience::Long).then_some(stall);
+                deliver(rt, stream, ready.octets(), written, stall)
+            }
+            None => Written::Failed,
         }
     }
-}
-
-/// Sets up a socket so that a write hardly waits.
-pub fn give_short_writes(stream: &TcpStream) -> io::Result<()> {
-    stream.set_write_timeout(Some(Duration::from_millis(SHORT_MILLIS)))
-}
-
-/// Writes the octets from the place `written` on, and advances that place, until the socket took none in all waits of a
-/// limit.
-fn write_patiently<R: Wait>(
-    rt: &R,
-    stream: &TcpStream,
-    octets: &[u8],
-    written: &mut usize,
-) -> Written {
-    let mut idle: u32 = 0;
-    for _ in rt.forever() {
-        let before = *written;
-        let step = write_on(rt, stream, octets, written);
-        if step != Written::Part {
-            return step;
-        }
-        idle = if *written == before {
-            idle.saturating_add(1)
-        } else {
-            1
-        };
-        if idle >= WAITS {
-            return Written::Part;
-        }
-    }
-    unreachable!()
-}
-
-/// Writes the octets from the place `written` on, and advances that place, until the socket takes none within its
-/// limit.
-fn write_on<R: Wait>(rt: &R, stream: &TcpStream, octets: &[u8], written: &mut usize) -> Written {
-    for _ in rt.forever() {
-        if *written > octets.len() {
-            return Written::Failed;
-        }
-        let (step, count) = write_once(rt, stream, &octets[*written..]);
-        *written += count;
-        if step != Written::Part || count == 0 {
-            return step;
-        }
-    }
-    unreachable!()
-}
-
-/// Writes what a socket takes in one call, and answers how many octets that was: all of them with `All`, none with
-/// `Failed`.
-fn write_once<R: Wait>(rt: &R, stream: &TcpStream, octets: &[u8]) -> (Written, usize)
-    ensures within { result.1 ≤ length octets.now }
-    ensures whole { result.0 ≡ Written.All → result.1 ≡ length octets.now }
-    ensures none { result.0 ≡ Written.Failed → result.1 ≡ 0 }
-{
-    let mut stream = stream;
-    for _ in rt.forever() {
-        match stream.write(octets) {
-            Ok(count) if count == octets.len() => return (Written::All, count),
-            Ok(count) => return (Written::Part, count),
-            Err(error) => match error.kind() {
-                ErrorKind::Interrupted => {}
-                ErrorKind::WouldBlock | ErrorKind::TimedOut => return (Written::Part, 0),
-                _ => return (Written::Failed, 0),
-            },
-        }
-    }
-    unreachable!()
 }

@@ -1,33 +1,31 @@
-//! The way of one session's replies from the kernel to its socket. Only the holder of the lock on `outgoing` takes what
-//! is ready, so the order on the socket is that of the kernel. The lock is taken before the kernel's, and no thread
+//! The way of one session's replies from the kernel to its socket. Only the holder of the lock on a desk takes what is
+//! ready, so the order on the socket is that of the kernel. The lock is taken before the kernel's, and no thread
 //! holds two of these locks.
 
 use crate::Shared;
-use crate::outgoing::{Delivery, Outgoing, Patience};
+use crate::outgoing::{Cut, Delivery, Outgoing, Patience};
+use crate::shared::Look;
+use crate::turns::{Desk, Turn};
 use model::{Message, Moment};
 use outbox::RELEASE_ENTRIES;
+use roster::{Chosen, Guest, ListedSession, Place};
 use shared_kernel::{ExecError, ExecOutcome, Gate, Kern};
 use std::alloc::{AllocError, Global};
 use std::net::{Shutdown, TcpStream};
-use std::sync::atomic::{AtomicBool, Ordering};
-use std::sync::{Arc, Mutex, Wait};
+use std::sync::{Arc, Wait};
 use std::thread::Parker;
+use std::time::Clock;
 
 /// Writes the replies of one session's thread, which serves one caller after another.
 #[derive(Drop)]
 pub struct ReplyWriter {
-    outgoing: Mutex<Outgoing>,
-    /// Something may be ready that the holder of `outgoing` has not seen. A thread that sets this flag and then does
-    /// not get the lock has done its part: the holder looks at the flag once more after it releases the lock.
-    is_missed: AtomicBool,
-    /// Outputs may be held until a commit.
-    is_waiting: AtomicBool,
+    pub(crate) desk: Desk,
     /// Wakes the thread that finishes a write that was cut short.
     rest: Parker,
     /// Wakes the session's thread when it waits for a release.
     session: Parker,
-    /// For shutting down the socket while any thread writes. `None` if there is no caller.
-    socket: Mutex<Option<Arc<TcpStream, Global>>>,
+    /// Who calls. Any thread may shut the socket down there.
+    place: Place,
 }
 
 /// What a release found.
@@ -43,54 +41,88 @@ impl ReplyWriter {
     /// A writer without a caller. Refused only for want of memory.
     pub fn new(alloc: Global) -> Result<ReplyWriter, AllocError> {
         Ok(ReplyWriter {
-            outgoing: Mutex::new(Outgoing::new(alloc)?),
-            is_missed: AtomicBool::new(false),
-            is_waiting: AtomicBool::new(false),
+            desk: Desk::new(alloc)?,
             rest: Parker::new(),
             session: Parker::new(),
-            socket: Mutex::new(None),
+            place: Place::new(),
         })
     }
 
-    /// Begins a new session for a caller. Both handles are of the caller's socket.
-    pub fn begin<R: Wait>(
-        &self,
-        rt: &R,
-        sid: u64,
-        writing: Arc<TcpStream, Global>,
-        ending: Arc<TcpStream, Global>,
-    ) {
-        *self.socket.lock(rt) = Some(ending);
-        self.outgoing.lock(rt).begin(sid, writing);
+    /// Begins a new session for a guest. The handle is one more of its socket.
+    pub fn begin<R: Wait + Clock>(&self, rt: &R, guest: Guest, writing: Arc<TcpStream, Global>) {
+        let session = guest.session;
+        self.place.begin(rt, guest);
+        self.desk.note_slow(false);
+        let mut turn = self.desk.turn(rt);
+        turn.outgoing().begin(session, writing);
+        turn.end_before_send();
+    }
+
+    /// Where the session's thread notes what it does.
+    pub fn place(&self) -> &Place {
+        &self.place
+    }
+
+    /// The session as the operator sees it, if there is one. It waits for no write.
+    pub fn look<R: Wait + Clock>(&self, rt: &R) -> Option<ListedSession> {
+        self.place
+            .look(rt, self.desk.octets_out(), self.is_waiting())
+    }
+
+    /// Ends the session if it is one of these, and answers whether it is.
+    pub fn let_go<R: Wait>(&self, rt: &R, chosen: &Chosen) -> bool {
+        self.place.let_go(rt, chosen)
     }
 
     /// Lets the caller go, drops what is left of its session, and answers what was written to it.
     pub fn end<R: Wait, K: Kern>(&self, rt: &R, kern: &K) -> Delivery {
-        let mut outgoing = self.outgoing.lock(rt);
-        kern.leave(rt, outgoing.sid);
-        let sent = outgoing.end();
-        self.is_waiting.store(false, Ordering::SeqCst);
-        *self.socket.lock(rt) = None;
+        let mut turn = self.desk.turn(rt);
+        kern.leave(rt, turn.outgoing().sid);
+        let mut sent = turn.outgoing().end();
+        turn.note_left(false);
+        self.desk.note_waiting(false);
+        if self.place.end(rt) {
+            sent.cut = Some(Cut::Dropped);
+        }
+        turn.end_before_send();
         sent
     }
 
     /// Has a message answered, and takes what is ready. What does not fit is written before anything else is served.
-    /// The thread that calls this calls `send` or `release` before it waits.
+    /// The thread that calls this has no block left, and calls `send` or `release` before it waits.
     pub fn answer<R: Wait, K: Kern, G: Gate>(
         &self,
         shared: &Shared<'_, R, K, G>,
         message: &Message,
         moment: Moment,
     ) -> Result<ExecOutcome, ExecError> {
-        let mut guard = self.outgoing.lock(shared.rt);
-        let outgoing = &mut *guard;
-        if outgoing.is_full() {
-            self.release_ready(shared, outgoing, Patience::Long);
+        let mut turn = self.desk.turn(shared.rt);
+        if turn.outgoing().is_full() {
+            self.release_ready(shared, turn.outgoing(), Patience::Long);
         }
+        shared.asking.begin();
+        let answered = self.answer_into(shared, &mut turn, message, moment);
+        shared.asking.end();
+        if answered.is_ok() && turn.outgoing().is_full() {
+            self.release_ready(shared, turn.outgoing(), Patience::Long);
+        }
+        turn.end_before_send();
+        answered
+    }
+
+    /// Has the kernel answer a message, and takes what is ready.
+    pub(crate) fn answer_into<R: Wait, K: Kern, G: Gate>(
+        &self,
+        shared: &Shared<'_, R, K, G>,
+        turn: &mut Turn<'_>,
+        message: &Message,
+        moment: Moment,
+    ) -> Result<ExecOutcome, ExecError> {
+        let outgoing = turn.outgoing();
         if outgoing.ready.len() >= RELEASE_ENTRIES {
             return Err(ExecError::NoSession);
         }
-        self.note_taking();
+        self.desk.note_taking();
         let answer = shared.kern.answer(
             shared.rt,
             shared.alloc,
@@ -99,24 +131,19 @@ impl ReplyWriter {
             moment,
             &mut outgoing.ready,
         );
-        if answer.is_err() {
+        match answer {
+            Ok(answered) => self.desk.note_waiting(answered.is_held),
             // nothing was taken, whatever a commit found before
-            self.is_missed.store(true, Ordering::SeqCst);
+            Err(_) => self.desk.note_missed(),
         }
-        let answered = answer?;
-        self.is_waiting.store(answered.is_held, Ordering::SeqCst);
-        if outgoing.is_full() {
-            self.release_ready(shared, outgoing, Patience::Long);
-        }
-        Ok(answered)
+        answer
     }
 
     /// Writes what was taken. A session's thread calls this before it waits.
     pub fn send<R: Wait, K: Kern, G: Gate>(&self, shared: &Shared<'_, R, K, G>) {
-        let mut outgoing = self.outgoing.lock(shared.rt);
-        outgoing.write(shared, Patience::Long);
-        drop(outgoing);
-        if self.is_missed.load(Ordering::SeqCst) {
+        let mut turn = self.desk.turn(shared.rt);
+        turn.outgoing().write(shared, Patience::Long);
+        if turn.end() {
             self.release(shared);
         }
     }
@@ -125,11 +152,10 @@ impl ReplyWriter {
     pub fn release<R: Wait, K: Kern, G: Gate>(&self, shared: &Shared<'_, R, K, G>) -> Released {
         let mut has_taken = false;
         for _ in shared.rt.forever() {
-            let mut outgoing = self.outgoing.lock(shared.rt);
-            let released = self.release_ready(shared, &mut *outgoing, Patience::Long);
-            drop(outgoing);
+            let mut turn = self.desk.turn(shared.rt);
+            let released = self.release_ready(shared, turn.outgoing(), Patience::Long);
             has_taken |= released.has_taken;
-            if !self.is_missed.load(Ordering::SeqCst) {
+            if !turn.end() {
                 return Released {
                     has_taken,
                     is_held: released.is_held,
@@ -139,15 +165,47 @@ impl ReplyWriter {
         unreachable!()
     }
 
+    /// Whether outputs may be held until a commit.
+    pub(crate) fn is_waiting(&self) -> bool {
+        self.desk.is_waiting()
+    }
+
+    /// Whether a write to the caller was once cut short in this session.
+    pub(crate) fn is_slow(&self) -> bool {
+        self.desk.is_slow()
+    }
+
     /// After a commit, releases what waited for it if no thread has the lock; otherwise the holder of the lock does
     /// that. It waits for no thread.
     pub fn release_waiting<R: Wait, K: Kern, G: Gate>(&self, shared: &Shared<'_, R, K, G>) {
-        if !self.is_waiting.load(Ordering::SeqCst) {
+        if !self.is_waiting() {
             return;
         }
-        self.is_missed.store(true, Ordering::SeqCst);
+        self.desk.note_missed();
         self.catch_up(shared);
         self.session.unpark();
+    }
+
+    /// Waits until the session no longer holds an output, as for a caller that sends nothing more. At the server's end it
+    /// releases what is ready, and waits for nothing.
+    pub fn finish<R: Wait, K: Kern, G: Gate>(&self, shared: &Shared<'_, R, K, G>) {
+        for _ in shared.rt.forever() {
+            if self.finish_pass(shared, shared.closing.look()) {
+                return;
+            }
+            shared.bells.flush_now();
+            self.wait_for_release(shared.rt);
+        }
+    }
+
+    /// Releases what is ready, after a look at the server's end. Whether nothing is held any more, or nothing becomes ready.
+    fn finish_pass<R: Wait, K: Kern, G: Gate>(
+        &self,
+        shared: &Shared<'_, R, K, G>,
+        look: Look,
+    ) -> bool {
+        let released = self.release(shared);
+        look.was_last() || !released.is_held
     }
 
     /// Waits until something was released, or the server's end begins. It may return earlier.
@@ -169,14 +227,12 @@ impl ReplyWriter {
 
     /// Whether there is no caller.
     pub(crate) fn is_free<R: Wait>(&self, rt: &R) -> bool {
-        self.socket.lock(rt).is_none()
+        self.place.is_free(rt)
     }
 
     /// Shuts down the caller's socket, whichever thread writes.
     pub(crate) fn shut_down<R: Wait>(&self, rt: &R, how: Shutdown) {
-        if let Some(socket) = &*self.socket.lock(rt) {
-            let _ = socket.shutdown(how);
-        }
+        self.place.shut_down(rt, how);
     }
 
     /// Wakes its two threads.
@@ -186,23 +242,33 @@ impl ReplyWriter {
     }
 
     /// Takes and writes what a holder of the lock has missed, unless another thread has the lock by now.
-    fn catch_up<R: Wait, K: Kern, G: Gate>(&self, shared: &Shared<'_, R, K, G>) {
+    pub(crate) fn catch_up<R: Wait, K: Kern, G: Gate>(&self, shared: &Shared<'_, R, K, G>) {
         for _ in shared.rt.forever() {
-            if !self.is_missed.load(Ordering::SeqCst) {
+            if !self.desk.is_missed() {
                 return;
             }
-            let Some(mut guard) = self.outgoing.try_lock() else {
+            let Some(mut turn) = self.desk.try_turn() else {
                 return;
             };
-            let outgoing = &mut *guard;
-            self.release_ready(shared, outgoing, Patience::None);
-            let is_done = outgoing.ready.is_empty();
-            drop(guard);
-            if !is_done {
-                self.rest.unpark();
+            self.release_ready(shared, turn.outgoing(), Patience::None);
+            if !self.end_written(turn) {
                 return;
             }
         }
+    }
+
+    /// Ends a turn in which something was written that could not wait. What was cut short is left to the thread that
+    /// finishes it. Answers whether something was missed meanwhile that no other thread takes.
+    pub(crate) fn end_written(&self, mut turn: Turn<'_>) -> bool {
+        let is_done = turn.outgoing().ready.is_empty();
+        if !is_done {
+            self.desk.note_slow(true);
+        }
+        let is_missed = turn.end();
+        if !is_done {
+            self.rest.unpark();
+        }
+        is_done && is_missed
     }
 
     /// Writes what was taken, and takes and writes what is ready, until nothing is ready or the socket takes no more.
@@ -223,22 +289,16 @@ impl ReplyWriter {
                     is_held: is_stuck,
                 };
             }
-            self.note_taking();
+            self.desk.note_taking();
             is_held = shared
                 .kern
                 .give_ready(shared.rt, outgoing.sid, &mut outgoing.ready);
-            self.is_waiting.store(is_held, Ordering::SeqCst);
+            self.desk.note_waiting(is_held);
             if outgoing.ready.is_empty() {
                 return Released { has_taken, is_held };
             }
             has_taken = true;
         }
         unreachable!()
-    }
-
-    /// Notes that the holder is about to take all that is ready. From here on a commit learns that it may be missed.
-    fn note_taking(&self) {
-        self.is_missed.store(false, Ordering::SeqCst);
-        self.is_waiting.store(true, Ordering::SeqCst);
     }
 }

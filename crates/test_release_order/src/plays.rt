@@ -1,10 +1,5 @@
 //! Plays of two threads, the session's and the one that commits and releases, in chosen orders and in any order.
 
-use crate::callers::{Caller, fill};
-use crate::sides::Side;
-use crate::stages::{Session, Stage};
-use crate::stops::{PAUSE_MILLIS, Point, Stop, StopGate, pause, wait_for};
-use locked_kernel::Locked;
 use releasing::Limits;
 use shared_kernel::{Gate, Kern};
 use std::alloc::Global;
@@ -12,14 +7,15 @@ use std::net::{Net, TcpListener, TcpStream};
 use std::sync::Wait;
 use std::sync::atomic::Ordering;
 use std::thread::{Threads, join};
+use std::time::Clock;
+use test_support_releasing::{
+    Caller, GREETING, PAUSE_MILLIS, Point, REPLIES, Session, Side, Stage, Stop, StopGate, Store,
+    fill, pause, wait_for,
+};
 use volume::BatchBuf;
 
 /// The most times that a session waits for a release.
 const WAITS: u32 = 100;
-
-pub(crate) const GREETING: &[u8] = b"200 news.example ready, posting permitted\r\n";
-
-pub(crate) const REPLIES: [&[u8]; 2] = [b"340 Send article\r\n", b"240 Article received\r\n"];
 
 const DATED: &[u8] = b"111 20010909014640\r\n";
 
@@ -34,6 +30,8 @@ pub(crate) enum Then {
     Date,
     /// It sends, and then its socket is full.
     Fill,
+    /// It finishes, as for a caller that sends nothing more, and the server ends meanwhile.
+    End,
 }
 
 /// Where a thread stops, and what the session's does.
@@ -61,6 +59,7 @@ fn serve<R: Wait, K: Kern, G: Gate>(
     stop.pass(session.rt(), Point::BeforeThen);
     match then {
         Then::Finish => finish(session, stop)?,
+        Then::End => session.writer().finish(session.shared),
         Then::Release => {
             session.writer().release(session.shared);
         }
@@ -105,7 +104,7 @@ fn ask_for_date<R: Wait, K: Kern, G: Gate>(
     Some(())
 }
 
-/// The steps of the other thread: it commits and releases.
+/// The steps of the other thread: it commits and releases, or ends the server.
 fn commit<R: Wait, K: Kern, G: Gate>(
     session: &Session<'_, R, K, G>,
     stop: &Stop,
@@ -119,7 +118,13 @@ fn commit<R: Wait, K: Kern, G: Gate>(
     }
     let mut batch = BatchBuf::new(session.shared.alloc).ok()?;
     let ticket = session.takes(&mut batch)?;
-    session.commits(ticket)?;
+    session.commits(ticket, &batch)?;
+    if order.then == Then::End {
+        // the releaser comes too late
+        session.shared.close();
+    } else {
+        session.writer().release_waiting(session.shared);
+    }
     stop.is_done.store(true, Ordering::SeqCst);
     Some(())
 }
@@ -142,25 +147,25 @@ fn commit_and_read<R: Wait, K: Kern, G: Gate>(
 }
 
 /// Plays an order, and answers whether the caller read its replies.
-pub(crate) fn play<'a, R: Net<Listener = TcpListener, Stream = TcpStream> + Threads + Wait + Sync>(
-    rt: &'a R,
-    alloc: Global,
-    kernel: &'a Locked,
-    order: Order,
-) -> bool {
+pub(crate) fn play<
+    'a,
+    R: Net<Listener = TcpListener, Stream = TcpStream> + Threads + Wait + Clock + Sync,
+>(rt: &'a R, alloc: Global, store: &'a Store, order: Order) -> bool {
     let stop = Stop::new(order.point);
     let kern = Side {
-        inner: kernel,
+        inner: &store.kernel,
         stop: &stop,
     };
     let gate = StopGate { rt, stop: &stop };
-    let Some((stage, caller)) = Stage::new(rt, alloc, kernel, Limits::standard()) else {
+    let Some((stage, caller)) = Stage::new(rt, alloc, &store.kernel, Limits::standard()) else {
         return false;
     };
     let shared = stage.shared(rt, &kern, &gate);
     let session = Session {
         shared: &shared,
         stage: &stage,
+        journal: &store.journal,
+        batch: &store.batch,
     };
     run(&session, caller, &stop, order)
 }

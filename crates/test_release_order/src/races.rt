@@ -1,14 +1,13 @@
 //! Many articles, each of which is committed and released while its session's thread continues without a stop.
 
-use crate::callers::Caller;
-use crate::plays::{GREETING, REPLIES};
-use crate::stages::{Session, Stage, make_kernel};
 use releasing::Limits;
 use shared_kernel::{Gate, Kern, NoGate, Ticket};
 use std::alloc::Global;
 use std::net::{Net, TcpListener, TcpStream};
 use std::sync::Wait;
 use std::thread::{self, Threads, join};
+use std::time::Clock;
+use test_support_releasing::{Caller, GREETING, REPLIES, Session, Stage, make_store};
 use volume::BatchBuf;
 
 /// The number of articles.
@@ -21,16 +20,17 @@ const TURNS: u32 = 10_000_000;
 const DELAYS: u64 = 40;
 
 /// Whether the caller gets the reply to each of its articles before it sends the next.
-pub(crate) fn race<R: Net<Listener = TcpListener, Stream = TcpStream> + Threads + Wait + Sync>(
-    rt: &R,
-    alloc: Global,
-) -> Option<()> {
-    let kernel = make_kernel(rt, alloc)?;
-    let (stage, caller) = Stage::new(rt, alloc, &kernel, Limits::standard())?;
-    let shared = stage.shared(rt, &kernel, &NoGate);
+pub(crate) fn race<
+    R: Net<Listener = TcpListener, Stream = TcpStream> + Threads + Wait + Clock + Sync,
+>(rt: &R, alloc: Global) -> Option<()> {
+    let store = make_store(rt, alloc)?;
+    let (stage, caller) = Stage::new(rt, alloc, &store.kernel, Limits::standard())?;
+    let shared = stage.shared(rt, &store.kernel, &NoGate);
     let session = Session {
         shared: &shared,
         stage: &stage,
+        journal: &store.journal,
+        batch: &store.batch,
     };
     run(&session, caller)
 }
@@ -61,13 +61,23 @@ fn post_all<R: Wait, K: Kern, G: Gate>(
     }
     for round in 0..ROUNDS {
         session.asks(b"POST")?;
-        session.posts(round)?;
+        session.writer().send(session.shared);
+        if round % 3 == 0 {
+            session.posts(round)?;
+        } else if !session.leaves(round)? {
+            return None;
+        } else if round % 3 == 1 {
+            session.takes_back()?;
+        }
         if round % 2 == 0 {
             session.writer().send(session.shared);
         } else {
             session.writer().release(session.shared);
         }
         if !caller.reads_all(&REPLIES) {
+            return None;
+        }
+        if round % 3 == 2 && session.takes_back()? {
             return None;
         }
     }
@@ -82,7 +92,8 @@ fn commit_all<R: Wait, K: Kern, G: Gate>(session: &Session<'_, R, K, G>) -> Opti
         for _ in 0..round % DELAYS {
             thread::yield_now();
         }
-        session.commits(ticket)?;
+        session.commits(ticket, &batch)?;
+        session.writer().release_waiting(session.shared);
     }
     Some(())
 }
@@ -93,6 +104,7 @@ fn next_ticket<R: Wait, K: Kern, G: Gate>(
     batch: &mut BatchBuf,
 ) -> Option<Ticket> {
     for _ in 0..TURNS {
+        session.files();
         if let Some(ticket) = session.takes(batch) {
             return Some(ticket);
         }

@@ -1,9 +1,5 @@
 //! Callers that take none, or few, of their replies' octets.
 
-use crate::callers::{Caller, fill};
-use crate::plays::GREETING;
-use crate::stages::{Session, Stage, make_kernel, moment};
-use crate::stops::{Point, Stop, pause, wait_for};
 use model::{Message, Text};
 use outbox::ReadyBuf;
 use releasing::{Limits, Shared};
@@ -14,6 +10,9 @@ use std::sync::Wait;
 use std::sync::atomic::Ordering;
 use std::thread::{Threads, join};
 use std::time::{Clock, Duration, Instant};
+use test_support_releasing::{
+    Caller, GREETING, Point, Session, Stage, Stop, fill, make_store, moment, pause, wait_for,
+};
 
 /// The limit for a caller that takes nothing, and by how much it may be exceeded on a busy machine, in milliseconds.
 const STALL_MILLIS: u64 = 50;
@@ -51,12 +50,14 @@ pub(crate) fn lets_go<R: Net<Listener = TcpListener, Stream = TcpStream> + Wait 
     rt: &R,
     alloc: Global,
 ) -> Option<bool> {
-    let kernel = make_kernel(rt, alloc)?;
-    let (stage, caller) = Stage::new(rt, alloc, &kernel, limits(STALL_MILLIS))?;
-    let shared = stage.shared(rt, &kernel, &NoGate);
+    let store = make_store(rt, alloc)?;
+    let (stage, caller) = Stage::new(rt, alloc, &store.kernel, limits(STALL_MILLIS))?;
+    let shared = stage.shared(rt, &store.kernel, &NoGate);
     let session = Session {
         shared: &shared,
         stage: &stage,
+        journal: &store.journal,
+        batch: &store.batch,
     };
     session.writer().release(&shared);
     fill(&stage.near)?;
@@ -75,17 +76,18 @@ fn is_between(waited: Duration, least: u64, most: u64) -> bool {
 }
 
 /// Whether a caller that takes a little again and again gets all replies, and stays to the end.
-pub(crate) fn keeps<R: Net<Listener = TcpListener, Stream = TcpStream> + Threads + Wait + Sync>(
-    rt: &R,
-    alloc: Global,
-) -> Option<bool> {
+pub(crate) fn keeps<
+    R: Net<Listener = TcpListener, Stream = TcpStream> + Threads + Wait + Clock + Sync,
+>(rt: &R, alloc: Global) -> Option<bool> {
     let stop = Stop::new(Point::Nowhere);
-    let kernel = make_kernel(rt, alloc)?;
-    let (stage, caller) = Stage::new(rt, alloc, &kernel, limits(SLOW_MILLIS))?;
-    let shared = stage.shared(rt, &kernel, &NoGate);
+    let store = make_store(rt, alloc)?;
+    let (stage, caller) = Stage::new(rt, alloc, &store.kernel, limits(SLOW_MILLIS))?;
+    let shared = stage.shared(rt, &store.kernel, &NoGate);
     let session = Session {
         shared: &shared,
         stage: &stage,
+        journal: &store.journal,
+        batch: &store.batch,
     };
     run(&session, caller, &stop)
 }

@@ -2,12 +2,11 @@
 
 use crate::plays::{Order, Then, play};
 use crate::races::race;
-use crate::stages::make_kernel;
 use crate::stalls::{keeps, lets_go};
-use crate::stops::Point;
+use test_support_releasing::{Point, make_store};
 
 /// When the commit and the release that follows it happen.
-const ORDERS: [(Point, Then); 16] = [
+const ORDERS: [(Point, Then); 17] = [
     // while the session's thread has the lock
     (Point::AfterAnswer, Then::Send),
     (Point::AfterAnswer, Then::Release),
@@ -28,11 +27,13 @@ const ORDERS: [(Point, Then); 16] = [
     (Point::BeforeWrite, Then::Date),
     // the socket takes nothing
     (Point::Nowhere, Then::Fill),
+    // the server ends after the last pass that found a reply held
+    (Point::AfterGive, Then::End),
 ];
 
 #[test]
 fn no_order_loses_a_release(rt: HostRuntime) {
-    let kernel = make_kernel(&rt, rt.alloc()).expect(&rt, "a kernel");
+    let store = make_store(&rt, rt.alloc()).expect(&rt, "a store");
     let mut number = 0u64;
     for (point, then) in ORDERS {
         number = number.saturating_add(1);
@@ -41,7 +42,7 @@ fn no_order_loses_a_release(rt: HostRuntime) {
             then,
             number,
         };
-        assert!(rt; play(&rt, rt.alloc(), &kernel, order), "{point:?} {then:?}");
+        assert!(rt; play(&rt, rt.alloc(), &store, order), "{point:?} {then:?}");
     }
 }
 

@@ -10,10 +10,10 @@ use std::time::Duration;
 const LOOKS: u32 = 10_000;
 
 /// A thread that may continue gets this many milliseconds to reach the lock.
-pub(crate) const PAUSE_MILLIS: u64 = 20;
+pub const PAUSE_MILLIS: u64 = 20;
 
 /// Waits until a flag is set. `None` at the limit.
-pub(crate) fn wait_for<R: Wait>(rt: &R, flag: &AtomicBool) -> Option<()> {
+pub fn wait_for<R: Wait>(rt: &R, flag: &AtomicBool) -> Option<()> {
     for _ in 0..LOOKS {
         if flag.load(Ordering::SeqCst) {
             return Some(());
@@ -24,13 +24,13 @@ pub(crate) fn wait_for<R: Wait>(rt: &R, flag: &AtomicBool) -> Option<()> {
 }
 
 /// Waits this many milliseconds.
-pub(crate) fn pause<R: Wait>(rt: &R, millis: u64) {
+pub fn pause<R: Wait>(rt: &R, millis: u64) {
     Parker::new().park_timeout(rt, Duration::from_millis(millis));
 }
 
 /// Where a thread stops.
 #[derive(Clone, Copy, Debug, PartialEq, Eq)]
-pub(crate) enum Point {
+pub enum Point {
     /// Nowhere.
     Nowhere,
     /// Before and after a write.
@@ -48,24 +48,27 @@ pub(crate) enum Point {
 
 /// The stop of a play: the first thread that reaches its point waits there until the other one has done its steps.
 #[derive(Drop)]
-pub(crate) struct Stop {
+pub struct Stop {
     point: Point,
     is_armed: AtomicBool,
+    /// The next message is refused because too many blocks are dirty.
+    refuses: AtomicBool,
     /// A thread has reached the point.
-    pub(crate) is_reached: AtomicBool,
+    pub is_reached: AtomicBool,
     /// The other one has done its steps.
-    pub(crate) is_done: AtomicBool,
+    pub is_done: AtomicBool,
     /// The session's thread has released the lock, or waits.
-    pub(crate) is_let_go: AtomicBool,
+    pub is_let_go: AtomicBool,
     /// The session's thread has ended.
-    pub(crate) has_ended: AtomicBool,
+    pub has_ended: AtomicBool,
 }
 
 impl Stop {
-    pub(crate) fn new(point: Point) -> Stop {
+    pub fn new(point: Point) -> Stop {
         Stop {
             point,
             is_armed: AtomicBool::new(false),
+            refuses: AtomicBool::new(false),
             is_reached: AtomicBool::new(false),
             is_done: AtomicBool::new(false),
             is_let_go: AtomicBool::new(false),
@@ -74,12 +77,22 @@ impl Stop {
     }
 
     /// From here on a thread stops at the point.
-    pub(crate) fn arm(&self) {
+    pub fn arm(&self) {
         self.is_armed.store(true, Ordering::SeqCst);
     }
 
+    /// Has the next message refused because too many blocks are dirty.
+    pub fn refuse(&self) {
+        self.refuses.store(true, Ordering::SeqCst);
+    }
+
+    /// Whether a message is refused for that. It is answered once.
+    pub fn is_refused(&self) -> bool {
+        self.refuses.swap(false, Ordering::SeqCst)
+    }
+
     /// Notes that a thread is at a point, and holds it there if this is the point to stop at.
-    pub(crate) fn pass<R: Wait>(&self, rt: &R, point: Point) {
+    pub fn pass<R: Wait>(&self, rt: &R, point: Point) {
         if point != self.point || !self.is_armed.swap(false, Ordering::SeqCst) {
             return;
         }
@@ -90,9 +103,9 @@ impl Stop {
 }
 
 /// A gate with that stop.
-pub(crate) struct StopGate<'a, R> {
-    pub(crate) rt: &'a R,
-    pub(crate) stop: &'a Stop,
+pub struct StopGate<'a, R> {
+    pub rt: &'a R,
+    pub stop: &'a Stop,
 }
 
 impl<'a, R> Drop for StopGate<'a, R> {

@@ -6,7 +6,8 @@ use model::{Message, Mode, Moment};
 use names::{GroupName, GroupRequest};
 use outbox::ReadyBuf;
 use shared_kernel::{
-    AdminError, ExecError, ExecOutcome, ExpireError, JoinError, Kern, KernelCounts, Stale, Ticket,
+    AdminError, ExecError, ExecOutcome, ExpireError, JoinError, Kern, KernelCounts, Receipt, Stale,
+    Ticket,
 };
 use std::alloc::Global;
 use std::sync::Wait;
@@ -14,9 +15,9 @@ use volume::BatchBuf;
 
 /// The kernel of a play.
 #[derive(Drop)]
-pub(crate) struct Side<'a> {
-    pub(crate) inner: &'a Locked,
-    pub(crate) stop: &'a Stop,
+pub struct Side<'a> {
+    pub inner: &'a Locked,
+    pub stop: &'a Stop,
 }
 
 impl<'a> Kern for Side<'a> {
@@ -37,6 +38,9 @@ impl<'a> Kern for Side<'a> {
         moment: Moment,
         into: &mut ReadyBuf,
     ) -> Result<ExecOutcome, ExecError> {
+        if self.stop.is_refused() {
+            return Err(ExecError::LaterDirty);
+        }
         let answered = self.inner.answer(rt, alloc, sid, message, moment, into);
         self.stop.pass(rt, Point::AfterAnswer);
         answered
@@ -70,8 +74,8 @@ impl<'a> Kern for Side<'a> {
         self.inner.take_batch(rt, into)
     }
 
-    fn committed<R: Wait>(&self, rt: &R, ticket: Ticket) -> Result<(), Stale> {
-        self.inner.committed(rt, ticket)
+    fn committed<R: Wait>(&self, rt: &R, ticket: Ticket, receipt: Receipt) -> Result<(), Stale> {
+        self.inner.committed(rt, ticket, receipt)
     }
 
     fn halt<R: Wait>(&self, rt: &R) {

@@ -19,14 +19,14 @@ const REFUSALS: u32 = 30;
 
 /// A caller.
 #[derive(Drop)]
-pub(crate) struct Caller {
+pub struct Caller {
     replies: BufReader<TcpStream>,
     alloc: Global,
 }
 
 impl Caller {
     /// Both ends of a new connection: the server's, and a caller with the other one.
-    pub(crate) fn connect<R: Net<Listener = TcpListener, Stream = TcpStream>>(
+    pub fn connect<R: Net<Listener = TcpListener, Stream = TcpStream>>(
         rt: &R,
         alloc: Global,
     ) -> Option<(TcpStream, Caller)> {
@@ -42,7 +42,7 @@ impl Caller {
     }
 
     /// Whether the next line is this one, after the octets that filled the socket.
-    pub(crate) fn reads(&mut self, text: &[u8]) -> bool {
+    pub fn reads(&mut self, text: &[u8]) -> bool {
         let mut line = Vec::new(self.alloc);
         if self.replies.read_until(b'\n', &mut line).is_err() {
             return false;
@@ -52,7 +52,7 @@ impl Caller {
     }
 
     /// Whether these lines come next.
-    pub(crate) fn reads_all(&mut self, lines: &[&[u8]]) -> bool {
+    pub fn reads_all(&mut self, lines: &[&[u8]]) -> bool {
         for line in lines {
             if !self.reads(line) {
                 return false;
@@ -62,7 +62,7 @@ impl Caller {
     }
 
     /// Takes a little, and answers how many octets that was, 0 at the end.
-    pub(crate) fn takes(&mut self, piece: &mut [u8]) -> Option<u64> {
+    pub fn takes(&mut self, piece: &mut [u8]) -> Option<u64> {
         let count = self.replies.read(piece).ok()?;
         Some(count as u64)
     }
@@ -70,7 +70,7 @@ impl Caller {
 
 /// Fills a socket, whose writes hardly wait, until it takes no more. It answers the number of octets; `None` if it was
 /// never full.
-pub(crate) fn fill(stream: &TcpStream) -> Option<u64> {
+pub fn fill(stream: &TcpStream) -> Option<u64> {
     let mut stream = stream;
     let (mut filled, mut refusals) = (0u64, 0u32);
     for _ in 0..FILLINGS {

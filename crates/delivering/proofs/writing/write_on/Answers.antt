@@ -1,0 +1,25 @@
+use Rattle.std.proofs.Common.{◌+◌}
+use Rattle.delivering.proofs.Delivery.{further, nothing, piece}
+use Rattle.delivering.proofs.writing.write_on.Goals as goal
+
+-- src/writing.rt:99:5
+pub pieces-init : goal.pieces-init
+pieces-init g c = nothing c.args.octets.now c.args.written.now (g.W.Write.contents c.args.stream.now)
+
+-- src/writing.rt:106:13
+pub returns-then-ne : goal.returns-then-ne
+returns-then-ne g c =
+    further c.args.octets.now c.args.written.now c.pieces.written (c.pieces.written + c.write_once-step.result.1)
+    (g.W.Write.contents c.args.stream.now) (g.W.Write.contents c.pieces.stream) (g.W.Write.contents c.write_once-step.new.stream)
+    c.pieces.invariant
+    (piece c.args.octets.now c.pieces.written c.write_once-step.result.1 (g.W.Write.contents c.pieces.stream)
+    (g.W.Write.contents c.write_once-step.new.stream) c.write_once-step.ensures.bytes)
+
+-- src/writing.rt:99:5
+pub pieces-preserved : goal.pieces-preserved
+pieces-preserved g c =
+    further c.args.octets.now c.args.written.now c.pieces.written (c.pieces.written + c.write_once-step.result.1)
+    (g.W.Write.contents c.args.stream.now) (g.W.Write.contents c.pieces.stream) (g.W.Write.contents c.write_once-step.new.stream)
+    c.pieces.invariant
+    (piece c.args.octets.now c.pieces.written c.write_once-step.result.1 (g.W.Write.contents c.pieces.stream)
+    (g.W.Write.contents c.write_once-step.new.stream) c.write_once-step.ensures.bytes)
