@@ -2,7 +2,7 @@
 use Rattle.std.specs.Prelude.{◌≡◌, ◌≤◌, true}
 use Rattle.mark.specs.Seats.{SeatView}
 use Rattle.operator.specs.declared.writing.Told.{Told}
-use Rattle.operator.specs.declared.writing.Told.TheVariants.{Serial, Status, Stopped}
+use Rattle.operator.specs.declared.writing.Told.TheVariants.{Dropped, Serial, Sessions, Status, Stopped}
 
 -- the flusher was seen to have stopped, and the number of durable changes was read after that
 abbrev pub HasSeenStop : SeatView → Type 0
@@ -13,4 +13,6 @@ HasSeenStop seat = (seat.told ≡ true) × (seat.after_stop ≡ true)
 abbrev pub IsSeen : SeatView → Told → Type 0
 IsSeen seat (Serial serial) = serial ≤ seat.seen
 IsSeen seat (Status status) = Unit {0}
+IsSeen seat (Sessions listed) = Unit {0}
+IsSeen seat (Dropped sessions) = Unit {0}
 IsSeen seat (Stopped accepted) = HasSeenStop seat × (accepted ≤ seat.seen)

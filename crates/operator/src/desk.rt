@@ -11,10 +11,12 @@ use crate::changes::{Change, make};
 use crate::durable::{is_durable, wait_for_stop};
 use crate::lines::{LINE_OCTETS, Next, next_line};
 use crate::requests::{Request, request_of};
+use crate::sessions::{Listing, let_go};
 use crate::status::Status;
 use crate::writing::{Answer, Refused, Told, write_answer};
 use crossbeam_channel::{Receiver, Sender, bounded};
 use mark::{Mark, Seat};
+use releasing::ReplyWriter;
 use shared_kernel::{Bells, Kern};
 use std::alloc::{AllocError, Global};
 use std::io::{BufRead, Write};
@@ -48,7 +50,7 @@ enum Reply {
 }
 
 /// What the lines are carried out with: the kernel, the mark that says what is durable, the bells of the server's
-/// threads, and what is known and counted about the volume.
+/// threads, what is known and counted about the volume, and the sessions.
 #[derive(Drop)]
 pub struct OperatorService<'a, R, K> {
     pub rt: &'a R,
@@ -58,6 +60,7 @@ pub struct OperatorService<'a, R, K> {
     pub bells: &'a Bells,
     pub tally: &'a Tally,
     pub facts: VolumeFacts<'a>,
+    pub writers: &'a [ReplyWriter],
 }
 
 /// The operator's side of a running server.
@@ -144,7 +147,7 @@ impl Operator {
 /// Does what a line asks for. A serial is answered only if the mark was seen to have reached it. `stopped` and `Fault`
 /// are answered only if the flusher was seen to have stopped and the mark was read after that, and `stopped` only if
 /// that mark reached the number of accepted changes.
-fn answer<R: Wait, K: Kern>(
+fn answer<R: Wait + Clock, K: Kern>(
     service: &OperatorService<'_, R, K>,
     seat: &mut Seat,
     line: Result<Vec<u8>, Refused>,
@@ -158,11 +161,18 @@ fn answer<R: Wait, K: Kern>(
     match request_of(service.alloc, line.as_slice())? {
         Request::Change(change) => carry_out(service, seat, &change),
         Request::Status => Ok(Told::Status(Status::of(service)?)),
+        Request::Sessions => Ok(Told::Sessions(Listing::of(
+            service.rt,
+            service.alloc,
+            service.writers,
+        )?)),
+        Request::Drop(chosen) => Ok(Told::Dropped(let_go(service.rt, service.writers, &chosen)?)),
         Request::Stop => stop(service, seat),
     }
 }
 
-/// Makes a change, and waits until it is durable.
+/// Makes a change, and waits until it is durable. A refusal that reports what other changes did is answered once all changes
+/// that were accepted before it are: otherwise it could tell of one that a crash undoes. `Fault` if the flusher stopped before that.
 fn carry_out<R: Wait, K: Kern>(
     service: &OperatorService<'_, R, K>,
     seat: &mut Seat,
@@ -175,14 +185,19 @@ fn carry_out<R: Wait, K: Kern>(
 {
     let OperatorService {
         rt,
+        kern,
         mark,
         bells,
         ..
     } = service;
-    let serial = make(service, change)?;
+    let (answer, awaited) = match make(service, change) {
+        Ok(serial) => (Ok(Told::Serial(serial)), serial),
+        Err(refused) if refused.reports_changes() => (Err(refused), kern.counts(*rt).accepted),
+        Err(refused) => return Err(refused),
+    };
     bells.flush_now();
-    if is_durable(*rt, *mark, seat, *bells, serial) {
-        Ok(Told::Serial(serial))
+    if is_durable(*rt, *mark, seat, *bells, awaited) {
+        answer
     } else {
         Err(Refused::Fault)
     }

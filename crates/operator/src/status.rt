@@ -1,10 +1,12 @@
 //! What the operator is told of a running server.
 
 use crate::desk::OperatorService;
+use crate::sessions::States;
 use shared_kernel::{Kern, KernelCounts};
 use std::alloc::{AllocError, Global};
 use std::fmt::{self, Display, Formatter};
 use std::sync::Wait;
+use std::time::Clock;
 use usage::Tallied;
 
 /// The volume and the kernel at one moment.
@@ -15,12 +17,13 @@ pub(crate) struct Status {
     blocks: u64,
     inodes: u64,
     counts: KernelCounts,
+    states: States,
     tallied: Tallied,
 }
 
 impl Status {
     /// Reads the counts. Refused only for want of memory.
-    pub(crate) fn of<R: Wait, K: Kern>(
+    pub(crate) fn of<R: Wait + Clock, K: Kern>(
         service: &OperatorService<'_, R, K>,
     ) -> Result<Status, AllocError> {
         let OperatorService {
@@ -29,6 +32,7 @@ impl Status {
             kern,
             tally,
             facts,
+            writers,
             ..
         } = service;
         Ok(Status {
@@ -37,6 +41,7 @@ impl Status {
             blocks: facts.blocks,
             inodes: facts.inodes,
             counts: kern.counts(*rt),
+            states: States::of(*rt, writers),
             tallied: tally.read(),
         })
     }
@@ -67,9 +72,9 @@ impl Display for Status {
         } = self.tallied;
         write!(
             f,
-            "host {} format {} blocks {used_blocks} of {} inodes {inodes} of {} sessions {sessions} accepted {accepted} \
-            durable {durable} batches {batches} syncs {syncs}",
-            self.host, self.format, self.blocks, self.inodes
+            "host {} format {} blocks {used_blocks} of {} inodes {inodes} of {} sessions {sessions} {} \
+            accepted {accepted} durable {durable} batches {batches} syncs {syncs}",
+            self.host, self.format, self.blocks, self.inodes, self.states
         )
     }
 }

@@ -3,6 +3,7 @@
 ghost use Rattle.std.specs.Prelude.{◌≡◌};
 ghost use Rattle.operator.specs.declared.writing.Refused.TheVariants.{Group, Expiry, Memory};
 
+use crate::sessions::Listing;
 use crate::status::Status;
 use shared_kernel::{AdminError, ExpireError};
 use std::alloc::AllocError;
@@ -25,9 +26,23 @@ pub(crate) enum Refused {
     /// An allocation was refused.
     #[error("E2 Memory")]
     Memory,
+    /// No session was to be ended.
+    #[error("E12 NotFound")]
+    NotFound,
     /// The line is not one of the operator's.
     #[error("E14 Bad")]
     Bad,
+}
+
+impl Refused {
+    /// Whether it says what other changes did: that a group is there, or not, or that there is no room.
+    pub(crate) fn reports_changes(&self) -> bool {
+        matches!(
+            self,
+            Refused::Group(AdminError::Exists | AdminError::Full)
+                | Refused::Expiry(ExpireError::NotFound | ExpireError::Full)
+        )
+    }
 }
 
 impl From<AdminError> for Refused {
@@ -60,6 +75,9 @@ pub(crate) enum Told {
     /// The serial of a change that is durable.
     Serial(u64),
     Status(Status),
+    Sessions(Listing),
+    /// So many sessions were ended.
+    Dropped(u64),
     /// The flusher has stopped as it was asked to, and all changes are durable. The number is that of the accepted ones.
     Stopped { accepted: u64 },
 }
@@ -69,6 +87,8 @@ impl Display for Told {
         match self {
             Told::Serial(serial) => write!(f, "{serial}"),
             Told::Status(status) => write!(f, "{status}"),
+            Told::Sessions(listing) => write!(f, "{listing}"),
+            Told::Dropped(sessions) => write!(f, "dropped {sessions}"),
             Told::Stopped { accepted: _ } => f.write_str("stopped"),
         }
     }

@@ -4,7 +4,8 @@ use model::{Message, Mode, Moment};
 use names::{GroupName, GroupRequest};
 use outbox::ReadyBuf;
 use shared_kernel::{
-    AdminError, ExecError, ExecOutcome, ExpireError, JoinError, Kern, KernelCounts, Stale, Ticket,
+    AdminError, ExecError, ExecOutcome, ExpireError, JoinError, Kern, KernelCounts, Receipt, Stale,
+    Ticket,
 };
 use std::alloc::Global;
 use std::sync::Wait;
@@ -83,7 +84,7 @@ impl Kern for Counting {
         None
     }
 
-    fn committed<R: Wait>(&self, _rt: &R, _ticket: Ticket) -> Result<(), Stale> {
+    fn committed<R: Wait>(&self, _rt: &R, _ticket: Ticket, _receipt: Receipt) -> Result<(), Stale> {
         Err(Stale)
     }
 

@@ -144,6 +144,7 @@ fn answer_all<R: Wait + Clock>(operator: &Operator, alloc: Global, means: Means<
         bells,
         tally,
         facts,
+        writers: &[],
     };
     operator.answer_all(&service, seat)
 }

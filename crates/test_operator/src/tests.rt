@@ -87,16 +87,39 @@ struct Row {
     answers: &'static str,
 }
 
+#[test]
+fn a_refusal_waits_for_the_changes_that_it_may_report(rt: HostRuntime) -> Result<(), Fail> {
+    for (durable, answer) in [
+        (3, b"E12 NotFound\n".as_slice()),
+        (2, b"E1 Fault\n".as_slice()),
+    ] {
+        let mut lines = Vec::new(rt.alloc());
+        lines.extend_from_slice(b"expire x.a 1\n")?;
+        let play = Play {
+            lines,
+            is_endless: false,
+            is_read: true,
+            durable,
+            posts: 3,
+            stop: Stop::Groups(0),
+        };
+        let outcome = run(&rt, rt.alloc(), play).expect(&rt, "a play");
+        assert!(rt; outcome.is_in_time);
+        assert!(rt; outcome.text.as_slice() == answer);
+    }
+    Ok(())
+}
+
 /// The rows with `status` and `stop`.
-const ROWS: [Row; 7] = [
+const ROWS: [Row; 8] = [
     Row {
         name: "the status is a line of names and numbers",
         lines: "status\nstop\n",
         posts: 120,
         durable: 120,
         stop: Stop::Asked,
-        answers: "host news.example format 1 blocks 1200 of 16384 inodes 310 of 8192 sessions 3 accepted 120 durable 118 \
-            batches 0 syncs 63\nstopped\n",
+        answers: "host news.example format 1 blocks 1200 of 16384 inodes 310 of 8192 sessions 3 idle 0 \
+            sending 0 held 0 accepted 120 durable 118 batches 0 syncs 63\nstopped\n",
     },
     Row {
         name: "another line than the word asks for nothing",
@@ -105,6 +128,14 @@ const ROWS: [Row; 7] = [
         durable: 0,
         stop: Stop::Asked,
         answers: "E14 Bad\nE14 Bad\nE14 Bad\nE14 Bad\nE14 Bad\nE14 Bad\nE14 Bad\nstopped\n",
+    },
+    Row {
+        name: "without callers no session is listed, and none is ended",
+        lines: "sessions\ndrop 1\ndrop 192.0.2.0/24\ndrop ::1\ndrop x\ndrop \ndrop\nsessions \nstop\n",
+        posts: 0,
+        durable: 0,
+        stop: Stop::Asked,
+        answers: "sessions 0\nE12 NotFound\nE12 NotFound\nE12 NotFound\nE14 Bad\nE14 Bad\nE14 Bad\nE14 Bad\nstopped\n",
     },
     Row {
         name: "a group before the stop is durable",
@@ -129,7 +160,7 @@ const ROWS: [Row; 7] = [
         durable: 2,
         stop: Stop::Asked,
         answers: "stopped\nE4 Halted\nE12 NotFound\nhost news.example format 1 blocks 1200 of 16384 inodes 310 of 8192 \
-            sessions 3 accepted 2 durable 118 batches 0 syncs 63\nE14 Bad\n",
+            sessions 3 idle 0 sending 0 held 0 accepted 2 durable 118 batches 0 syncs 63\nE14 Bad\n",
     },
     Row {
         name: "a device that fails before the flusher stops is a fault",
