@@ -4,10 +4,11 @@ ghost use Rattle.std.specs.Prelude.{◌≡◌};
 ghost use Rattle.journal.specs.Journal.{IsIdle};
 
 use disk::Disk;
-use flusher::FlushError;
+use flusher::{FlushError, TurnSeat};
 use journal::Journal;
 use logging::Log;
-use mark::{FlushSeat, Mark, Seat};
+use mark::{Mark, Seat};
+use model::Moment;
 use networks::Network;
 use releasing::Limits;
 use std::alloc::AllocError;
@@ -20,20 +21,26 @@ use usage::{BitmapMarks, Tally, VolumeFacts};
 /// of replies.
 #[derive(Drop)]
 pub struct Server<'a, D: Disk, K, G> {
-    /// At least one. All callers have the same sessions.
+    /// One at least, here or behind. All callers have the same sessions.
     pub listeners: &'a [TcpListener],
+    /// Listeners to which proxies connect. Each connection begins with a line that says for whom.
+    pub proxied: &'a [TcpListener],
     /// The networks from which callers are let in, besides the loopback networks.
     pub networks: &'a [Network],
+    /// The most sessions of callers of one address. Where it is not given, an address may have as many as are free.
+    pub most_from: Option<usize>,
     pub log: &'a Log,
     pub journal: Journal<D>,
     pub kern: &'a K,
     pub mark: &'a Mark,
-    pub flush_seat: FlushSeat,
+    pub flush_seat: TurnSeat,
     pub seat: Seat,
     pub facts: VolumeFacts<'a>,
     /// The marks of used blocks on the device.
     pub marks: BitmapMarks,
     pub tally: &'a Tally,
+    /// The moment of the newest article. No earlier one is given to a message, unless the clock is a day behind it.
+    pub newest: Moment,
     pub gate: &'a G,
     pub limits: Limits,
     ghost idle: { IsIdle journal },

@@ -3,31 +3,35 @@
 ghost use Rattle.std.specs.Prelude.{◌≡◌};
 ghost use Rattle.journal.specs.Journal.{IsIdle};
 
-use crate::answering::SessionThread;
-use crate::watching::Watching;
 use crate::{ServeError, Server};
-use accepting::{Acceptor, Caller, Doors, FAREWELLS, Parting, linger_all};
+use accepting::{Acceptor, Caller, Doors, FAREWELLS, Parting, Way, linger_all};
+use answering::SessionThread;
+use attending::{Attending, Reserve, Watching, file_left};
 use crossbeam_channel::{Receiver, Sender, bounded};
 use disk::Disk;
 use flusher::{FlushError, Flusher, FlusherEnd, flush_all};
 use logging::{Log, LogEvent, Moments};
 use mark::{Mark, Seat};
+use networks::Guests;
 use operator::Operator;
-use releasing::{Closing, ReplyWriter, Shared, release_all};
-use shared_kernel::{Bells, Gate, Kern, Ringing, SESSIONS};
+use releasing::{Asking, Closing, ReplyWriter, Shared, release_all};
+use shared_kernel::{Bells, Gate, Kern, SESSIONS, halt};
 use std::alloc::{AllocError, Global};
 use std::io::{BufRead, Write};
 use std::net::{Net, TcpListener, TcpStream};
 use std::sync::Wait;
 use std::thread::{self, JoinHandle, Scope, Threads};
-use std::time::Clock;
+use std::time::{Clock, Duration, Instant};
 use usage::{Tally, VolumeFacts};
 use volume::BatchBuf;
 
+/// After a refused turn of the flusher the server waits so many seconds for one more caller.
+const LAST_CALL_SECS: u64 = 5;
+
 /// Serves the callers of some listeners and the operator's lines, until the operator stops the server or a turn of the
 /// flusher is refused. Then callers get the reply that the service ends, what is durable is released, all threads end,
-/// and the result says why: `Ok` after a stop. After a refusal the server ends with the next caller that is let in, or
-/// once the operator asks for it; a stop that the operator asked for before waits for no caller either.
+/// and the result says why: `Ok` after a stop. After a refusal the server ends with the next caller that is let in, once
+/// the operator asks for it, or after some seconds; a stop that the operator asked for before waits for no caller either.
 pub fn serve<
     R: Net<Listener = TcpListener, Stream = TcpStream>
         + Threads
@@ -49,10 +53,12 @@ pub fn serve<
     lines: L,
     answers: A,
 ) -> Result<(), ServeError> {
-    let (bells, closing) = (Bells::new(), Closing::new());
+    let (bells, closing, asking) = (Bells::new(), Closing::new(), Asking::new());
     let Server {
         listeners,
+        proxied,
         networks,
+        most_from,
         log,
         journal,
         kern,
@@ -62,17 +68,20 @@ pub fn serve<
         facts,
         marks,
         tally,
+        newest,
         gate,
         limits,
     } = server;
-    let doors = Doors::new(alloc, listeners, networks).ok_or(ServeError::Memory)?;
+    let guests = Guests::new(alloc, SESSIONS, most_from)?;
+    let doors = Doors::new(alloc, listeners, proxied, networks, guests).ok_or(ServeError::Memory)?;
     let Parts {
         batch,
         writers,
         channels,
         caller,
         acceptors,
-    } = Parts::make(rt, alloc, listeners.len(), lines, answers)?;
+    } = Parts::make(rt, alloc, lines, answers)?;
+    let moments = Moments::new(newest);
     let shared = Shared {
         rt,
         alloc,
@@ -81,6 +90,7 @@ pub fn serve<
         bells: &bells,
         writers: writers.as_slice(),
         closing: &closing,
+        asking: &asking,
         limits,
     };
     let flusher = Flusher {
@@ -97,10 +107,13 @@ pub fn serve<
         tally,
         facts,
     };
+    let reserve = Reserve::new(tally, facts);
     let hall = Hall {
         shared: &shared,
         channels: &channels,
+        moments: &moments,
         doors: &doors,
+        reserve: &reserve,
         log,
     };
     run(&hall, flusher, looker, Acceptors { caller, acceptors })
@@ -116,21 +129,22 @@ struct Parts {
     acceptors: Vec<JoinHandle<()>>,
 }
 
-/// The channels between the threads, and the clock that they read.
+/// The channels between the threads.
 #[derive(Drop)]
 struct Channels {
     calls: Receiver<Caller>,
     parting: Sender<Parting>,
     partings: Receiver<Parting>,
     operator: Operator,
-    moments: Moments,
 }
 
 /// What the threads of a server share.
 struct Hall<'a, R, K, G> {
     shared: &'a Shared<'a, R, K, G>,
     channels: &'a Channels,
+    moments: &'a Moments,
     doors: &'a Doors<'a>,
+    reserve: &'a Reserve<'a>,
     log: &'a Log,
 }
 
@@ -139,7 +153,9 @@ impl<'a, R, K, G> Drop for Hall<'a, R, K, G> {
         let Hall {
             shared: _,
             channels: _,
+            moments: _,
             doors: _,
+            reserve: _,
             log: _,
         } = self;
     }
@@ -168,10 +184,10 @@ impl Parts {
         R: Threads + Wait + Copy + Send + 'static,
         L: BufRead + Send + Drop + 'static,
         A: Write + Send + Drop + 'static,
-    >(rt: &R, alloc: Global, acceptors: usize, lines: L, answers: A) -> Result<Parts, ServeError> {
+    >(rt: &R, alloc: Global, lines: L, answers: A) -> Result<Parts, ServeError> {
         let batch = BatchBuf::new(alloc)?;
         let writers = make_writers(alloc)?;
-        let acceptors = Vec::with_capacity(alloc, acceptors)?;
+        let acceptors = Vec::new(alloc);
         let (caller, calls) = bounded(alloc, SESSIONS)?;
         let (parting, partings) = bounded(alloc, FAREWELLS)?;
         let operator = Operator::start(rt, alloc, lines, answers)?;
@@ -180,7 +196,6 @@ impl Parts {
             parting,
             partings,
             operator,
-            moments: Moments::new(),
         };
         Ok(Parts {
             batch,
@@ -228,7 +243,9 @@ fn run<
             } = acceptors;
             let has_acceptors = has_sessions
                 && has_others
-                && start_accepting(scope, hall, caller, &mut acceptors);
+                && start_accepting(scope, hall, &caller, Way::Direct, &mut acceptors)
+                && start_accepting(scope, hall, &caller, Way::Proxied, &mut acceptors);
+            drop(caller);
             let outcome = if has_acceptors {
                 flush(hall, flusher, facts)
             } else {
@@ -273,7 +290,7 @@ fn start_others<'s, E, R: Wait + Clock + Sync, K: Kern + Sync, G: Gate + Sync>(
     releaser.is_ok() && lingerer.is_ok() && operator.is_ok()
 }
 
-/// Starts an acceptor for each listener. Answers false if the system cannot start all.
+/// Starts an acceptor for each listener to which callers come in this way. Answers false if the system cannot start all.
 fn start_accepting<
     's,
     E,
@@ -283,10 +300,11 @@ fn start_accepting<
 >(
     scope: &Scope<'s, E>,
     hall: &'s Hall<'s, R, K, G>,
-    caller: Sender<Caller>,
+    caller: &Sender<Caller>,
+    way: Way,
     acceptors: &mut Vec<JoinHandle<()>>,
 ) -> bool {
-    for listener in hall.doors.listeners {
+    for listener in hall.doors.listeners(way) {
         let Ok(calls) = caller.clone() else {
             return false;
         };
@@ -294,6 +312,7 @@ fn start_accepting<
             shared: hall.shared,
             doors: hall.doors,
             log: hall.log,
+            way,
             calls,
         };
         let Ok(thread) = scope.spawn(move || acceptor.accept_all(listener)) else {
@@ -323,9 +342,11 @@ fn start_session<'s, E, R: Wait + Clock + Sync, K: Kern + Sync, G: Gate + Sync>(
         let thread = SessionThread {
             shared: hall.shared,
             writer,
-            moments: &hall.channels.moments,
+            moments: hall.moments,
             log: hall.log,
+            doors: hall.doors,
             partings: &hall.channels.parting,
+            reserve: hall.reserve,
         };
         thread.serve_calls(&hall.channels.calls)
     });
@@ -339,6 +360,7 @@ fn answer_lines<R: Wait + Clock, K: Kern, G>(hall: &Hall<'_, R, K, G>, looker: L
         alloc,
         kern,
         bells,
+        writers,
         ..
     } = hall.shared;
     let Looker {
@@ -355,6 +377,7 @@ fn answer_lines<R: Wait + Clock, K: Kern, G>(hall: &Hall<'_, R, K, G>, looker: L
         bells: *bells,
         tally,
         facts,
+        writers: *writers,
     };
     hall.channels.operator.answer_all(&service, seat)
 }
@@ -371,13 +394,10 @@ fn flush<R: Wait + Clock, D: Disk + Drop, K: Kern, G: Gate>(
         bells,
         ..
     } = hall.shared;
-    let watching = Watching::new(hall.shared, hall.log, flusher.tally, facts);
+    let watching = Watching::new(hall.shared, hall.log, flusher.tally, facts, hall.reserve);
     watching.look();
-    let ringing = Ringing {
-        bells: *bells,
-        gate: &watching,
-    };
-    match flush_all(*rt, flusher, *kern, &ringing, *bells) {
+    let attending = Attending::new(hall.shared, &watching);
+    match flush_all(*rt, flusher, *kern, &attending, *bells) {
         FlusherEnd::Stopped => Ok(()),
         FlusherEnd::Failed(error) => {
             hall.log.note(*rt, event_of(error));
@@ -401,8 +421,7 @@ fn give_up<R: Wait, D: Disk + Drop, K: Kern, G>(
 ) {
     let Flusher { mark, seat, .. } = flusher;
     let mut seat = seat;
-    shared.kern.halt(shared.rt);
-    mark.stop(&mut seat);
+    seat.stop(mark, halt(shared.rt, shared.kern));
 }
 
 /// Wakes the threads that wait for the flusher. The acceptors and the operator's thread go on: they refuse what comes.
@@ -413,14 +432,27 @@ fn wake<R, K, G>(shared: &Shared<'_, R, K, G>) {
     bells.later.ring();
 }
 
-/// Waits until a caller was told that the service ends, or the operator has asked for the server's end.
-fn wait_for_caller_or_stop<R: Wait, K, G>(hall: &Hall<'_, R, K, G>) {
+/// Waits until a caller was told that the service ends, or the operator has asked for the server's end, for
+/// `LAST_CALL_SECS` at most. Meanwhile it files what sessions leave: the kernel is halted, so their callers are told too.
+/// Where the clock cannot be read, it waits for nobody.
+fn wait_for_caller_or_stop<R: Wait + Clock, K: Kern, G: Gate>(hall: &Hall<'_, R, K, G>) {
     let Shared { rt, bells, .. } = hall.shared;
+    let Ok(since) = Instant::now(*rt) else {
+        return;
+    };
     for _ in rt.forever() {
+        file_left(hall.shared);
         if hall.doors.are_shut() || bells.is_stopping() {
             return;
         }
-        bells.flusher.park(*rt);
+        let Ok(waited) = since.elapsed(*rt) else {
+            return;
+        };
+        let left = Duration::from_secs(LAST_CALL_SECS).saturating_sub(waited);
+        if left.is_zero() {
+            return;
+        }
+        bells.flusher.park_timeout(*rt, left);
     }
 }
 

@@ -68,8 +68,8 @@ pub(crate) enum Holds {
     Release,
     /// A flush, for a while in which the operator must get no answer.
     Answer,
-    /// The second release, until a batch is committed and the thread that releases its replies had time to find the
-    /// session's line taken.
+    /// The second release, until a seat of the mark sees that the first post is durable, and the thread that releases the
+    /// replies of its commit had time to find the session's line taken. That thread may be the one that is held.
     Taken,
 }
 
@@ -139,7 +139,7 @@ impl<'a> Gate for TestGate<'a> {
             self.hold_until_posted();
         }
         if self.holds == Holds::Taken && before == 1 {
-            self.flags.hold_until(&self.flags.flushed);
+            self.hold_until_posted();
             for _ in 0..PAUSE {
                 thread::yield_now();
             }

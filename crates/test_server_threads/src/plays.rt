@@ -1,16 +1,19 @@
 //! A server and its callers, in one process.
 
-ghost use Rattle.std.specs.Prelude.{◌≡◌};
+ghost use Rattle.std.specs.Prelude.{◌≡◌, IfSome};
+ghost use Rattle.journal.specs.Journal.{IsIdle};
 
 use crate::callers::call;
 use crate::gates::{Flags, Holds, TestGate};
 use crate::kernels::{Watch, Watching};
 use disk::DiskCall;
+use flusher::commit_batch;
+use journal::Journal;
 use locked_kernel::Locked;
 use mark::{FlushSeat, Mark, Seat};
 use memdisk::MemDisk;
 use server::{Limits, ServeError};
-use shared_kernel::{Kern, Stale};
+use shared_kernel::{Kern, Receipt, Stale, Ticket};
 use std::alloc::Global;
 use std::io::{self, Write};
 use std::net::{Net, TcpListener, TcpStream};
@@ -191,22 +194,42 @@ pub(crate) fn raises_after_commit<R: Wait>(rt: &R, alloc: Global) -> bool {
     mark.durable(&mut seat) == 2 && !flags.failed.load(Ordering::SeqCst)
 }
 
+/// The receipt of a batch that was made durable.
+fn receipt_of<R: Wait>(
+    rt: &R,
+    journal: &mut Journal<MemDisk>,
+    batch: &BatchBuf,
+    ticket: Ticket,
+) -> Option<Receipt>
+    requires { IsIdle journal.old }
+    ensures { IfSome result (λ receipt. receipt.last ≡ ticket.last) }
+{
+    match commit_batch(rt, journal, batch, ticket.last()) {
+        Ok(receipt) => Some(receipt),
+        Err(_) => None,
+    }
+}
+
 /// The answers of a kernel to a ticket in time, to the same ticket again, and to that of a batch that a halt left in
 /// flight.
 pub(crate) fn tell<R: Wait>(rt: &R, alloc: Global) -> Option<[Result<(), Stale>; 3]> {
-    let (_, kernel) = open(alloc, new_device(alloc)?)?;
+    let (mut journal, kernel) = open(alloc, new_device(alloc)?)?;
     let kern = Locked::new(kernel);
     let Ok(mut batch) = BatchBuf::new(alloc) else {
         return None;
     };
     add_group(rt, alloc, &kern, b"x.a")?;
     let ticket = kern.take_batch(rt, &mut batch)?;
-    let in_time = kern.committed(rt, ticket);
-    let again = kern.committed(rt, ticket);
+    let receipt = receipt_of(rt, &mut journal, &batch, ticket)?;
+    let in_time = kern.committed(rt, ticket, receipt);
+    let again = kern.committed(rt, ticket, receipt);
     add_group(rt, alloc, &kern, b"x.b")?;
     let ticket = kern.take_batch(rt, &mut batch)?;
     kern.halt(rt);
-    Some([in_time, again, kern.committed(rt, ticket)])
+    // that of a journal of another device
+    let (mut journal, _) = open(alloc, new_device(alloc)?)?;
+    let receipt = receipt_of(rt, &mut journal, &batch, ticket)?;
+    Some([in_time, again, kern.committed(rt, ticket, receipt)])
 }
 
 /// Runs a server and its callers to their end.

@@ -6,7 +6,8 @@ use model::{Message, Mode, Moment};
 use names::{GroupName, GroupRequest};
 use outbox::ReadyBuf;
 use shared_kernel::{
-    AdminError, ExecError, ExecOutcome, ExpireError, JoinError, Kern, KernelCounts, Stale, Ticket,
+    AdminError, ExecError, ExecOutcome, ExpireError, JoinError, Kern, KernelCounts, Receipt, Stale,
+    Ticket,
 };
 use std::alloc::Global;
 use std::sync::Wait;
@@ -90,11 +91,11 @@ impl<H: Hooks> Kern for Hooked<H> {
         self.inner.take_batch(rt, into)
     }
 
-    fn committed<R: Wait>(&self, rt: &R, ticket: Ticket) -> Result<(), Stale> {
+    fn committed<R: Wait>(&self, rt: &R, ticket: Ticket, receipt: Receipt) -> Result<(), Stale> {
         if !self.hooks.lets_commit(rt, ticket.last()) {
             return Err(Stale);
         }
-        self.inner.committed(rt, ticket)
+        self.inner.committed(rt, ticket, receipt)
     }
 
     fn halt<R: Wait>(&self, rt: &R) {

@@ -6,13 +6,13 @@ ghost use Rattle.journal.specs.Journal.{IsIdle};
 use crate::volumes::{HOST, INODES, add_group};
 use counting::Counts;
 use disk::{Disk, DiskCall, Faults};
-use flusher::flush_turn;
+use flusher::{TurnSeat, flush_turn};
 use journal::Journal;
-use logging::{Log, Verbosity};
+use logging::{Log, Verbosity, beginning_of_1970};
 use mark::{FlushSeat, Mark, Seat};
 use new_volume::FORMAT_2;
 use server::{Limits, ServeError, Server, serve};
-use shared_kernel::{Gate, Kern, KernelCounts, NoGate};
+use shared_kernel::{Gate, Kern, KernelCounts, NoGate, SESSIONS};
 use std::alloc::{AllocError, Global};
 use std::io::{self, BufRead, Write};
 use std::net::{Net, TcpListener, TcpStream};
@@ -28,7 +28,7 @@ pub struct Stage<'a, D: Disk, K> {
     journal: Journal<D>,
     kern: K,
     mark: &'a Mark,
-    flush_seat: FlushSeat,
+    flush_seat: TurnSeat,
     seat: Seat,
     ghost idle: { IsIdle journal },
     ghost flushes: { flush_seat.mark ≡ mark.now },
@@ -95,7 +95,7 @@ impl<'a, D: Disk + Drop, K: Kern + Sync + Drop> Stage<'a, D, K> {
             journal,
             kern,
             mark,
-            flush_seat,
+            flush_seat: TurnSeat::new(flush_seat),
             seat,
         }
     }
@@ -192,7 +192,7 @@ struct Parts<'a, D: Disk, K, G> {
     journal: Journal<D>,
     kern: &'a K,
     mark: &'a Mark,
-    flush_seat: FlushSeat,
+    flush_seat: TurnSeat,
     seat: Seat,
     host: &'a [u8],
     blocks: u64,
@@ -248,7 +248,10 @@ fn serve_parts<
     };
     let server = Server {
         listeners,
+        proxied: &[],
         networks: &[],
+        // all callers of a test are of one address
+        most_from: Some(SESSIONS),
         log,
         journal,
         kern,
@@ -258,6 +261,7 @@ fn serve_parts<
         facts,
         marks: BitmapMarks::none(),
         tally,
+        newest: beginning_of_1970(),
         gate,
         limits,
     };

@@ -3,6 +3,7 @@
 ghost use Rattle.std.specs.Prelude.{◌≤◌, ◌<◌, ◌*◌, ◌+◌, ◌⊎◌, ◌↔◌, IsTrue};
 ghost use Rattle.model.specs.Room.{blocks_asked};
 
+use crate::reserve::Reserve;
 use filing::BLOCKS_ASKED;
 use logging::{Log, LogEvent, UsedPart};
 use releasing::Shared;
@@ -14,11 +15,12 @@ use usage::{Tally, VolumeFacts};
 
 /// A gate that looks at a volume after each batch, and then calls the other gate. It tells the log once when the blocks
 /// are nearly used up, and once when nine tenths of the inodes are used.
-pub(crate) struct Watching<'a, R, K, G> {
+pub struct Watching<'a, R, K, G> {
     shared: &'a Shared<'a, R, K, G>,
     log: &'a Log,
     tally: &'a Tally,
     facts: VolumeFacts<'a>,
+    reserve: &'a Reserve<'a>,
     /// The log was told of the blocks.
     has_told_blocks: AtomicBool,
     /// The log was told of the inodes.
@@ -32,6 +34,7 @@ impl<'a, R, K, G> Drop for Watching<'a, R, K, G> {
             log: _,
             tally: _,
             facts: _,
+            reserve: _,
             has_told_blocks: _,
             has_told_inodes: _,
         } = self;
@@ -39,17 +42,19 @@ impl<'a, R, K, G> Drop for Watching<'a, R, K, G> {
 }
 
 impl<'a, R: Wait + Clock, K: Kern, G> Watching<'a, R, K, G> {
-    pub(crate) fn new(
+    pub fn new(
         shared: &'a Shared<'a, R, K, G>,
         log: &'a Log,
         tally: &'a Tally,
         facts: VolumeFacts<'a>,
+        reserve: &'a Reserve<'a>,
     ) -> Watching<'a, R, K, G> {
         Watching {
             shared,
             log,
             tally,
             facts,
+            reserve,
             has_told_blocks: AtomicBool::new(false),
             has_told_inodes: AtomicBool::new(false),
         }
@@ -57,9 +62,10 @@ impl<'a, R: Wait + Clock, K: Kern, G> Watching<'a, R, K, G> {
 
     /// Looks at what is used as of the last batch. It is also called before the first one, since a volume may be nearly
     /// full when it is opened.
-    pub(crate) fn look(&self) {
+    pub fn look(&self) {
         let Shared { rt, kern, .. } = self.shared;
         let counts = kern.counts(*rt);
+        self.reserve.note_inodes(counts.inodes);
         let blocks = UsedPart {
             used: self.tally.read().used_blocks,
             all: self.facts.blocks,

@@ -1,0 +1,87 @@
+//! The turn of the thread that flushes, as the sessions see it.
+
+use crate::pace::Pace;
+use flusher::Filing;
+use releasing::{Shared, release_committed};
+use shared_kernel::{Gate, Kern};
+use std::sync::Wait;
+use std::time::Clock;
+
+/// A gate that rings the bells of a flush and releases what waited for it, and then calls the other gate.
+pub struct Attending<'a, R, K, G, W> {
+    shared: &'a Shared<'a, R, K, G>,
+    gate: &'a W,
+    pace: Pace,
+}
+
+impl<'a, R, K, G, W> Drop for Attending<'a, R, K, G, W> {
+    fn drop(self) {
+        let Attending {
+            shared: _,
+            gate: _,
+            pace: _,
+        } = self;
+    }
+}
+
+impl<'a, R, K, G, W> Attending<'a, R, K, G, W> {
+    /// No commit was made yet: the first ones are taken to be slow.
+    pub fn new(shared: &'a Shared<'a, R, K, G>, gate: &'a W) -> Attending<'a, R, K, G, W> {
+        Attending {
+            shared,
+            gate,
+            pace: Pace::new(),
+        }
+    }
+}
+
+impl<'a, R: Wait + Clock, K: Kern, G: Gate, W: Gate> Gate for Attending<'a, R, K, G, W> {
+    fn before_flush(&self) {
+        self.shared.bells.later.ring();
+        self.pace.begin(self.shared.rt);
+        self.gate.before_flush();
+    }
+
+    fn after_flush(&self) {
+        self.pace.end(self.shared.rt);
+        self.shared.bells.arrivals.note_commit();
+        release_committed(self.shared);
+        self.shared.bells.operator.unpark();
+        self.gate.after_flush();
+    }
+
+    fn after_batch(&self) {
+        self.gate.after_batch();
+    }
+
+    fn before_release(&self, sid: u64) {
+        self.gate.before_release(sid);
+    }
+
+    fn after_release(&self, sid: u64) {
+        self.gate.after_release(sid);
+    }
+}
+
+impl<'a, R: Wait + Clock, K: Kern, G: Gate, W> Filing for Attending<'a, R, K, G, W> {
+    fn file_left(&self) -> u64 {
+        file_left(self.shared)
+    }
+
+    fn is_wait_worth(&self) -> bool {
+        self.pace.is_slow()
+    }
+}
+
+/// Files the blocks that sessions have left, and answers how many the kernel answered. Between two of them the kernel is
+/// given away where others wait for it.
+pub fn file_left<R: Wait, K: Kern, G: Gate>(shared: &Shared<'_, R, K, G>) -> u64 {
+    let mut filed = 0u64;
+    for writer in shared.writers {
+        if writer.file_left(shared) {
+            filed = filed.saturating_add(1);
+            shared.asking.make_room();
+        }
+    }
+    filed
+}
