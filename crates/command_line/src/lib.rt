@@ -1,10 +1,7 @@
-//! The command line of `newsd`: its grammar, its help, and the request that it makes.
+//! The command line of `newsd`: the request that its words make.
 #![tactic(auto)]
 
-mod grammars;
 mod reading;
-mod syntax;
-mod table;
 
-pub use reading::{Asked, Export, ServeOptions, read_words};
-pub use syntax::VERSION;
+pub use command_table::VERSION;
+pub use reading::{AgedExpiry, Asked, Export, NewVolume, Renewal, ServeOptions, read_words};

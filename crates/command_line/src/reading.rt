@@ -2,13 +2,14 @@
 
 ghost use Rattle.std.specs.Prelude.{◌≤◌, IfOk};
 
-use crate::syntax::syntax;
-use crate::table::{
-    ALLOW, BLOCKS, CACHE, CRLF, DESCRIPTION, FORMAT, HOST, INODES, JSON, Kind, LISTEN, MOMENT,
-    NAME, NUMBER, PATH, PORT, QUIET, STATUS, SUBCOMMANDS, Subcommand, Word,
-};
 use clap::ArgMatches;
 use clap::error::{Error, ErrorKind};
+use command_table::table::{
+    ALLOW, BLOCKS, CACHE, CRLF, DESCRIPTION, DRY_RUN, FORMAT, HOST, IN_PLACE, INODES, JSON, Kind,
+    LISTEN, MOMENT, MOST_FROM, NAME, NEW, NUMBER, OLD, OLDER_THAN, PATH, PORT, PROXIED, QUIET,
+    STATUS, SUBCOMMANDS, Subcommand, Word,
+};
+use command_table::{Grammar, command_syntax, days_from, most_from};
 use names::{GroupName, GroupRequest, is_host};
 use networks::{Network, read_endpoint};
 use new_volume::{FORMAT_1, FORMAT_2, SMALL_BLOCKS, SMALL_INODES, VolumePlan, are_sizes};
@@ -19,18 +20,24 @@ use std::convert::AsStr;
 use std::io::Write;
 use std::net::{Ipv4Addr, SocketAddr};
 
+/// The wildmat that matches the name of each group.
+const ALL_GROUPS: &str = "*";
+
 /// The request that the words make.
 #[derive(Drop)]
 pub enum Asked<'a> {
-    /// Nothing more: help or the version was printed, or words were not understood.
+    /// Nothing more: help was printed, or words were not understood.
     Nothing(u8),
+    /// The version.
+    Version,
     /// A simulation over a device in memory, with or without a cache that collects writes until a sync.
     Simulation(VolumePlan<'a>, bool),
-    Format(&'a str, VolumePlan<'a>),
+    Format(NewVolume<'a>),
     /// The volume to which a group is added.
     Group(&'a str, GroupRequest),
     /// The volume, the group in it, and the number up to which its articles are removed.
     Expire(&'a str, GroupName, u32),
+    ExpireOlder(AgedExpiry<'a>),
     Serve(ServeOptions<'a>),
     Dump(&'a str),
     /// The state of a volume, for a person or as JSON.
@@ -38,18 +45,43 @@ pub enum Asked<'a> {
     Export(Export<'a>),
     /// The volume in which a batch is filed.
     Import(&'a str),
+    Renew(Renewal<'a>),
+}
+
+/// A volume to make in a file.
+#[derive(Drop)]
+pub struct NewVolume<'a> {
+    pub path: &'a str,
+    pub plan: VolumePlan<'a>,
+    /// It replaces no file that isn't empty.
+    pub is_new: bool,
 }
 
 /// The volume that a server serves, where it listens, and whom it lets in.
 #[derive(Drop)]
 pub struct ServeOptions<'a> {
     pub path: &'a str,
-    /// The endpoints to listen on, at least one: first the port of 127.0.0.1, if one is given.
+    /// The endpoints to listen on: first the port of 127.0.0.1, if one is given. There is one at least, here or for proxies.
     pub endpoints: Vec<SocketAddr>,
+    /// The endpoints to listen on for proxies, all of them loopback.
+    pub proxied: Vec<SocketAddr>,
     /// The networks from which callers are let in, besides the loopback networks.
     pub networks: Vec<Network>,
+    /// The most sessions of callers of one address, if that is given.
+    pub most_from: Option<usize>,
     /// The ends of sessions are not logged.
     pub is_quiet: bool,
+}
+
+/// The volume whose groups lose the articles that are older than so many days.
+#[derive(Clone, Copy)]
+pub struct AgedExpiry<'a> {
+    pub path: &'a str,
+    /// It matches the names of the groups.
+    pub wildmat: &'a str,
+    pub days: u64,
+    /// Nothing is taken out.
+    pub is_dry: bool,
 }
 
 /// The volume whose articles are exported, those of one group or all, and whether their lines end in CRLF.
@@ -60,8 +92,22 @@ pub struct Export<'a> {
     pub has_crlf: bool,
 }
 
+/// The volume that is renewed, and the new one.
+#[derive(Clone, Copy)]
+pub struct Renewal<'a> {
+    pub old: &'a str,
+    /// The file of the new volume. If none is named, it replaces the old one.
+    pub new: Option<&'a str>,
+    /// The blocks of the new volume, if not as many as the old one has.
+    pub blocks: Option<u64>,
+    /// Its inodes, if not as many as the old one has.
+    pub inodes: Option<u64>,
+    /// The report is one JSON object.
+    pub is_json: bool,
+}
+
 /// Reads the words, the first of which is the program's name. If they are not understood, the parser's text goes to
-/// `faults`; help and the version go to `output`. `Bad` if a word is outside its grammar or range, `Memory` if an
+/// `faults`; help goes to `output`. `Bad` if a word is outside its grammar or range, `Memory` if an
 /// allocation was refused.
 pub fn read_words<'a, S: AsStr, W: Write, F: Write>(
     alloc: Global,
@@ -69,8 +115,9 @@ pub fn read_words<'a, S: AsStr, W: Write, F: Write>(
     output: &mut W,
     faults: &mut F,
 ) -> Result<Asked<'a>, Failure> {
-    match syntax(alloc)?.try_get_matches_from(words) {
+    match command_syntax(alloc)?.try_get_matches_from(words) {
         Ok(matches) => read_request(alloc, &matches),
+        Err(error) if error.kind() == ErrorKind::DisplayVersion => Ok(Asked::Version),
         Err(error) => Ok(Asked::Nothing(tell(&error, output, faults)?)),
     }
 }
@@ -96,14 +143,15 @@ fn read_request<'a>(alloc: Global, matches: &ArgMatches<'a>) -> Result<Asked<'a>
     check_words(alloc, name, words)?;
     match name {
         "sim" => Ok(Asked::Simulation(read_plan_of_memory(alloc, words)?, words.get_flag(CACHE))),
-        "format" => Ok(Asked::Format(word(words, PATH)?, read_plan_of_file(alloc, words)?)),
+        "format" => Ok(Asked::Format(read_new_volume(alloc, words)?)),
         "group" => Ok(Asked::Group(word(words, PATH)?, read_group(alloc, words)?)),
-        "expire" => read_expiry(words),
+        "expire" => read_expiry(alloc, words),
         "serve" => Ok(Asked::Serve(read_service(alloc, words)?)),
         "dump" => Ok(Asked::Dump(word(words, PATH)?)),
         "status" => Ok(Asked::Status(word(words, PATH)?, words.get_flag(JSON))),
         "import" => Ok(Asked::Import(word(words, PATH)?)),
         "export" => Ok(Asked::Export(read_export(words)?)),
+        "renew" => Ok(Asked::Renew(read_renewal(alloc, words)?)),
         _ => Err(Failure::Bad),
     }
 }
@@ -158,6 +206,15 @@ fn read_plan_of_memory<'a>(
     let plan = read_plan(alloc, words, FORMAT_2)?;
     refuse_large(alloc, words, &plan, "is too many for a volume in memory")?;
     Ok(plan)
+}
+
+/// The volume that the words ask to make.
+fn read_new_volume<'a>(alloc: Global, words: &ArgMatches<'a>) -> Result<NewVolume<'a>, Failure> {
+    Ok(NewVolume {
+        path: word(words, PATH)?,
+        plan: read_plan_of_file(alloc, words)?,
+        is_new: words.get_flag(NEW),
+    })
 }
 
 /// The volume in a file that the words describe.
@@ -257,15 +314,62 @@ fn read_group(alloc: Global, words: &ArgMatches<'_>) -> Result<GroupRequest, Fai
     }
 }
 
-/// The expiry that the words describe.
-fn read_expiry<'a>(words: &ArgMatches<'a>) -> Result<Asked<'a>, Failure> {
+/// The expiry that the words describe: by age if the days are given, else up to a number.
+fn read_expiry<'a>(alloc: Global, words: &ArgMatches<'a>) -> Result<Asked<'a>, Failure> {
+    match words.get_str(OLDER_THAN) {
+        Some(days) => Ok(Asked::ExpireOlder(read_aged_expiry(alloc, words, days)?)),
+        None => read_numbered_expiry(alloc, words),
+    }
+}
+
+/// The expiry up to a number. `BadWord` if the group or the number lacks, or the words say that it is a dry run, which is one
+/// by age.
+fn read_numbered_expiry<'a>(alloc: Global, words: &ArgMatches<'a>) -> Result<Asked<'a>, Failure> {
     let path = word(words, PATH)?;
-    let name = word(words, NAME)?;
-    let number = word(words, NUMBER)?;
+    let (Some(name), Some(number)) = (words.get_str(NAME), words.get_str(NUMBER)) else {
+        return Err(Failure::bad_word(
+            alloc,
+            "PATH",
+            path,
+            "needs NAME and N or --older-than beside it",
+        ));
+    };
+    check_as(alloc, "NAME", name, Grammar::Group)?;
+    check_as(alloc, "N", number, Grammar::Article)?;
+    if words.get_flag(DRY_RUN) {
+        return Err(Failure::bad_word(alloc, "N", number, "can't be given with --dry-run"));
+    }
     match script::read_expiry(name.as_bytes(), number.as_bytes()) {
         Some((name, number)) => Ok(Asked::Expire(path, name, number)),
         None => Err(Failure::Bad),
     }
+}
+
+/// The expiry by age, of all groups if no wildmat is given. `BadWord` if a number is given as well.
+fn read_aged_expiry<'a>(
+    alloc: Global,
+    words: &ArgMatches<'a>,
+    days: &str,
+) -> Result<AgedExpiry<'a>, Failure> {
+    let wildmat = words.get_str(NAME).unwrap_or(ALL_GROUPS);
+    check_as(alloc, "WILDMAT", wildmat, Grammar::Wildmat)?;
+    if let Some(number) = words.get_str(NUMBER) {
+        return Err(Failure::bad_word(alloc, "N", number, "can't be given with --older-than"));
+    }
+    Ok(AgedExpiry {
+        path: word(words, PATH)?,
+        wildmat,
+        days: days_from(days.as_bytes()).ok_or(Failure::Bad)?,
+        is_dry: words.get_flag(DRY_RUN),
+    })
+}
+
+/// Refuses a word that is outside this grammar.
+fn check_as(alloc: Global, name: &str, word: &str, grammar: Grammar) -> Result<(), Failure> {
+    if grammar.holds(word) {
+        return Ok(());
+    }
+    Err(Failure::bad_word(alloc, name, word, grammar.fault()))
 }
 
 /// The server that the words describe.
@@ -273,7 +377,9 @@ fn read_service<'a>(alloc: Global, words: &ArgMatches<'a>) -> Result<ServeOption
     Ok(ServeOptions {
         path: word(words, PATH)?,
         endpoints: read_endpoints(alloc, words)?,
+        proxied: read_proxied(alloc, words)?,
         networks: read_networks(alloc, words)?,
+        most_from: read_most(words)?,
         is_quiet: words.get_flag(QUIET),
     })
 }
@@ -288,6 +394,26 @@ fn read_endpoints(alloc: Global, words: &ArgMatches<'_>) -> Result<Vec<SocketAdd
         endpoints.push(read_endpoint(text).ok_or(Failure::Bad)?)?;
     }
     Ok(endpoints)
+}
+
+/// Where the server listens for proxies.
+fn read_proxied(alloc: Global, words: &ArgMatches<'_>) -> Result<Vec<SocketAddr>, Failure> {
+    let mut endpoints = Vec::new(alloc);
+    for text in words.get_strs(PROXIED).unwrap_or(&[]) {
+        endpoints.push(read_endpoint(text).ok_or(Failure::Bad)?)?;
+    }
+    Ok(endpoints)
+}
+
+/// The most sessions of callers of one address, if that is given.
+fn read_most(words: &ArgMatches<'_>) -> Result<Option<usize>, Failure> {
+    let Some(most) = words.get_str(MOST_FROM) else {
+        return Ok(None);
+    };
+    match most_from(most.as_bytes()) {
+        Some(most) => Ok(Some(most)),
+        None => Err(Failure::Bad),
+    }
 }
 
 /// The networks from which callers are let in.
@@ -306,4 +432,35 @@ fn read_export<'a>(words: &ArgMatches<'a>) -> Result<Export<'a>, Failure> {
         group: words.get_str(NAME),
         has_crlf: words.get_flag(CRLF),
     })
+}
+
+/// The renewal that the words describe. `BadWord` if they don't say either where the new volume is made, or that it replaces
+/// the old one.
+fn read_renewal<'a>(alloc: Global, words: &ArgMatches<'a>) -> Result<Renewal<'a>, Failure> {
+    let old = word(words, OLD)?;
+    let new = words.get_str(NEW);
+    match (new, words.get_flag(IN_PLACE)) {
+        (Some(path), true) => {
+            return Err(Failure::bad_word(alloc, "NEW", path, "can't be given with --in-place"));
+        }
+        (None, false) => {
+            return Err(Failure::bad_word(alloc, "OLD", old, "needs NEW or --in-place beside it"));
+        }
+        _ => (),
+    }
+    Ok(Renewal {
+        old,
+        new,
+        blocks: read_size(words, BLOCKS)?,
+        inodes: read_size(words, INODES)?,
+        is_json: words.get_flag(JSON),
+    })
+}
+
+/// The size that an option names, if it is given.
+fn read_size(words: &ArgMatches<'_>, name: &str) -> Result<Option<u64>, Failure> {
+    match words.get_str(name) {
+        Some(size) => Ok(Some(number(size.as_bytes()).ok_or(Failure::Bad)?)),
+        None => Ok(None),
+    }
 }

@@ -10,9 +10,9 @@ ghost use Rattle.disk.specs.Device.{one_more};
 use disk::{Disk, DiskError};
 pub use holders::{Node, holder, holder_in};
 pub use refusals::FileError;
-use std::fs::{File, OpenOptions, TryLockError};
+use std::fs::{self, File, OpenOptions, TryLockError};
 use std::io;
-use std::os::unix::fs::FileExt;
+use std::os::unix::fs::{FileExt, MetadataExt};
 use std::path::Path;
 use std::rt::Files;
 
@@ -32,8 +32,8 @@ impl FileDisk {
 
     /// Opens the file at `path` as a device of `len` octets, and makes the file if there is none. Sets its length to
     /// `len`, and makes the file and its directory entry durable. The file is locked as in `open_existing`. `Missing`
-    /// if its directory isn't there, `Refused` if the system doesn't open the file, `Held` if the file is locked. Each
-    /// of these leaves an existing file as it was. `Failed` if a later call fails; then the file may be new, or have
+    /// if its directory isn't there, `Refused` if the system doesn't open the file, `Irregular` if it is no regular file,
+    /// `Held` if the file is locked. Each of these leaves an existing file as it was. `Failed` if a later call fails; then the file may be new, or have
     /// the new length.
     pub fn open<R: Files<File = File>>(rt: &R, path: &str, len: u64) -> Result<FileDisk, FileError>
         ensures size { IfOk result (λ f. (file_device f).size ≡ len) }
@@ -45,8 +45,8 @@ impl FileDisk {
 
     /// Opens the existing file at `path` as a device of the file's own length. The file is locked until the device is
     /// dropped, so that two servers never share it. `Missing` if there is no such file, `Refused` if the file cannot be
-    /// opened for reading and writing, `Held` if it is locked, `Failed` if a later call fails. Each refusal leaves the
-    /// file as it was.
+    /// opened for reading and writing, `Irregular` if it is no regular file, `Held` if it is locked, `Failed` if a later call
+    /// fails. Each refusal leaves the file as it was.
     pub fn open_existing<R: Files<File = File>>(rt: &R, path: &str) -> Result<FileDisk, FileError>
         ensures calls { IfOk result (λ f. ((file_device f).reads ≡ 0) × ((file_device f).writes ≡ 0) × ((file_device f).syncs ≡ 0)) }
         ensures failures { IfOk result (λ f. (file_device f).failures ≡ 0) }
@@ -79,7 +79,7 @@ fn make_file<R: Files<File = File>>(rt: &R, path: &str, len: u64) -> Result<File
         Ok(file) => file,
         Err(error) => return Err(FileError::of(error.kind())),
     };
-    lock(&file)?;
+    lock(rt, path, &file)?;
     match make_durable(rt, path, &file, len) {
         Ok(()) => Ok(file),
         Err(_) => Err(FileError::Failed),
@@ -105,20 +105,33 @@ fn find_file<R: Files<File = File>>(rt: &R, path: &str) -> Result<(File, u64), F
         Ok(file) => file,
         Err(error) => return Err(FileError::of(error.kind())),
     };
-    lock(&file)?;
+    lock(rt, path, &file)?;
     match file.metadata() {
         Ok(metadata) => Ok((file, metadata.len())),
         Err(_) => Err(FileError::Failed),
     }
 }
 
-// Locks a file until it is closed.
-fn lock(file: &File) -> Result<(), FileError> {
+// Locks a regular file until it is closed. `Held` also where another file has its path by then: a renewal has just replaced it, and
+// what is written to it would be lost.
+fn lock<R: Files<File = File>>(rt: &R, path: &str, file: &File) -> Result<(), FileError> {
+    match file.metadata() {
+        Ok(metadata) if metadata.is_file() => {}
+        Ok(_) => return Err(FileError::Irregular),
+        Err(_) => return Err(FileError::Failed),
+    }
     match file.try_lock() {
-        Ok(()) => Ok(()),
-        Err(TryLockError::WouldBlock) => Err(FileError::Held),
+        Ok(()) if is_at(rt, path, file).unwrap_or(false) => Ok(()),
+        Ok(()) | Err(TryLockError::WouldBlock) => Err(FileError::Held),
         Err(TryLockError::Error(_)) => Err(FileError::Failed),
     }
+}
+
+// Whether the open file is the one at this path.
+fn is_at<R: Files<File = File>>(rt: &R, path: &str, file: &File) -> io::Result<bool> {
+    let open = file.metadata()?;
+    let there = fs::metadata(rt, path)?;
+    Ok(open.dev() == there.dev() && open.ino() == there.ino())
 }
 
 // Makes the entry of a file in its directory durable.

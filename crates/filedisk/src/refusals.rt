@@ -15,6 +15,9 @@ pub enum FileError {
     /// The system doesn't open the file for reading and writing.
     #[error("the file can't be opened: {0}")]
     Refused(ErrorKind),
+    /// It is a directory, a device, a pipe or something else that isn't a regular file.
+    #[error("it is no regular file")]
+    Irregular,
     /// The file is locked: a server or another command has it.
     #[error("the volume is in use by a server or another command")]
     Held,

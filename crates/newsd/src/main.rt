@@ -4,7 +4,7 @@
 mod closed;
 
 use closed::{ClosedStreams, NULL_DEVICE};
-use program::{AfterRun, Failure, Streams, fail, import, run, serve};
+use program::{AfterRun, Failure, Streams, fail, import, renew, run, serve};
 use std::alloc::Global;
 use std::fs::File;
 use std::io::{BufReader, BufWriter, IsTerminal, Stderr, StdinLock, Stdout, Write};
@@ -81,6 +81,10 @@ fn carry_out<
                 faults,
                 is_terminal,
             )
+        }
+        AfterRun::Renews(asked) => {
+            let is_terminal = faults.is_terminal();
+            renew(rt, alloc, &asked, &mut output, faults, is_terminal)
         }
         AfterRun::Serves(service) => {
             let streams = Streams {

@@ -2,8 +2,9 @@
 #![tactic(auto)]
 
 mod running;
+mod version;
 
-pub use command_line::ServeOptions;
+pub use command_line::{Renewal, ServeOptions};
 pub use printing::Failure;
 pub use program_server::Streams;
-pub use running::{AfterRun, fail, import, run, serve};
+pub use running::{AfterRun, fail, import, renew, run, serve};

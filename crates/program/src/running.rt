@@ -3,12 +3,16 @@
 ghost use Rattle.std.specs.Prelude.{◌≡◌};
 ghost use Rattle.printing.specs.Status.{status_of};
 
-use command_line::{Asked, Export, ServeOptions, read_words};
+use crate::version::print_version;
+use command_line::{AgedExpiry, Asked, Export, NewVolume, Renewal, ServeOptions, read_words};
 use exporting::LineEnds;
 use importing::ImportCounts;
-use logging::Verbosity;
-use names::GroupName;
+use logging::{Verbosity, moment};
+use names::{GroupName, NameError, Wildmat};
 use printing::{DONE, Failure, REFUSED};
+use program_changes::AgeOrder;
+use program_files::{changes_at, octets_at};
+use program_renewal::{Order, Report, json_text};
 use program_server::{Offer, Streams};
 use simulation::simulate;
 use std::alloc::Global;
@@ -21,6 +25,9 @@ use std::sync::Wait;
 use std::thread::Threads;
 use std::time::Clock;
 
+/// What a refusal says of an age if the clock can't be read, or is before 1970 or after 9999.
+const NO_TIME: &str = "needs a clock that gives a time from 1970 to 9999";
+
 /// What the program does after `run`.
 #[derive(Drop)]
 pub enum AfterRun<'a> {
@@ -30,6 +37,8 @@ pub enum AfterRun<'a> {
     Serves(ServeOptions<'a>),
     /// The words ask to file a batch in this volume, which is for `import`.
     Imports(&'a str),
+    /// The words ask for a renewal, which is for `renew`.
+    Renews(Renewal<'a>),
 }
 
 /// Runs the program on its words, the first of which is its name, and answers its status: `DONE`, `REFUSED` with the
@@ -37,7 +46,7 @@ pub enum AfterRun<'a> {
 /// server are read and returned.
 ///
 /// Faults are found in this order: words not understood; words outside their grammar; opening; the call.
-pub fn run<'a, R: Files<File = File> + Wait, S: AsStr, I: BufRead, W: Write, F: Write>(
+pub fn run<'a, R: Files<File = File> + Wait + Clock, S: AsStr, I: BufRead, W: Write, F: Write>(
     rt: &R,
     alloc: Global,
     words: &'a [S],
@@ -48,7 +57,12 @@ pub fn run<'a, R: Files<File = File> + Wait, S: AsStr, I: BufRead, W: Write, F: 
     let status = match read_words(alloc, words, output, faults) {
         Ok(Asked::Serve(service)) => return AfterRun::Serves(service),
         Ok(Asked::Import(path)) => return AfterRun::Imports(path),
+        Ok(Asked::Renew(asked)) => return AfterRun::Renews(asked),
         Ok(Asked::Nothing(status)) => status,
+        Ok(Asked::Format(asked)) => match format(rt, alloc, &asked, faults) {
+            Ok(()) => DONE,
+            Err(failure) => fail(faults, &failure),
+        },
         Ok(asked) => match carry_out(rt, alloc, asked, input, output) {
             Ok(()) => DONE,
             Err(failure) => fail(faults, &failure),
@@ -100,7 +114,9 @@ pub fn serve<
     let offer = Offer {
         path: service.path,
         endpoints: service.endpoints.as_slice(),
+        proxied: service.proxied.as_slice(),
         networks: service.networks.as_slice(),
+        most_from: service.most_from,
         verbosity,
     };
     match program_server::serve(rt, alloc, &offer, streams) {
@@ -144,8 +160,53 @@ fn print_counts<W: Write>(counts: &ImportCounts, output: &mut W) -> io::Result<(
     output.flush()
 }
 
+/// Renews a volume, and prints what that did. Answers `DONE`, or `REFUSED` with the refusal on `faults`. A report that can't
+/// be printed is a refusal, too; the volume is renewed then.
+pub fn renew<R: Files<File = File> + Clock, W: Write, F: Write>(
+    rt: &R,
+    alloc: Global,
+    asked: &Renewal<'_>,
+    output: &mut W,
+    faults: &mut F,
+    is_terminal: bool,
+) -> u8 {
+    let order = Order {
+        old: asked.old,
+        new: asked.new,
+        blocks: asked.blocks,
+        inodes: asked.inodes,
+    };
+    let report = match program_renewal::renew(rt, alloc, &order, faults, is_terminal) {
+        Ok(report) => report,
+        Err(refusal) => {
+            let _ = writeln!(faults, "newsd: {refusal}");
+            return REFUSED;
+        }
+    };
+    match print_report(alloc, &report, asked.is_json, output) {
+        Ok(()) => DONE,
+        Err(failure) => fail(faults, &failure),
+    }
+}
+
+/// Prints what a renewal did, for a person or as JSON on one line.
+fn print_report<W: Write>(
+    alloc: Global,
+    report: &Report,
+    is_json: bool,
+    output: &mut W,
+) -> Result<(), Failure> {
+    if is_json {
+        let text = json_text(alloc, report)?;
+        writeln!(output, "{text}")?;
+    } else {
+        writeln!(output, "{report}")?;
+    }
+    Ok(output.flush()?)
+}
+
 /// Does what the words ask for.
-fn carry_out<R: Files<File = File> + Wait, I: BufRead, W: Write>(
+fn carry_out<R: Files<File = File> + Wait + Clock, I: BufRead, W: Write>(
     rt: &R,
     alloc: Global,
     asked: Asked<'_>,
@@ -153,12 +214,13 @@ fn carry_out<R: Files<File = File> + Wait, I: BufRead, W: Write>(
     output: &mut W,
 ) -> Result<(), Failure> {
     match asked {
-        Asked::Nothing(_) | Asked::Serve(_) | Asked::Import(_) => Ok(()),
+        Asked::Nothing(_)
+        | Asked::Serve(_)
+        | Asked::Import(_)
+        | Asked::Renew(_)
+        | Asked::Format(_) => Ok(()),
+        Asked::Version => print_version(rt, output),
         Asked::Simulation(plan, is_cached) => simulate(alloc, &plan, is_cached, input, output),
-        Asked::Format(path, plan) => {
-            program_files::format(rt, alloc, path, &plan)?;
-            Ok(())
-        }
         Asked::Group(path, group) => {
             let serial = program_changes::group(rt, alloc, path, &group)?;
             print_serial(serial, output)
@@ -167,6 +229,7 @@ fn carry_out<R: Files<File = File> + Wait, I: BufRead, W: Write>(
             let serial = program_changes::expire(rt, alloc, path, &name, number)?;
             print_serial(serial, output)
         }
+        Asked::ExpireOlder(asked) => expire_older(rt, alloc, asked, output),
         Asked::Dump(path) => {
             program_reports::dump(rt, alloc, path, output)?;
             Ok(())
@@ -177,6 +240,65 @@ fn carry_out<R: Files<File = File> + Wait, I: BufRead, W: Write>(
         }
         Asked::Export(asked) => export(rt, alloc, asked, output),
     }
+}
+
+/// Removes the articles that the words ask for by their age, and prints what was removed. `BadWord` if the clock gives no time,
+/// since nothing has an age then.
+fn expire_older<R: Files<File = File> + Wait + Clock, W: Write>(
+    rt: &R,
+    alloc: Global,
+    asked: AgedExpiry<'_>,
+    output: &mut W,
+) -> Result<(), Failure> {
+    let Some(now) = moment(rt) else {
+        let days = format!(in alloc; "{}", asked.days)?;
+        return Err(Failure::bad_word(alloc, "--older-than", days.as_str(), NO_TIME));
+    };
+    let order = AgeOrder {
+        path: asked.path,
+        wildmat: &wildmat(alloc, asked.wildmat.as_bytes())?,
+        days: asked.days,
+        now,
+        is_dry: asked.is_dry,
+    };
+    program_changes::expire_older(rt, alloc, &order, output)?;
+    Ok(())
+}
+
+/// The wildmat that a word writes.
+fn wildmat(alloc: Global, text: &[u8]) -> Result<Wildmat, Failure> {
+    match Wildmat::read(alloc, text) {
+        Ok(wildmat) => Ok(wildmat),
+        Err(NameError::Bad) => Err(Failure::Bad),
+        Err(NameError::Memory) => Err(Failure::Memory),
+    }
+}
+
+/// Makes an empty volume, and says on `faults` what it replaced. `BadWord` if it has to be a new file, and one that isn't
+/// empty is there; this leaves each octet of that as it was.
+fn format<R: Files<File = File>, F: Write>(
+    rt: &R,
+    alloc: Global,
+    asked: &NewVolume<'_>,
+    faults: &mut F,
+) -> Result<(), Failure> {
+    let octets = octets_at(rt, alloc, asked.path)?;
+    if octets == 0 {
+        program_files::format(rt, alloc, asked.path, &asked.plan)?;
+        return Ok(());
+    }
+    if asked.is_new {
+        return Err(Failure::bad_word(alloc, "PATH", asked.path, "is a file that isn't empty"));
+    }
+    let changes = changes_at(rt, alloc, asked.path);
+    program_files::format(rt, alloc, asked.path, &asked.plan)?;
+    // whether it can be said changes nothing of what was done
+    let _ = match changes {
+        Some(1) => writeln!(faults, "newsd: replaced a volume of 1 change"),
+        Some(changes) => writeln!(faults, "newsd: replaced a volume of {changes} changes"),
+        None => writeln!(faults, "newsd: replaced a file of {octets} octets"),
+    };
+    Ok(())
 }
 
 /// Writes the articles that the words ask for.

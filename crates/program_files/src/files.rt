@@ -19,10 +19,34 @@ use std::alloc::{AllocError, Global};
 use std::fs::File;
 use std::rt::Files;
 use std::sync::Arc;
+use volume_states::state_on;
 use wcache::WCache;
 
 /// The device of a volume in a file: it collects writes until a sync. The syncs and the octets that are read are counted.
 pub type VolumeDisk = WCache<CountedDisk<FileDisk>>;
+
+/// How many octets stand in the file with this path, where a volume is to be made; 0 if there is no file. Refused as
+/// `format` is if the file can't be opened for reading and writing, or a server or another command has it. The file stays
+/// as it was.
+pub fn octets_at<R: Files<File = File>>(
+    rt: &R,
+    alloc: Global,
+    path: &str,
+) -> Result<u64, CommandError> {
+    match FileDisk::open_existing(rt, path) {
+        Ok(disk) => Ok(disk.len()),
+        Err(FileError::Missing) => Ok(0),
+        Err(error) => Err(no_device(rt, alloc, path, error)),
+    }
+}
+
+/// How many changes the volume in a file has. `None` if no volume stands there, it is damaged, or it can't be read. The
+/// volume keeps its changes and its format.
+pub fn changes_at<R: Files<File = File>>(rt: &R, alloc: Global, path: &str) -> Option<u64> {
+    let disk = find(rt, alloc, path).ok()?;
+    let examined = state_on(alloc, WCache::new(alloc, disk)).ok()?;
+    Some(examined.state.changes)
+}
 
 /// Makes an empty volume in place of any file with this path.
 pub fn format<R: Files<File = File>>(
@@ -102,7 +126,9 @@ fn no_device<R: Files<File = File>>(
             None => CommandError::NoDevice(error),
         },
         FileError::Failed => CommandError::Fault,
-        FileError::Missing | FileError::Refused(_) => CommandError::NoDevice(error),
+        FileError::Missing | FileError::Refused(_) | FileError::Irregular => {
+            CommandError::NoDevice(error)
+        }
     }
 }
 

@@ -1,8 +1,11 @@
-//! A volume in a file: it is made, and opened as a device or with its kernel; a refusal says what is wrong with it.
+//! A volume in a file: it is made, and opened as a device or with its kernel; what stood there before; a refusal says
+//! what is wrong with a volume.
 #![tactic(auto)]
 
 mod files;
 mod refusals;
 
-pub use files::{VolumeDisk, block_octets, find, format, new_counts, open, open_counted};
+pub use files::{
+    VolumeDisk, block_octets, changes_at, find, format, new_counts, octets_at, open, open_counted,
+};
 pub use refusals::refusal_of;

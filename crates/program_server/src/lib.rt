@@ -8,12 +8,14 @@ mod progress;
 
 use crate::progress::open_told;
 use counting::Counts;
+use flusher::TurnSeat;
 use journal::Journal;
 use kernel::Kernel;
 use locked_kernel::Locked;
-use logging::{Log, Verbosity};
+use logging::{Log, Verbosity, beginning_of_1970};
 use lookups::LookUps;
-use mark::{FlushSeat, Mark, Seat};
+use mark::{Mark, Seat};
+use model::Moment;
 use networks::Network;
 use opening::Opened;
 use printing::CommandError;
@@ -35,10 +37,14 @@ use usage::{BitmapMarks, Tally, VolumeFacts};
 pub struct Offer<'a> {
     /// The file with the volume.
     pub path: &'a str,
-    /// The endpoints to listen on, at least one.
+    /// The endpoints to listen on. One at least is given, here or for proxies.
     pub endpoints: &'a [SocketAddr],
+    /// The endpoints to listen on for proxies, which say for whom they connect.
+    pub proxied: &'a [SocketAddr],
     /// The networks from which callers are let in, besides the loopback networks.
     pub networks: &'a [Network],
+    /// The most sessions of callers of one address. Where it is not given, an address may have as many as are free.
+    pub most_from: Option<usize>,
     pub verbosity: Verbosity,
 }
 
@@ -102,10 +108,13 @@ fn open_and_serve<
     let counts = new_counts(alloc)?;
     let opened = open_told(rt, alloc, offer.path, log, &counts)?;
     let listeners = listen(rt, alloc, offer.endpoints)?;
-    announce(offer.endpoints, &mut answers)?;
+    let proxied = listen(rt, alloc, offer.proxied)?;
+    announce(offer, &mut answers)?;
     let entrance = Entrance {
         listeners: listeners.as_slice(),
+        proxied: proxied.as_slice(),
         networks: offer.networks,
+        most_from: offer.most_from,
         log,
     };
     run(rt, alloc, entrance, opened, counts, lines, answers)
@@ -115,7 +124,9 @@ fn open_and_serve<
 #[derive(Clone, Copy)]
 struct Entrance<'a> {
     listeners: &'a [TcpListener],
+    proxied: &'a [TcpListener],
     networks: &'a [Network],
+    most_from: Option<usize>,
     log: &'a Log,
 }
 
@@ -138,9 +149,12 @@ fn listen<R: Net<Listener = TcpListener, Stream = TcpStream>>(
     Ok(listeners)
 }
 
-/// Prints a line for each endpoint, in order.
-fn announce<A: Write>(endpoints: &[SocketAddr], answers: &mut A) -> Result<(), CommandError> {
-    for endpoint in endpoints {
+/// Prints a line for each endpoint, in order, those for proxies last.
+fn announce<A: Write>(offer: &Offer<'_>, answers: &mut A) -> Result<(), CommandError> {
+    for endpoint in offer.endpoints {
+        writeln!(answers, "listening {endpoint}")?;
+    }
+    for endpoint in offer.proxied {
         writeln!(answers, "listening {endpoint}")?;
     }
     answers.flush()?;
@@ -150,19 +164,18 @@ fn announce<A: Write>(endpoints: &[SocketAddr], answers: &mut A) -> Result<(), C
 /// The parts of a server over a volume.
 #[derive(Drop)]
 struct Parts<'a> {
-    listeners: &'a [TcpListener],
-    networks: &'a [Network],
-    log: &'a Log,
+    entrance: Entrance<'a>,
     journal: Journal<VolumeDisk>,
     kern: &'a Locked,
     mark: &'a Mark,
-    flush_seat: FlushSeat,
+    flush_seat: TurnSeat,
     seat: Seat,
     host: &'a [u8],
     blocks: u64,
     inodes: u64,
     marks: BitmapMarks,
     tally: &'a Tally,
+    newest: Moment,
     ghost idle: { IsIdle journal },
     ghost flushes: { flush_seat.mark ≡ mark.now },
     ghost looks: { seat.mark ≡ mark.now },
@@ -203,21 +216,21 @@ fn run<
         return Err(CommandError::Fault);
     };
     let tally = Tally::new(marks.all(), counts);
+    let newest = newest_moment(kernel.spool());
     let kern = Locked::new(kernel);
     let parts = Parts {
-        listeners: entrance.listeners,
-        networks: entrance.networks,
-        log: entrance.log,
+        entrance,
         journal,
         kern: &kern,
         mark: &mark,
-        flush_seat,
+        flush_seat: TurnSeat::new(flush_seat),
         seat,
         host: host.as_slice(),
         blocks,
         inodes,
         marks,
         tally: &tally,
+        newest,
     };
     serve_parts(rt, alloc, parts, lines, answers)
 }
@@ -236,9 +249,7 @@ fn serve_parts<
     A: Write + Send + Drop + 'static,
 >(rt: &R, alloc: Global, parts: Parts<'_>, lines: L, answers: A) -> Result<(), CommandError> {
     let Parts {
-        listeners,
-        networks,
-        log,
+        entrance,
         journal,
         kern,
         mark,
@@ -249,6 +260,7 @@ fn serve_parts<
         inodes,
         marks,
         tally,
+        newest,
     } = parts;
     let facts = VolumeFacts {
         host,
@@ -257,9 +269,11 @@ fn serve_parts<
         inodes,
     };
     let server = Server {
-        listeners,
-        networks,
-        log,
+        listeners: entrance.listeners,
+        proxied: entrance.proxied,
+        networks: entrance.networks,
+        most_from: entrance.most_from,
+        log: entrance.log,
         journal,
         kern,
         mark,
@@ -268,6 +282,7 @@ fn serve_parts<
         facts,
         marks,
         tally,
+        newest,
         gate: &NoGate,
         limits: Limits::standard(),
     };
@@ -282,4 +297,16 @@ fn serve_parts<
 /// A copy of the host of a kernel's spool.
 fn host_of(alloc: Global, kernel: &Kernel) -> Result<Vec<u8>, AllocError> {
     Ok(Vec::from_slice(alloc, kernel.spool().host())?)
+}
+
+/// The moment of the newest article of a spool, or the beginning of 1970 where it has none.
+fn newest_moment<L: LookUps>(spool: &L) -> Moment {
+    let mut serial = spool.len();
+    while 0 < serial {
+        if let Some(seconds) = spool.moment(serial) {
+            return Moment::at(seconds).unwrap_or(beginning_of_1970());
+        }
+        serial -= 1;
+    }
+    beginning_of_1970()
 }

@@ -30,6 +30,7 @@ fn what_can_not_be_had_is_refused(rt: HostRuntime) {
         ("/", FileError::Refused(ErrorKind::IsADirectory)),
         ("", FileError::Missing),
         ("no/such/directory/volume", FileError::Missing),
+        ("/dev/null", FileError::Irregular),
     ] {
         assert!(rt;
             matches!(FileDisk::open(&rt, path, 8), Err(e) if e == error),
@@ -61,6 +62,7 @@ fn refusals_are_said_in_words(rt: HostRuntime) -> Result<(), Fail> {
             FileError::Held,
             "the volume is in use by a server or another command",
         ),
+        (FileError::Irregular, "it is no regular file"),
         (FileError::Failed, "the device failed"),
     ] {
         assert_eq!(rt; format!(in rt.alloc(); "{error}")?.as_str(), words);

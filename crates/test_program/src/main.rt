@@ -7,7 +7,7 @@
 #![tactic(auto)]
 
 use anyhow::{Result, anyhow};
-use program::{AfterRun, ServeOptions, import, run};
+use program::{AfterRun, ServeOptions, import, renew, run};
 use std::alloc::{AllocError, Global};
 use std::fs::File;
 use std::io::{BufRead, BufReader, BufWriter, Write};
@@ -124,6 +124,7 @@ impl Script {
             AfterRun::Imports(path) => {
                 Ok(import(rt, alloc, path, &mut input, output, faults, false))
             }
+            AfterRun::Renews(asked) => Ok(renew(rt, alloc, &asked, output, faults, false)),
             AfterRun::Serves(service) => {
                 describe(output, &service)?;
                 Ok(0)
@@ -138,9 +139,16 @@ fn describe<W: Write>(output: &mut W, service: &ServeOptions<'_>) -> Result<()> 
     for endpoint in &service.endpoints {
         write!(output, " {endpoint}")?;
     }
+    for endpoint in &service.proxied {
+        write!(output, " proxied {endpoint}")?;
+    }
     let networks = service.networks.len();
     let quiet = if service.is_quiet { ", quiet" } else { "" };
-    writeln!(output, ", networks {networks}{quiet}")?;
+    write!(output, ", networks {networks}{quiet}")?;
+    if let Some(most) = service.most_from {
+        write!(output, ", most {most}")?;
+    }
+    writeln!(output)?;
     Ok(())
 }
 

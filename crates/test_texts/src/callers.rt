@@ -1,6 +1,7 @@
-//! Which texts are networks and endpoints, which callers networks hold, and who may call.
+//! Which texts are networks and endpoints, which callers networks hold, who may call, who gets a seat, and for whom a
+//! proxy connects.
 
-use networks::{Network, may_call, read_endpoint};
+use networks::{Guest, Guests, Network, NoSeat, Proxied, may_call, read_endpoint, read_proxy_line};
 use std::alloc::Global;
 use std::net::IpAddr;
 use test_support_data::{Answer, Area, Arguments, RowError};
@@ -11,7 +12,9 @@ pub struct Callers;
 impl Area for Callers {
     /// `network TEXT`: whether the text is a network. `endpoint TEXT`: the endpoint that it is as `Display` writes it.
     /// `holds NETWORK CALLER`: whether the network holds the caller. `may_call CALLER NETWORK ..`: whether the caller is
-    /// let in where these networks are.
+    /// let in where these networks are. `guests MOST SEATS ..`: what callers at free seats are answered, one after another,
+    /// where MOST is the most of an address, or `any`; a number has the caller of that seat leave, `unnamed` is one by a proxy,
+    /// and a number with an address gives the one of that seat its own. `proxy LINE`: for whom a proxy connects.
     fn answer(
         &mut self,
         alloc: Global,
@@ -33,9 +36,51 @@ impl Area for Callers {
                 let caller = address_of(text.as_str())?;
                 Ok(answer.is(may_call(networks.as_slice(), caller))?)
             }
+            "guests" => answer_guests(alloc, text.as_str(), arguments, answer),
+            "proxy" => answer_proxy(alloc, text.as_str(), answer),
             _ => Err(RowError::Unreadable),
         }
     }
+}
+
+fn answer_guests(
+    alloc: Global,
+    most: &str,
+    arguments: &mut Arguments<'_>,
+    answer: &mut Answer,
+) -> Result<(), RowError> {
+    let most_from = match most {
+        "any" => None,
+        number => Some(number.parse::<usize>().ok().ok_or(RowError::Unreadable)?),
+    };
+    let seats = arguments.small()? as usize;
+    let mut guests = Guests::new(alloc, seats, most_from)?;
+    for _ in 0..arguments.len() {
+        answer_guest(&mut guests, arguments.text()?.as_str(), answer)?;
+    }
+    Ok(())
+}
+
+/// A caller of an address comes, or that of a seat leaves.
+fn answer_guest(guests: &mut Guests, text: &str, answer: &mut Answer) -> Result<(), RowError> {
+    if let Ok(seat) = text.parse::<usize>() {
+        guests.leave(seat);
+        return Ok(answer.word("free")?);
+    }
+    let entered = match text.split_once(' ') {
+        Some((seat, address)) => {
+            let seat = seat.parse::<usize>().ok().ok_or(RowError::Unreadable)?;
+            guests.name(seat, address_of(address)?)
+        }
+        None if text == "unnamed" => guests.enter(Guest::Unnamed),
+        None => guests.enter(Guest::At(address_of(text)?)),
+    };
+    match entered {
+        Ok(seat) => answer.number(seat as u64)?,
+        Err(NoSeat::Full) => answer.word("full")?,
+        Err(NoSeat::Address) => answer.word("address")?,
+    }
+    Ok(())
 }
 
 fn address_of(text: &str) -> Result<IpAddr, RowError> {
@@ -53,6 +98,18 @@ fn read_networks(alloc: Global, arguments: &mut Arguments<'_>) -> Result<Vec<Net
         networks.push(network_of(arguments.text()?.as_str())?)?;
     }
     Ok(networks)
+}
+
+fn answer_proxy(alloc: Global, line: &str, answer: &mut Answer) -> Result<(), RowError> {
+    match read_proxy_line(line.as_bytes()) {
+        Some(Proxied::From(address, port)) => {
+            let shown = format!(in alloc; "{address} {port}")?;
+            answer.word(shown.as_str())?;
+        }
+        Some(Proxied::Unknown) => answer.word("unknown")?,
+        None => answer.word("none")?,
+    }
+    Ok(())
 }
 
 fn answer_endpoint(alloc: Global, text: &str, answer: &mut Answer) -> Result<(), RowError> {

@@ -2,8 +2,8 @@
 
 use crate::moments::moment_at;
 use logging::{
-    EndedSession, Ending, LogEntry, LogEvent, OpeningStep, SessionCounts, SessionRefusal, UsedPart,
-    line,
+    EndedSession, Ending, LogEntry, LogEvent, OpeningStep, RefusedCallers, SessionCounts,
+    SessionRefusal, UsedPart, line,
 };
 use std::alloc::Global;
 use std::net::SocketAddr;
@@ -55,7 +55,9 @@ fn read_event(call: &str, arguments: &mut Arguments<'_>) -> Result<LogEvent, Row
         "end" => Ok(LogEvent::End(read_end(arguments)?)),
         "refused" => {
             let peer = read_address(arguments)?;
-            Ok(LogEvent::Refused(peer, refusal_of(arguments.word()?)?))
+            let why = refusal_of(arguments.word()?)?;
+            let times = arguments.number()?;
+            Ok(LogEvent::Refused(RefusedCallers { peer, why, times }))
         }
         "fault" => Ok(LogEvent::Fault),
         "halted" => Ok(LogEvent::Halted),
@@ -125,6 +127,8 @@ fn ending_of(word: &str) -> Result<Ending, RowError> {
         "Silent" => Ok(Ending::Silent),
         "Stalled" => Ok(Ending::Stalled),
         "Failed" => Ok(Ending::Failed),
+        "Http" => Ok(Ending::Http),
+        "Full" => Ok(Ending::Full),
         "Memory" => Ok(Ending::Memory),
         "Stopped" => Ok(Ending::Stopped),
         _ => Err(RowError::Unreadable),
@@ -135,9 +139,11 @@ fn refusal_of(word: &str) -> Result<SessionRefusal, RowError> {
     match word {
         "Access" => Ok(SessionRefusal::Access),
         "Sessions" => Ok(SessionRefusal::Sessions),
+        "Address" => Ok(SessionRefusal::Address),
         "Descriptors" => Ok(SessionRefusal::Descriptors),
         "Memory" => Ok(SessionRefusal::Memory),
         "Failed" => Ok(SessionRefusal::Failed),
+        "Proxy" => Ok(SessionRefusal::Proxy),
         "Halted" => Ok(SessionRefusal::Halted),
         _ => Err(RowError::Unreadable),
     }

@@ -97,6 +97,7 @@ fn word_of(line: &Line) -> &'static str {
         Line::Release => "Release",
         Line::Commit => "Commit",
         Line::Settle => "Settle",
+        Line::Drain => "Drain",
         Line::FailAt(_) => "FailAt",
         Line::FailKind(..) => "FailKind",
         Line::Crash(_) => "Crash",

@@ -4,14 +4,14 @@ use crate::table::{Kind, SUBCOMMANDS, Subcommand, Word};
 use clap::{Arg, ArgAction, ArgGroup, Command, value_parser};
 use std::alloc::{AllocError, Global};
 
-/// The version that `newsd --version` prints.
+/// The version that `newsd --version` prints, behind which it says the commit.
 pub const VERSION: &str = "0.9.0";
 
 /// The group of words of which at least one has to be given.
 const ONE_OF: &str = "one of";
 
 /// The program's words, one level of subcommands.
-pub(crate) fn syntax<'a>(alloc: Global) -> Result<Command<'a>, AllocError> {
+pub fn command_syntax<'a>(alloc: Global) -> Result<Command<'a>, AllocError> {
     let mut command = Command::new(alloc, "newsd")
         .bin_name("newsd")?
         .version(VERSION)
@@ -49,9 +49,11 @@ fn argument<'a>(alloc: Global, word: &Word) -> Arg<'a> {
         Kind::Operand => argument.required(true),
         Kind::Required => argument.long(word.id).required(true),
         Kind::Default(value) => argument.long(word.id).default_value(value),
+        Kind::Optional => argument.long(word.id),
         Kind::Port => argument
             .long(word.id)
             .value_parser(value_parser!(u16).range(1..)),
+        Kind::Option => argument.long(word.id),
         Kind::Repeated => argument.long(word.id).action(ArgAction::Append),
         Kind::LastOperand | Kind::Flag => argument,
     }

@@ -1,13 +1,18 @@
 //! What each word may be.
 
-use names::{is_description, is_group_name, is_host, number_of};
-use networks::{Network, read_endpoint};
+ghost use Rattle.std.specs.Prelude.{◌≡◌, ◌≤◌, ℕ, Some, IfSome, IfNone};
+ghost use Rattle.script.specs.Words.{number_of};
+
+use expiring::MOST_DAYS;
+use names::{is_description, is_group_name, is_host, is_wildmat, number_of};
+use networks::{Network, is_loopback, read_endpoint};
 use new_volume::{FEWEST_INODES, MOST_BLOCKS, are_sizes};
 use script::{moment, number, status};
+use shared_kernel::SESSIONS;
 
 /// What a word may be.
 #[derive(Clone, Copy)]
-pub(crate) enum Grammar {
+pub enum Grammar {
     /// Any text.
     Any,
     /// The name of a server.
@@ -28,15 +33,23 @@ pub(crate) enum Grammar {
     Description,
     /// The number of an article.
     Article,
+    /// A wildmat.
+    Wildmat,
+    /// A number of days.
+    Days,
     /// Where a server listens.
     Endpoint,
+    /// Where it listens for proxies: on the machine itself.
+    OwnEndpoint,
     /// A network of callers.
     Network,
+    /// A number of sessions.
+    Seats,
 }
 
 impl Grammar {
     /// Whether a word follows the grammar.
-    pub(crate) fn holds(self, word: &str) -> bool {
+    pub fn holds(self, word: &str) -> bool {
         let octets = word.as_bytes();
         match self {
             Grammar::Any => true,
@@ -50,13 +63,17 @@ impl Grammar {
             Grammar::Moment => moment(octets).is_some(),
             Grammar::Description => is_description(octets),
             Grammar::Article => number_of(octets).is_some(),
+            Grammar::Wildmat => is_wildmat(octets),
+            Grammar::Days => days_from(octets).is_some(),
             Grammar::Endpoint => read_endpoint(word).is_some(),
+            Grammar::OwnEndpoint => read_endpoint(word).is_some_and(|at| is_loopback(at.ip())),
             Grammar::Network => Network::read(word).is_some(),
+            Grammar::Seats => most_from(octets).is_some(),
         }
     }
 
     /// What a refusal says of a word that doesn't follow the grammar.
-    pub(crate) fn fault(self) -> &'static str {
+    pub fn fault(self) -> &'static str {
         match self {
             Grammar::Any => "is no text",
             Grammar::Host => "is no name of a server",
@@ -68,8 +85,34 @@ impl Grammar {
             Grammar::Moment => "is no number of seconds before the year 10000",
             Grammar::Description => "is no line of at most 200 octets of ASCII",
             Grammar::Article => "is no number of an article",
+            Grammar::Wildmat => "is no wildmat",
+            Grammar::Days => "is no number of days from 1 to 36500",
             Grammar::Endpoint => "is no ADDRESS:PORT",
+            Grammar::OwnEndpoint => "is no ADDRESS:PORT of 127.0.0.0/8 or ::1",
             Grammar::Network => "is no ADDRESS or ADDRESS/LENGTH",
+            Grammar::Seats => "is no number from 1 to 64",
         }
+    }
+}
+
+/// The most sessions of callers of one address that a word names: a number from 1 to `SESSIONS`.
+pub fn most_from(word: &[u8]) -> Option<usize>
+    ensures some { IfSome result (λ most. (number_of word.now ≡ Some most) × (1 ≤ most) × (most ≤ 64)) }
+    ensures none { IfNone result ((most : ℕ) → number_of word.now ≡ Some most → 1 ≤ most → most ≤ 64 → ⊥) }
+{
+    match number(word) {
+        Some(most) if most >= 1 && most <= SESSIONS as u64 => Some(most as usize),
+        _ => None,
+    }
+}
+
+/// The days that a word names: a number from 1 to `MOST_DAYS`.
+pub fn days_from(word: &[u8]) -> Option<u64>
+    ensures some { IfSome result (λ days. (number_of word.now ≡ Some days) × (1 ≤ days) × (days ≤ 36500)) }
+    ensures none { IfNone result ((days : ℕ) → number_of word.now ≡ Some days → 1 ≤ days → days ≤ 36500 → ⊥) }
+{
+    match number(word) {
+        Some(days) if days >= 1 && days <= MOST_DAYS => Some(days),
+        _ => None,
     }
 }
