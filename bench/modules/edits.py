@@ -13,6 +13,8 @@ CLAUSE = re.compile(r" *(?:requires|ensures|ghost|decreases)\b")
 SELF = re.compile(r"\(\s*(?:&(?:'\w+ )?)?(?:mut )?self\b")
 # a call, with what stands before its name, and a function that is handed on as a value
 CALL, VALUE = re.compile(r"(\.|::)?\b(\w+)(?:::<[^>(]*>)?\("), re.compile(r"(?<=[(,]) ?(\w+)(?=[,)])")
+# a macro that calls the `fmt` of what it writes
+FORMATTING = re.compile(r"\b(?:write|writeln|format)!")
 
 
 class Bad(Exception):
@@ -46,6 +48,8 @@ class Function:
     def calls(self, others):
         """Those of the other functions that this one may call: at least those that it does call."""
         called = {*CALL.findall(self.code), *(("", it) for it in VALUE.findall(self.code))}
+        if FORMATTING.search(self.code):
+            called.add((".", "fmt"))
         return [it for it in others if it is not self and any((before, it.name) in called for before in it.ways())]
 
     def ways(self):

@@ -9,7 +9,7 @@ import tempfile
 
 HERE = os.path.dirname(os.path.abspath(__file__))
 sys.path.insert(0, os.path.join(HERE, "..", "..", "tests"))
-from newsd import Volume  # noqa: E402
+from newsd import ALL_FROM_ONE, Volume  # noqa: E402
 
 # a volume has room for 32,762 articles: a group takes three inodes, an article one
 BLOCKS, INODES, MOST_POSTS = 65536, 32768, 32000
@@ -82,7 +82,7 @@ class Bench:
         if not has_syncs:
             os.environ["NEWSD_NO_SYNC"] = "1"
         try:
-            return volume.serve()
+            return volume.serve(words=ALL_FROM_ONE)
         finally:
             for name in ("LD_PRELOAD", "NEWSD_COUNTS", "NEWSD_NO_SYNC"):
                 os.environ.pop(name, None)

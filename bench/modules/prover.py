@@ -4,7 +4,7 @@ import os
 import re
 import subprocess
 
-from toolchain import loaded, path_of_rt, remembered
+from toolchain import keeps, loaded, path_of_rt
 
 # what a check takes of memory, at most, in octets
 MEMORY = 2_500_000_000
@@ -23,8 +23,6 @@ def toolchain():
     if not path:
         raise Missing("`rt` isn't on the path: install the Rattle toolchain")
     rt = loaded(path)
-    crate = rt.rtlib.Crate
-    crate.below, crate.stamp = remembered(crate.below), remembered(crate.stamp)
     # checks end when this process ends; what sees to that is begun in the main thread
     rt.rtlib.guarded()
     return rt
@@ -34,7 +32,10 @@ def libraries(top):
     """The crates of a repository as the toolchain knows them, by name, each after those that it uses."""
     rt = toolchain()
     rt.Crate.allowed = rt.handles_of(top)
-    return {it.name: it for it in rt.crates_of(top)}
+    if keeps(rt):
+        return {it.name: it for it in rt.crates_of(top)}
+    rt.rtlib.Crate = rt.Crate
+    return {it.name: it for it in rt.rtlib.crates_below(top)}
 
 
 def lanes():

@@ -14,12 +14,21 @@ def path_of_rt():
 
 
 def loaded(path):
-    """The program at this path, as a module."""
+    """The program at this path, as a module. `rattle-kit-13b` looks for the crates below a crate, and sums their files, along each path
+    that leads to them. The crates of this repository have more than a million paths, so both are remembered for each crate. They depend
+    on crates.txt and on the files of the crates alone, and no verdict rests on the sums."""
     loader = importlib.machinery.SourceFileLoader("rt", path)
     module = importlib.util.module_from_spec(importlib.util.spec_from_loader("rt", loader))
     sys.modules["rt"] = module
     loader.exec_module(module)
+    crate = module.rtlib.Crate
+    crate.below, crate.stamp = remembered(crate.below), remembered(crate.stamp)
     return module
+
+
+def keeps(rt):
+    """Whether this toolchain keeps on the machine what it proved, and proves single crates on a copy, as `rattle-kit-13f` does."""
+    return hasattr(rt, "Kept")
 
 
 def remembered(method):
