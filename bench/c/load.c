@@ -1,7 +1,7 @@
 /* A load on a news server of this machine: load PORT SESSIONS SECONDS post LIMIT
- *                                          load PORT SESSIONS SECONDS ask REQUEST line|block
+ *                                          load PORT SESSIONS SECONDS ask REQUEST line|block [FIRST]
  * Each session is a thread that waits for each reply before it sends again, at most 30 seconds. Posts have about 1,000 octets of an id
- * each, and all sessions together make at most LIMIT of them. The load ends in time, or earlier: after its last post, or at SIGTERM.
+ * each, and all sessions together make at most LIMIT of them. FIRST is asked once by each, and answered by a line. The load ends in time, or earlier: after its last post, or at SIGTERM.
  * A time is that from the first octet sent to the last one read.
  * Prints one line: replies, replies a second, and microseconds: the mean, the median, the 99th of 100 and the slowest. */
 #define _GNU_SOURCE
@@ -27,7 +27,7 @@ struct session {
 };
 
 static int port, is_post, is_block;
-static const char *request;
+static const char *request, *first;
 static long run, posts_left;
 static double end_of_time;
 static volatile sig_atomic_t is_over;
@@ -122,6 +122,11 @@ static void *play(void *given) {
     setsockopt(s->socket, SOL_SOCKET, SO_SNDTIMEO, &patience, sizeof patience);
     if (connect(s->socket, (void *)&address, sizeof address)) fail("no connection");
     read_to(s, "\r\n", "200");
+    if (first) {
+        send_all(s, first, strlen(first));
+        send_all(s, "\r\n", 2);
+        read_to(s, "\r\n", "2");
+    }
     while (goes_on(s, now())) {
         if (is_post) make_article(s);
         double start = now();
@@ -144,7 +149,7 @@ static int compare(const void *a, const void *b) {
 }
 
 int main(int count, char **words) {
-    if (count != 6 && count != 7) fail("PORT SESSIONS SECONDS post LIMIT | ask REQUEST line|block");
+    if (count < 6 || count > 8) fail("PORT SESSIONS SECONDS post LIMIT | ask REQUEST line|block [FIRST]");
     port = atoi(words[1]);
     int sessions = atoi(words[2]);
     is_post = !strcmp(words[4], "post");
@@ -154,6 +159,7 @@ int main(int count, char **words) {
     } else {
         request = words[5];
         is_block = !strcmp(words[6], "block");
+        first = count == 8 ? words[7] : NULL;
     }
     signal(SIGTERM, stop);
     struct timespec time;
