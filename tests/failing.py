@@ -18,6 +18,8 @@ SYNCS = os.path.join(os.path.dirname(os.path.abspath(__file__)), "syncs.py")
 # the smallest pipe that the system knows
 PIPE_OCTETS = 4096
 SECONDS_OF_AN_END = 3
+# five seconds in which one more caller may come, and an end
+SECONDS_AFTER_A_FAULT = 8
 
 
 def call_until_the_end(server):
@@ -64,6 +66,21 @@ def a_failed_sync_ends_the_server(volume):
     volume.make_group()
     server = volume.serve(by=[sys.executable, "-B", SYNCS])
     fault_ends(volume, server, lambda: os.kill(server.process.pid, signal.SIGUSR1))
+
+
+def a_fault_ends_a_server_that_nobody_calls(volume):
+    """Some seconds after it, with the status by which a unit starts it again."""
+    volume.make_group()
+    with volume.serve() as server, server.call() as caller, server.call() as other:
+        assert caller.post(article(1)) == "240 Article received"
+        settled_octets(volume.path)
+        server.have_writes_fail()
+        other.send(b"POST\r\n" + article(2))
+        start = time.monotonic()
+        assert server.end(SECONDS_AFTER_A_FAULT) == FAULT
+        print("  ended after %.1f s" % (time.monotonic() - start), flush=True)
+        assert other.line() == "340 Send article" and other.has_ended() and caller.has_ended()
+    see_that_it_serves_again(volume, 3)
 
 
 def without_descriptors_a_caller_is_told(volume):
@@ -194,6 +211,7 @@ def wait_until_full(pipe):
 TESTS = [
     a_failing_device_ends_the_server,
     a_failed_sync_ends_the_server,
+    a_fault_ends_a_server_that_nobody_calls,
     without_descriptors_a_caller_is_told,
     without_memory_a_caller_is_told,
     an_operator_that_reads_nothing_holds_nobody,

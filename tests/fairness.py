@@ -11,7 +11,7 @@ import threading
 import time
 
 from flooding import Flood
-from newsd import GREETING, GROUP, Caller, article, long_article, message_id, wait_until
+from newsd import ALL_FROM_ONE, GREETING, GROUP, Caller, article, long_article, message_id, wait_until
 from playing import TooSlow, main, measured, side_by_side
 
 SESSIONS = 64
@@ -108,7 +108,8 @@ def long_answers_starve_nobody(volume):
     assert large.run("import", large.path, given=batch(ARTICLES)).returncode == 0
     with large.serve() as server:
         for asked in LONG_ANSWERS:
-            print("  beside %d callers of %s: %s" % (ASKING, asked, dates_beside(server, asked)), flush=True)
+            print("  beside %d callers of %s: %s" % (ASKING, asked, dates_beside(server, [asked] * ASKING)), flush=True)
+        print("  beside callers of each, and one that reads nothing: %s" % dates_beside(server, LONG_ANSWERS, deaf=LONG_ANSWERS[1]), flush=True)
 
 
 def batch(count):
@@ -117,14 +118,17 @@ def batch(count):
     return b"".join(b"#! rnews %d\n%s" % (len(text), text) for text in texts)
 
 
-def dates_beside(server, asked):
-    """How long DATE takes beside callers that ask this."""
-    reply = long_reply(server, asked)
+def dates_beside(server, questions, deaf=None):
+    """How long DATE takes beside callers each of whom asks one of these, and one that asks `deaf` and reads nothing."""
+    replies = {asked: long_reply(server, asked) for asked in questions}
     with contextlib.ExitStack() as stack:
-        callers = [stack.enter_context(in_group(server)) for _ in range(ASKING)]
+        if deaf:
+            stack.enter_context(Flood(stack.enter_context(in_group(server)), deaf.encode() + b"\r\n", replies[deaf], 0))
         other = stack.enter_context(server.call())
-        question = asked.encode() + b"\r\n"
-        floods = [stack.enter_context(Flood(caller, question, reply, None)) for caller in callers]
+        floods = []
+        for asked in questions:
+            caller = stack.enter_context(in_group(server))
+            floods.append(stack.enter_context(Flood(caller, asked.encode() + b"\r\n", replies[asked], None)))
         for flood in floods:
             wait_until_it_gets_more(flood, None)
         dates = measured(lambda: measure_dates(other))
@@ -159,7 +163,7 @@ def sixty_three_deaf_callers(volume):
     last = volume.another("last")
     alone.make_group()
     with_long_article(last)
-    with volume.serve() as one, last.serve() as two, alone.serve() as three:
+    with volume.serve(words=ALL_FROM_ONE) as one, last.serve(words=ALL_FROM_ONE) as two, alone.serve() as three:
         before = {server: server.memory() for server in (one, two)}
         posters = [one.call()]
         deaf = {server: [ask_and_read_nothing(server) for _ in range(SESSIONS - 1)] for server in (one, two)}
@@ -226,7 +230,7 @@ def a_caller_that_quits_and_stays_holds_nobody(volume):
 
 def measure_greeting(volume, count, more):
     """Callers quit. Where they leave a session free, the caller that has it joined before them."""
-    with volume.serve() as server:
+    with volume.serve(words=ALL_FROM_ONE) as server:
         first = [server.call() for _ in range(SESSIONS - count)]
         quitters = [server.call() for _ in range(count)]
         assert all(caller.greeting == GREETING for caller in first + quitters)

@@ -4,6 +4,7 @@ opened. formats.py NEWSD [NAME..]"""
 import json
 import os
 import random
+import shutil
 import signal
 import struct
 import subprocess
@@ -19,6 +20,8 @@ SEGMENT_BLOCKS = 514
 RECORD = 64
 # where the gate of the format stands, and what it holds in the two formats
 FORMAT_AT, IS_FORMAT_1, IS_FORMAT_2 = 148, b"\0", b"\2"
+MAGIC = b"XNNTPFS1"
+SYNCS = ("fsync", "fdatasync")
 # other values of the gate, which are format 1 as well
 ODD_GATES = (b"\1", b"\x4d", b"\xff")
 # in an inode
@@ -161,6 +164,34 @@ def a_new_volume_has_the_format_that_is_asked(volume):
     assert octets(first) == octets(second)
 
 
+def a_format_that_is_cut_short_leaves_no_other_volume(volume):
+    """After each call it is the volume that stood there, no volume, or from the last write on the new one. So it is in a copy of the file
+    after each sync."""
+    old, changes = one_with_an_article(volume)
+    calls, copies = [], []
+
+    def at_result(_, name):
+        with open(old.path, "rb") as file:
+            calls.append((name, file.read(len(MAGIC)) == MAGIC))
+        if name in SYNCS:
+            copies.append("%s.%d" % (old.path, len(copies)))
+            shutil.copyfile(old.path, copies[-1])
+
+    if trace([old.program, "format", old.path, "--host", HOST, "--blocks", "1024", "--inodes", "64"], at_result, is_silent=True) != 0:
+        raise Skipped("the program can't be traced")
+    names, there = [name for name, _ in calls], [is_there for _, is_there in calls]
+    gone, again = there.index(False), len(there) - 2
+    assert there == [True] * gone + [False] * (again - gone) + [True] * 2, (gone, again, there.count(False))
+    assert [names[it] in SYNCS for it in (gone - 1, gone, gone + 1, again - 1, again, again + 1)] == [True, False, True] * 2
+    found = []
+    for copy in copies:
+        done = old.run("dump", copy)
+        found.append(done.stdout.decode().splitlines() if done.returncode == 0 else done.stderr.split(b": ")[1].decode())
+        os.unlink(copy)
+    stood = names[:gone].count(SYNCS[0]) + names[:gone].count(SYNCS[1])
+    assert found == [changes] * stood + ["E3 NotAVolume"] * (len(copies) - stood - 1) + [["spool 0"]], found
+
+
 def a_volume_of_format_1_is_upgraded_when_it_is_opened(volume):
     """By each command that opens one, before it does anything else. It has the changes that it had, and takes further ones."""
     old = format_1(volume, "old")
@@ -220,8 +251,8 @@ def status_with_failing_sync(words, failing):
     seen = [0]
 
     def at_result(pid, name):
-        seen[0] += name in ("fsync", "fdatasync")
-        if seen[0] == failing and name in ("fsync", "fdatasync"):
+        seen[0] += name in SYNCS
+        if seen[0] == failing and name in SYNCS:
             have_failed(pid)
 
     return trace(words, at_result, is_silent=True)
@@ -312,6 +343,7 @@ def write(path, content):
 TESTS = [
     a_group_goes_on_past_the_largest_file_of_format_1,
     a_new_volume_has_the_format_that_is_asked,
+    a_format_that_is_cut_short_leaves_no_other_volume,
     a_volume_of_format_1_is_upgraded_when_it_is_opened,
     an_upgrade_is_one_write_and_one_sync,
     a_sync_that_fails_refuses_the_opening,

@@ -1,14 +1,18 @@
 #!/usr/bin/env python3
-"""System tests of where a server listens and whom it lets in: `serve --listen`, `--allow`. listening.py NEWSD [NAME..]"""
+"""System tests of where a server listens and whom it lets in: `serve --listen`, `--proxied`, `--allow`, `--most-from`.
+
+listening.py NEWSD [NAME..]"""
 import contextlib
 import os
+import re
 import shutil
 import signal
 import socket
 import subprocess
 import sys
+import time
 
-from newsd import GREETING, SECONDS, SERVICE_ENDS, Caller, article, end_with_parent, free_port
+from newsd import ALL_FROM_ONE, GREETING, SECONDS, SERVICE_ENDS, Caller, article, end_with_parent, free_port
 from playing import Skipped, main
 
 DENIED = "502 Access denied"
@@ -23,7 +27,7 @@ def a_server_listens_on_several_endpoints(volume):
     require_ipv6()
     volume.make_group()
     first, second, third, port = (free_port() for _ in range(4))
-    words = ["--listen", "127.0.0.1:%d" % first, "--port", str(port), "--listen", "[::1]:%d" % second, "--listen", "0.0.0.0:%d" % third]
+    words = [*ALL_FROM_ONE, "--listen", "127.0.0.1:%d" % first, "--port", str(port), "--listen", "[::1]:%d" % second, "--listen", "0.0.0.0:%d" % third]
     with serving(volume, words, 4) as (_, said):
         assert said == ["listening 127.0.0.1:%d" % port, "listening 127.0.0.1:%d" % first, "listening [::1]:%d" % second,
                         "listening 0.0.0.0:%d" % third], said
@@ -32,7 +36,7 @@ def a_server_listens_on_several_endpoints(volume):
             assert caller.greeting == GREETING, caller.greeting
             assert caller.post(article(number)) == "240 Article received"
         assert all(caller.ask("GROUP x.a") == "211 4 1 4 x.a" for caller in callers)
-        # the sessions are those of all endpoints
+        # the sessions are those of all endpoints, for which one address may have all
         callers += [Caller(first if number % 2 else third) for number in range(60)]
         assert all(caller.greeting == GREETING for caller in callers)
         late = Caller(second, to="::1")
@@ -68,6 +72,171 @@ def callers_from_the_loopback_networks_are_let_in(volume):
                 assert caller.greeting == GREETING, caller.greeting
 
 
+def an_address_gets_half_of_what_is_free(volume):
+    """So one address never has all sessions, the loopback address neither. An IPv4 address by its IPv6 form is the same."""
+    require_ipv6()
+    port = free_port()
+    with serving(volume, ["--listen", "[::]:%d" % port], 1) as (process, _):
+        callers = []
+        for source, count in (("127.0.0.1", 32), ("127.0.0.2", 16), ("127.9.9.9", 8), ("::1", 4), ("127.0.0.3", 2)):
+            to = "::1" if source == "::1" else "127.0.0.1"
+            callers += [Caller(port, to=to, source=source) for _ in range(count)]
+            assert all(caller.greeting == GREETING for caller in callers), (source, [caller.greeting for caller in callers])
+            assert_refused(port, to, source)
+        assert_refused(port, "::ffff:127.0.0.1", "::ffff:127.0.0.1")
+        # two are free: one for each of two more addresses, and then none
+        callers += [Caller(port, source=source) for source in ("127.0.0.4", "127.0.0.5")]
+        assert all(caller.greeting == GREETING for caller in callers[-2:])
+        assert_refused(port, "127.0.0.1", "127.0.0.6")
+        assert refusals(process) == ["address"] * 6 + ["sessions"]
+        for caller in callers:
+            caller.close()
+
+
+def assert_refused(port, to, source):
+    """A caller from an address gets no session."""
+    with Caller(port, to=to, source=source) as late:
+        assert late.greeting == SERVICE_ENDS and late.has_ended(), (source, late.greeting)
+
+
+def refusals(process):
+    """Why a server refused callers, by its log. It is stopped."""
+    assert_stops(process)
+    found = [re.search(r" event=refused .* why=(\w+) times=(\d+)$", line.decode()) for line in process.stderr]
+    return [cause for line in found if line for cause in [line.group(1)] * int(line.group(2))]
+
+
+def an_address_gets_as_many_as_it_may(volume):
+    for most in (1, 3, 40, 64):
+        with volume.serve(words=["--most-from", str(most)]) as server:
+            sources = ["127.0.0.1", "127.0.0.2"] if most < 32 else ["127.0.0.1"]
+            callers = [Caller(server.port, source=source) for source in sources for _ in range(most)]
+            assert all(caller.greeting == GREETING for caller in callers), most
+            for source in sources:
+                assert_refused(server.port, "127.0.0.1", source)
+            callers.pop(0).close()
+            callers.append(server.greet(10))
+            assert callers[-1].ask("DATE")[:3] == "111"
+            found = refusals(server.process)
+            assert set(found) == {"sessions" if most == 64 else "address"} and len(found) >= len(sources), found
+            for caller in callers:
+                caller.close()
+    for word in ("0", "65", "-1", "x", "", "1.5", "18446744073709551617"):
+        done = volume.run("serve", volume.path, "--port", str(free_port()), "--most-from=" + word)
+        said = "newsd: E14 Bad: --most-from '%s' is no number from 1 to 64\n" % word
+        assert (done.returncode, done.stdout, done.stderr.decode()) == (1, b"", said), (word, done)
+
+
+def proxied(address, port=50412, place="127.0.0.1"):
+    """The line by which a proxy says for whom it connects."""
+    return ("PROXY %s %s %s %d 563\r\n" % ("TCP6" if ":" in address else "TCP4", address, place, port)).encode()
+
+
+@contextlib.contextmanager
+def serving_proxies(volume, *words):
+    """A server with a port for callers and one for proxies."""
+    volume.make_group()
+    port, by_proxy = free_port(), free_port()
+    own = ["--port", str(port), "--proxied", "127.0.0.1:%d" % by_proxy, *words]
+    with serving(volume, own, 2) as (process, said):
+        assert said == ["listening 127.0.0.1:%d" % port, "listening 127.0.0.1:%d" % by_proxy], said
+        yield process, port, by_proxy
+
+
+def who_calls_by_a_proxy_is_judged_by_its_own_address(volume):
+    """Whether it is let in, how many sessions its address has, and what the log calls it."""
+    with serving_proxies(volume, "--allow", "192.0.2.0/24", "--allow", "2001:db8::/32", "--most-from", "2") as (process, port, by_proxy):
+        for address, place, greeting in (
+            ("192.0.2.7", "127.0.0.1", GREETING), ("192.0.2.255", "192.0.2.1", GREETING), ("198.51.100.9", "127.0.0.1", DENIED),
+            ("2001:db8::7", "::1", GREETING), ("2001:db9::7", "::1", DENIED), ("::ffff:192.0.2.8", "::1", GREETING),
+            ("::ffff:198.51.100.9", "::1", DENIED), ("127.0.0.1", "127.0.0.1", GREETING), ("0.0.0.0", "127.0.0.1", DENIED),
+        ):
+            with Caller(by_proxy, first=proxied(address, place=place)) as caller:
+                assert caller.greeting == greeting, (address, caller.greeting)
+                assert greeting == DENIED or caller.ask("QUIT") == "205 Bye", address
+                assert caller.has_ended()
+        # what was sent with the line is answered, however the octets come
+        with Caller(by_proxy, first=proxied("192.0.2.9") + b"DATE\r\nGROUP x.a\r\n") as caller:
+            assert (caller.greeting, caller.line()[:3], caller.line()) == (GREETING, "111", "211 0 1 0 x.a")
+        callers = [slowly(by_proxy, proxied("192.0.2.7")), Caller(by_proxy, first=proxied("192.0.2.7"))]
+        assert [it.greeting for it in callers] == [GREETING] * 2
+        for address, greeting in (("192.0.2.7", SERVICE_ENDS), ("192.0.2.8", GREETING)):
+            callers.append(Caller(by_proxy, first=proxied(address)))
+            assert callers[-1].greeting == greeting, address
+        # a proxy that doesn't say for whom it connects is a caller of its own address, as those are that connect themselves
+        callers += [Caller(port), Caller(by_proxy, first=b"PROXY UNKNOWN\r\n"), Caller(port), Caller(by_proxy, first=b"PROXY UNKNOWN any thing\r\n")]
+        assert [it.greeting for it in callers[-4:]] == [GREETING] * 2 + [SERVICE_ENDS] * 2
+        for caller in callers:
+            caller.close()
+        assert_stops(process)
+        log = [line.decode() for line in process.stderr]
+        found = [re.search(r" event=refused peer=(\S+) why=(\w+) times=1$", line) for line in log]
+        found = [it.groups() for it in found if it]
+        assert found[:3] == [("198.51.100.9:50412", "access"), ("[2001:db9::7]:50412", "access"), ("[::ffff:198.51.100.9]:50412", "access")], log
+        assert ("192.0.2.7:50412", "address") in found, log
+        ended = [line for line in log if " event=end peer=192.0.2.7:50412 " in line]
+        assert len(ended) == 3, log
+
+
+def slowly(port, first):
+    """A caller by a proxy whose line comes octet by octet."""
+    connection = socket.create_connection(("127.0.0.1", port), SECONDS)
+    for octet in first[:-1]:
+        connection.sendall(bytes([octet]))
+        time.sleep(0.002)
+    caller = Caller.__new__(Caller)
+    caller.socket, caller.file = connection, connection.makefile("rb")
+    caller.send(first[-1:])
+    caller.greeting = caller.line()
+    return caller
+
+
+def what_is_no_line_of_a_proxy_ends_the_connection(volume):
+    """Nothing is answered, nothing is posted, and the log says it."""
+    whole = proxied("192.0.2.7")
+    lines = [b"DATE\r\n", b"\r\n", b"\n", whole.lower(), whole[:-2] + b"\n", whole[:-2] + b" \r\n", whole.replace(b"TCP4", b"TCP6"),
+             whole.replace(b"50412", b"65536"), whole.replace(b"50412", b"050412"), whole.replace(b"192.0.2.7", b"192.0.2.300"),
+             b"PROXY TCP4\r\n", b"PROXY UNKNOWN " + 92 * b"x" + b"\r\n", 200 * b"x", b"\x0d\x0a\x0d\x0a\x00\x0d\x0a\x51\x55\x49\x54\x0a",
+             b"POST / HTTP/1.1\r\nHost: 127.0.0.1\r\n\r\nPOST\r\n" + article(1)]
+    with serving_proxies(volume, "--allow", "0.0.0.0/0") as (process, port, by_proxy):
+        for line in lines:
+            with Caller(by_proxy, first=line) as caller:
+                assert caller.greeting == "" and caller.has_ended(), (line, caller.greeting)
+        # the longest line is one, and a part of one is none
+        with Caller(by_proxy, first=b"PROXY UNKNOWN " + 91 * b"x" + b"\r\n") as caller:
+            assert caller.greeting == GREETING and caller.ask("STAT <1@a.example>") == "430 No such article"
+        with socket.create_connection(("127.0.0.1", by_proxy), SECONDS) as part:
+            part.sendall(whole[:-1])
+            part.shutdown(socket.SHUT_WR)
+            assert part.recv(1) == b""
+        assert refusals(process) == ["proxy"] * (len(lines) + 1)
+
+
+def a_proxy_that_says_nothing_is_let_go(volume):
+    """After thirty seconds. Until then such proxies have half of the sessions at most, and the server stops as quickly as ever."""
+    with serving_proxies(volume) as (process, port, by_proxy):
+        began = time.monotonic()
+        silent = [socket.create_connection(("127.0.0.1", by_proxy), 2 * SECONDS) for _ in range(40)]
+        dripping = silent[0]
+        dripping.sendall(b"PROXY ")
+        with Caller(port) as caller:
+            assert caller.greeting == GREETING and caller.ask("DATE")[:3] == "111"
+        said = [it.recv(100) for it in silent[32:]]
+        assert said == [SERVICE_ENDS.encode() + b"\r\n"] * 8, said
+        for _ in range(20):
+            time.sleep(1)
+            dripping.sendall(b"x")
+        assert [it.recv(100) for it in silent[:32]] == [b""] * 32
+        lasted = time.monotonic() - began
+        assert 29 < lasted < 34, lasted
+        late = socket.create_connection(("127.0.0.1", by_proxy), SECONDS)
+        time.sleep(0.1)
+        found = refusals(process)
+        assert found.count("proxy") == 32 and found.count("address") == 8 and found.count("halted") == 1, found
+        for caller in [late, *silent]:
+            caller.close()
+
+
 def words_that_are_no_endpoint_or_network_are_refused(volume):
     good = ["--listen", "127.0.0.1:%d" % free_port()]
     for word in ("127.0.0.1", ":1119", "127.0.0.1:", "127.0.0.1:0", "127.0.0.1:65536", "127.0.0.1:1119x", "127.0.0.1:-1", "1119",
@@ -85,9 +254,20 @@ def words_that_are_no_endpoint_or_network_are_refused(volume):
         assert done.returncode == 2 and done.stdout == b"" and done.stderr, (words, done)
 
 
+def proxies_are_of_the_machine_itself(volume):
+    good = ["--listen", "127.0.0.1:%d" % free_port()]
+    for word in ("192.0.2.1:1563", "0.0.0.0:1563", "[::]:1563", "[2001:db8::1]:1563", "128.0.0.1:1563", "[::ffff:192.0.2.1]:1563", "127.0.0.1",
+                 "1563", "localhost:1563", "", "127.0.0.1:0"):
+        for words in (["--proxied", word], [*good, "--proxied", word]):
+            assert_bad(volume, words, word)
+    for address in ("127.0.0.1", "127.9.9.9"):
+        with serving(volume, ["--proxied", "%s:%d" % (address, free_port())], 1) as (process, _):
+            assert_stops(process)
+
+
 def assert_bad(volume, words, word):
     """The last of these words is outside its grammar."""
-    forms = {"--listen": "ADDRESS:PORT", "--allow": "ADDRESS or ADDRESS/LENGTH"}
+    forms = {"--listen": "ADDRESS:PORT", "--allow": "ADDRESS or ADDRESS/LENGTH", "--proxied": "ADDRESS:PORT of 127.0.0.0/8 or ::1"}
     said = "newsd: E14 Bad: %s '%s' is no %s\n" % (words[-2], word, forms[words[-2]])
     done = volume.run("serve", volume.path, *words)
     assert (done.returncode, done.stdout, done.stderr.decode()) == (1, b"", said), (words, done)
@@ -297,7 +477,13 @@ TESTS = [
     a_server_listens_on_several_endpoints,
     a_server_needs_no_port_where_it_has_an_endpoint,
     callers_from_the_loopback_networks_are_let_in,
+    an_address_gets_half_of_what_is_free,
+    an_address_gets_as_many_as_it_may,
+    who_calls_by_a_proxy_is_judged_by_its_own_address,
+    what_is_no_line_of_a_proxy_ends_the_connection,
+    a_proxy_that_says_nothing_is_let_go,
     words_that_are_no_endpoint_or_network_are_refused,
+    proxies_are_of_the_machine_itself,
     an_endpoint_that_is_taken_is_refused,
     callers_from_elsewhere_are_let_in_where_a_network_holds_them,
     a_caller_that_is_not_let_in_takes_no_session,

@@ -2,6 +2,7 @@
 """System tests of the log of `newsd serve`: the lines of its standard error. logs.py NEWSD [NAME..]"""
 import calendar
 import fcntl
+import itertools
 import os
 import re
 import socket
@@ -14,13 +15,18 @@ import time
 
 from large import BEFORE_HOMES, BLOCK
 from listening import CALLER, DENIED, SERVER, Link, serving
-from newsd import GREETING, GROUP, SERVICE_ENDS, Caller, article, end_with_parent, free_port, message_id, wait_until
+from newsd import ALL_FROM_ONE, GREETING, GROUP, SERVICE_ENDS, Caller, article, end_with_parent, free_port, message_id, wait_until
 from playing import Skipped, main
 from refusals import compile_library
 
 LINE = re.compile(r"time=(\d{4}-\d\d-\d\dT\d\d:\d\d:\d\dZ) event=([a-z]+)((?: [a-z]+=[^ ]+)*)")
 SHORT_SESSIONS = 10000
+# that of its beginning, and that of its end
+LINES_OF_A_SESSION = 2
 CALLERS_AT_ONCE = 8
+REFUSED_CALLERS = 300
+# the lines that wait for the reader of a log, besides those in its pipe
+LINES_KEPT = 1024
 # longer than the server lets a caller be that takes nothing
 SECONDS_OF_A_STALL = 240
 # has each read of the device take a millisecond at least, and a microsecond for each four octets
@@ -46,9 +52,10 @@ class Log:
             pass
 
     def events(self, name=None):
-        """The events of this name as pairs of their name and fields, once each line was looked at."""
+        """The events of this name as pairs of their name and fields, once each line was looked at; without a name, all but the beginnings
+        of sessions."""
         found = [self.event(line) for line in list(self.lines) if not line.startswith("newsd: ")]
-        return [it for it in found if name in (None, it[0])]
+        return [it for it in found if (it[0] == name if name else it[0] != "begin")]
 
     @staticmethod
     def event(line):
@@ -64,8 +71,9 @@ class Log:
         return self.events(name)
 
     def line(self, at):
-        """A line, with the numbers masked that no test knows."""
-        return re.sub(r"time=\S+", "time=T", re.sub(r"peer=127\.0\.0\.1:\d+", "peer=P", self.lines[at].rstrip("\n")))
+        """A line, with the numbers masked that no test knows. Those of the beginnings of sessions don't count."""
+        line = [it for it in self.lines if " event=begin " not in it][at]
+        return re.sub(r"time=\S+", "time=T", re.sub(r"peer=127\.0\.0\.1:\d+", "peer=P", line.rstrip("\n")))
 
 
 class Counting:
@@ -119,6 +127,7 @@ def each_end_of_a_session_is_logged(volume):
         assert one.line() == "437 Article rejected"
         assert one.ask("QUIT") == "205 Bye"
         assert log.wait("end", 1)[0] == ("end", one.ended(1, 11, 2, 2, "quit"))
+        assert log.events("begin") == [("begin", {"peer": one.peer, "session": "1"})], log.lines
         # it closes
         two = Counting(server.port)
         assert two.ask("DATE").startswith("111 ")
@@ -145,20 +154,21 @@ def each_end_of_a_session_is_logged(volume):
         assert log.events("end")[4] == ("end", five.ended(5, 1, 0, 0, "stopped"))
         assert len(log.events()) == 5, log.lines
         assert log.line(0) == ("time=T event=end peer=P session=1 messages=11 taken=2 refused=2 in=%d out=%d why=quit"
-                               % (one.sent, one.got)), log.lines[0]
+                               % (one.sent, one.got)), log.lines
+        assert [fields["session"] for _, fields in log.events("begin")] == ["1", "2", "3", "4", "5"], log.lines
 
 
 def each_refused_caller_is_logged(volume):
     volume.make_group()
-    with volume.serve() as server:
+    with volume.serve(words=ALL_FROM_ONE) as server:
         log = Log(server.process.stderr)
         callers = [server.call() for _ in range(64)]
         at_rest = server.descriptors() - len(callers)
         late = Caller(server.port)
         assert late.greeting == SERVICE_ENDS
         peer = "127.0.0.1:%d" % late.socket.getsockname()[1]
-        assert log.wait("refused", 1) == [("refused", {"peer": peer, "why": "sessions"})]
-        assert log.line(0) == "time=T event=refused peer=P why=sessions", log.lines
+        assert log.wait("refused", 1) == [("refused", {"peer": peer, "why": "sessions", "times": "1"})]
+        assert log.line(0) == "time=T event=refused peer=P why=sessions times=1", log.lines
         for caller in [late, *callers]:
             caller.close()
         log.wait("end", 64)
@@ -171,7 +181,37 @@ def each_refused_caller_is_logged(volume):
             with Caller(server.port) as late:
                 assert late.greeting == SERVICE_ENDS
                 peer = "127.0.0.1:%d" % late.socket.getsockname()[1]
-            assert log.wait("refused", 2)[1] == ("refused", {"peer": peer, "why": "descriptors"})
+            assert log.wait("refused", 2)[1] == ("refused", {"peer": peer, "why": "descriptors", "times": "1"})
+
+
+def refused_callers_are_summed_up(volume):
+    """By address and cause, a line a second. The first line of an address has its first caller's port."""
+    volume.make_group()
+    with volume.serve(words=["--most-from", "1"]) as server:
+        log, start = Log(server.process.stderr), time.monotonic()
+        sources = ("127.0.0.1", "127.0.0.2")
+        callers = [Caller(server.port, source=source) for source in sources]
+        firsts = []
+        for number in range(REFUSED_CALLERS):
+            for source in sources:
+                with Caller(server.port, source=source) as late:
+                    assert late.greeting == SERVICE_ENDS
+                    if number == 0:
+                        firsts.append("%s:%d" % late.socket.getsockname())
+        wait_until(lambda: all(refused_from(log, source) == REFUSED_CALLERS for source in sources), 20)
+        seconds = time.monotonic() - start
+        found = log.events("refused")
+        assert {fields["why"] for _, fields in found} == {"address"}, found
+        assert {first for first in firsts} <= {fields["peer"] for _, fields in found}, (firsts, found)
+        assert len(found) <= len(sources) * (1 + seconds) and not log.events("lost"), (seconds, found)
+        print("  %d refused in %.1f s, %d lines" % (len(sources) * REFUSED_CALLERS, seconds, len(found)), flush=True)
+        for caller in callers:
+            caller.close()
+
+
+def refused_from(log, address):
+    """How many callers of an address were refused, by the log."""
+    return sum(int(fields["times"]) for _, fields in log.events("refused") if fields["peer"].startswith(address + ":"))
 
 
 def a_caller_from_elsewhere_that_is_refused_is_logged(volume):
@@ -180,9 +220,9 @@ def a_caller_from_elsewhere_that_is_refused_is_logged(volume):
         with serving(volume, ["--listen", "0.0.0.0:%d" % port, "--allow", "192.0.2.8"], 1, by=link.by) as (process, _):
             log = Log(process.stderr)
             assert link.asks(link.far, SERVER, port, CALLER, times=3) == [DENIED, ""] * 3
-            for name, fields in log.wait("refused", 3):
-                assert fields["peer"].rpartition(":")[0] == CALLER and fields["why"] == "access", fields
-            assert len(log.events()) == 3, log.lines
+            wait_until(lambda: refused_from(log, CALLER) == 3)
+            assert {fields["why"] for _, fields in log.events("refused")} == {"access"}, log.lines
+            assert len(log.events()) == len(log.events("refused")), log.lines
             process.kill()
             log.reading.join(10)
 
@@ -205,6 +245,9 @@ def a_fault_is_logged(volume):
         log.reading.join(10)
         assert log.lines[-1] == "newsd: E1 Fault: the device failed\n", log.lines
         assert log.events("fault") == [("fault", {})], log.lines
+        # the article that was accepted beside the fault is undone, so it doesn't count as taken
+        ended = [fields for _, fields in log.events("end") if fields["session"] == "1"]
+        assert [(fields["taken"], fields["messages"]) for fields in ended] == [("1", "4")], log.lines
         refused = [fields["why"] for _, fields in log.events("refused")]
         assert set(refused) <= {"halted"}, log.lines
         assert [line for line in log.lines if " event=fault" in line and line.endswith("event=fault\n")], log.lines
@@ -257,15 +300,45 @@ def assert_full_once(log, server):
     assert every - used < 256 and 10 * used < 9 * every, log.lines
 
 
+def what_comes_once_finds_room_in_a_full_log(volume):
+    """The volume fills up and its device fails while nobody reads the log, and there are more lines than it keeps."""
+    small = volume.another("small", blocks=1024, inodes=128)
+    small.make_group()
+    with small.serve(words=ALL_FROM_ONE) as server:
+        fcntl.fcntl(server.process.stderr.fileno(), fcntl.F_SETPIPE_SZ, 4096)
+        for _ in range(LINES_KEPT + 200):
+            call_and_quit(server.port)
+        with server.call() as caller:
+            assert {caller.post(article(number)) for number in range(117)} == {"240 Article received"}
+            server.have_writes_fail()
+            caller.send(b"POST\r\n" + article(117))
+            # after a fault the server waits for another caller
+            wait_until(lambda: is_told_of_the_end(server.port))
+        log = Log(server.process.stderr)
+        assert server.process.wait(20) == 1
+        log.reading.join(10)
+    assert log.events("lost"), len(log.lines)
+    assert len(log.events("full")) == 1 and len(log.events("fault")) == 1, log.events("full") + log.events("fault")
+
+
+def is_told_of_the_end(port):
+    """Whether a caller is told that the service ends, or finds nobody who listens."""
+    try:
+        with Caller(port) as caller:
+            return caller.greeting == SERVICE_ENDS
+    except OSError:
+        return True
+
+
 def a_quiet_log_has_no_ends(volume):
     volume.make_group()
-    with volume.serve(words=["--quiet"]) as server:
+    with volume.serve(words=["--quiet", *ALL_FROM_ONE]) as server:
         log = Log(server.process.stderr)
         for number in range(20):
             with server.call() as caller:
                 assert caller.post(article(number)) == "240 Article received"
                 assert caller.ask("QUIT") == "205 Bye"
-        callers = [server.call() for _ in range(64)]
+        callers = [server.greet(10) for _ in range(64)]
         with Caller(server.port) as late:
             assert late.greeting == SERVICE_ENDS
         for caller in callers:
@@ -274,14 +347,14 @@ def a_quiet_log_has_no_ends(volume):
         assert server.order("stop") == "stopped"
         assert server.process.wait(10) == 0
         log.reading.join(10)
-        assert [name for name, _ in log.events()] == ["refused"], log.lines
+        assert {name for name, _ in log.events()} == {"refused"} and not log.events("begin"), log.lines
 
 
 def a_log_that_nobody_reads_holds_nobody(volume):
     """Short sessions go on, and the operator is answered. What found no room is counted: each session has a line or is one of these."""
     volume.make_group()
-    with volume.serve() as server:
-        left, lock = [SHORT_SESSIONS], threading.Lock()
+    with volume.serve(words=ALL_FROM_ONE) as server:
+        left, refused, lock = [SHORT_SESSIONS], [0], threading.Lock()
 
         def call():
             while True:
@@ -289,9 +362,9 @@ def a_log_that_nobody_reads_holds_nobody(volume):
                     if not left[0]:
                         return
                     left[0] -= 1
-                with Caller(server.port) as caller:
-                    assert caller.greeting == GREETING, caller.greeting
-                    assert caller.ask("QUIT") == "205 Bye"
+                found_no_seat = call_and_quit(server.port)
+                with lock:
+                    refused[0] += found_no_seat
 
         failures = []
 
@@ -313,10 +386,11 @@ def a_log_that_nobody_reads_holds_nobody(volume):
             assert caller.post(article(1)) == "240 Article received"
         assert server.order("group x.b y 1000000000 test") == "3"
         log = Log(server.process.stderr)
-        wait_until(lambda: told(log) >= SHORT_SESSIONS + 1, 20)
+        lines = LINES_OF_A_SESSION * (SHORT_SESSIONS + 1) + refused[0]
+        wait_until(lambda: told(log) >= lines, 20)
         with server.call() as caller:
             assert caller.ask("QUIT") == "205 Bye"
-        wait_until(lambda: told(log) == SHORT_SESSIONS + 2, 20)
+        wait_until(lambda: told(log) == lines + LINES_OF_A_SESSION, 20)
         assert log.events("lost"), len(log.lines)
         print("  %d lines, %s lost" % (len(log.events("end")), [fields["lines"] for _, fields in log.events("lost")]), flush=True)
         sessions = [int(fields["session"]) for _, fields in log.events("end")]
@@ -331,20 +405,17 @@ def a_line_that_cannot_be_written_is_counted(volume):
     os.set_blocking(faults, False)
     port = free_port()
     with open(ends, "rb") as stream:
-        words = [volume.program, "serve", volume.path, "--port", str(port)]
+        words = [volume.program, "serve", volume.path, "--port", str(port), *ALL_FROM_ONE]
         with subprocess.Popen(words, stdin=subprocess.PIPE, stdout=subprocess.PIPE, stderr=faults, preexec_fn=end_with_parent) as process:
             os.close(faults)
             try:
                 assert process.stdout.readline().startswith(b"listening ")
-                for _ in range(200):
-                    with Caller(port) as caller:
-                        assert caller.ask("QUIT") == "205 Bye"
+                lines = sum(LINES_OF_A_SESSION + call_and_quit(port) for _ in range(200))
                 log = Log(stream)
                 wait_until(lambda: log.events("end"))
                 # the next line says how many were lost
-                with Caller(port) as caller:
-                    assert caller.ask("QUIT") == "205 Bye"
-                wait_until(lambda: told(log) == 201)
+                lines += LINES_OF_A_SESSION + call_and_quit(port)
+                wait_until(lambda: told(log) == lines)
                 assert log.events("lost"), log.lines
                 print("  %d lines, %s lost" % (len(log.events("end")), [it["lines"] for _, it in log.events("lost")]), flush=True)
             finally:
@@ -352,9 +423,22 @@ def a_line_that_cannot_be_written_is_counted(volume):
         log.reading.join(10)
 
 
+def call_and_quit(port):
+    """A short session, and how many calls found no seat before it. Seats are their threads', and on a busy machine many threads may
+    still be at the end of a session that is over for its caller."""
+    for refused in itertools.count():
+        with Caller(port) as caller:
+            if caller.greeting == GREETING:
+                assert caller.ask("QUIT") == "205 Bye"
+                return refused
+            assert caller.greeting == SERVICE_ENDS, caller.greeting
+        time.sleep(0.01)
+
+
 def told(log):
-    """The ends of sessions that have a line, and the lines that found no room."""
-    return len(log.events("end")) + sum(int(fields["lines"]) for _, fields in log.events("lost"))
+    """The beginnings and ends of sessions that have a line, the refused callers that are counted by one, and the lines without room."""
+    counted = sum(int(fields["times"]) for _, fields in log.events("refused"))
+    return len(log.events("begin")) + len(log.events("end")) + counted + sum(int(fields["lines"]) for _, fields in log.events("lost"))
 
 
 def a_server_whose_log_nobody_reads_stops(volume):
@@ -466,10 +550,12 @@ def who_takes_nothing_is_logged_as_stalled(volume):
 TESTS = [
     each_end_of_a_session_is_logged,
     each_refused_caller_is_logged,
+    refused_callers_are_summed_up,
     a_caller_from_elsewhere_that_is_refused_is_logged,
     a_fault_is_logged,
     a_nearly_full_volume_is_logged_once,
     a_volume_that_was_nearly_full_is_logged_at_the_start,
+    what_comes_once_finds_room_in_a_full_log,
     a_quiet_log_has_no_ends,
     a_log_that_nobody_reads_holds_nobody,
     a_line_that_cannot_be_written_is_counted,

@@ -1,6 +1,7 @@
 """A server, and its callers, for the system tests and the load program."""
 import ctypes
 import os
+import re
 import resource
 import signal
 import socket
@@ -12,6 +13,8 @@ GROUP = "x.a"
 GREETING = "200 %s ready, posting permitted" % HOST
 SECONDS = 30
 SERVICE_ENDS = "400 Service ends"
+# all sessions may be of callers of one address, which has half of them otherwise
+ALL_FROM_ONE = ["--most-from", "64"]
 # what a file is that holds `no volume`
 NO_SUPERBLOCK = "E3 NotAVolume: the file has 9 octets, fewer than the 4,096 of a superblock"
 # how a server ends whose device has failed
@@ -21,6 +24,8 @@ LIBC = ctypes.CDLL(None)
 SET_PARENT_DEATH_SIGNAL = 1
 LINE_OCTETS = 72
 LOGGED = "time="
+# lines of the log that come beside those that a test asks for
+UNCOUNTED = re.compile(rb" event=(begin|opening) ")
 
 
 def article(number, subject="one", body="hi"):
@@ -176,8 +181,8 @@ class Server:
         return status, "".join(line for line in said if not line.startswith(LOGGED))
 
     def log(self):
-        """The next line of its log."""
-        return self.process.stderr.readline().decode().rstrip("\n")
+        """The next line of its log. Those of the beginnings of sessions and of a slow opening don't count."""
+        return next(line for line in self.process.stderr if not UNCOUNTED.search(line)).decode().rstrip("\n")
 
     def order(self, line):
         """What the operator is answered."""
@@ -188,11 +193,11 @@ class Server:
     def call(self):
         return Caller(self.port)
 
-    def greet(self, seconds):
+    def greet(self, seconds, receive_octets=None):
         """A caller that is greeted. Callers that come too early learn that the service ends."""
         end = time.monotonic() + seconds
         while True:
-            caller = Caller(self.port, seconds=seconds)
+            caller = Caller(self.port, receive_octets, seconds)
             if caller.greeting == GREETING:
                 return caller
             assert caller.greeting == SERVICE_ENDS, caller.greeting
@@ -206,12 +211,21 @@ class Server:
             kilobytes = next(line.split()[1] for line in status if line.startswith(name + ":"))
         return 1024 * int(kilobytes)
 
+    def connections(self, caller):
+        """The rows of the system's table of the server's end of this caller's connection, and of the caller's."""
+        ends = ":%04X" % self.port, ":%04X" % caller.socket.getsockname()[1]
+        with open("/proc/%d/net/tcp" % self.process.pid) as table:
+            rows = [line.split() for line in table][1:]
+        return ([row for row in rows if row[1].endswith(near) and row[2].endswith(far)] for near, far in (ends, ends[::-1]))
+
     def has_established(self, caller):
         """Whether the server's end of this caller's connection is as it was, which the other end may learn late."""
-        ends = ":%04X" % self.port, ":%04X" % caller.socket.getsockname()[1]
-        with open("/proc/%d/net/tcp" % self.process.pid) as connections:
-            rows = [line.split() for line in connections]
-        return any(row[1].endswith(ends[0]) and row[2].endswith(ends[1]) and int(row[3], 16) == ESTABLISHED for row in rows[1:])
+        return any(int(row[3], 16) == ESTABLISHED for row in next(self.connections(caller)))
+
+    def octets_on_the_way(self, caller):
+        """The octets that the server wrote to this caller and the caller hasn't read."""
+        (near,), (far,) = self.connections(caller)
+        return int(near[4].split(":")[0], 16) + int(far[4].split(":")[1], 16)
 
     def processor_seconds(self):
         with open("/proc/%d/stat" % self.process.pid) as stat:
@@ -220,9 +234,9 @@ class Server:
 
 
 class Caller:
-    """A client that reads its greeting when it comes."""
+    """A client that reads its greeting when it comes. A proxy says something first."""
 
-    def __init__(self, port, receive_octets=None, seconds=SECONDS, to="127.0.0.1", source=None):
+    def __init__(self, port, receive_octets=None, seconds=SECONDS, to="127.0.0.1", source=None, first=b""):
         self.socket = socket.socket(socket.AF_INET6 if ":" in to else socket.AF_INET)
         if receive_octets:
             self.socket.setsockopt(socket.SOL_SOCKET, socket.SO_RCVBUF, receive_octets)
@@ -232,6 +246,7 @@ class Caller:
         self.socket.connect((to, port))
         self.socket.setsockopt(socket.IPPROTO_TCP, socket.TCP_NODELAY, 1)
         self.file = self.socket.makefile("rb")
+        self.send(first)
         self.greeting = self.line()
 
     def __enter__(self):

@@ -1,6 +1,8 @@
 #!/usr/bin/env python3
 """System tests of what stands beside the program: docs/OPERATING.md, bin/install and contrib/. operating.py NEWSD [NAME..]"""
+import itertools
 import os
+import pwd
 import re
 import shutil
 import signal
@@ -11,7 +13,8 @@ import sys
 import threading
 import time
 
-from newsd import GREETING, GROUP, HOST, LOGGED, SECONDS, Caller, article, end_with_parent, free_port, wait_until
+from newsd import (GREETING, GROUP, HOST, LOGGED, SECONDS, SERVICE_ENDS, Caller, article, end_with_parent, free_port,
+                   wait_until)
 from playing import Skipped, main
 
 TOP = os.path.dirname(os.path.dirname(os.path.abspath(__file__)))
@@ -22,10 +25,18 @@ TEN = 10
 # they make a volume of the usual size, which a program with checks does slowly
 SECONDS_OF_THE_TEN = 120
 PORT = "1119"
+# where newsd listens for stunnel
+PROXIED = "1563"
 UNITS = "lib/systemd/system"
-INSTALLED = ("bin/newsd", "share/man/man1/newsd.1", UNITS + "/newsd.service", UNITS + "/newsd.socket")
+SETTINGS = "share/doc/newsd"
+PROGRAM, RELAY, MANUAL = "bin/newsd", "lib/newsd/xover", "share/man/man1/newsd.1"
+SERVICE, SOCKET, RELAYING = (UNITS + "/" + name for name in ("newsd.service", "newsd.socket", "newsd-xover.service"))
+CALLERS, TUNNEL = SETTINGS + "/callers.conf", SETTINGS + "/stunnel.conf"
+INSTALLED = (PROGRAM, RELAY, MANUAL, SERVICE, SOCKET, RELAYING, CALLERS, TUNNEL)
 PIPE = "/run/newsd.operator"
 SYSTEMD = "/lib/systemd/systemd"
+# in tenths, as `systemd-analyze security` counts
+MOST_EXPOSED = 15
 
 
 def read(*path):
@@ -47,11 +58,17 @@ def place_of(volume):
     return os.path.dirname(volume.path)
 
 
-def install(volume, prefix, **given):
+def install(volume, *words, **given):
     """Runs bin/install with the built program."""
-    words = [os.path.join(TOP, "bin", "install"), prefix]
+    words = [os.path.join(TOP, "bin", "install"), *words]
     given = {**os.environ, "NEWSD": volume.program, **given}
     return subprocess.run(words, env=given, capture_output=True, text=True, stdin=subprocess.DEVNULL, timeout=SECONDS)
+
+
+def places_named(root):
+    """The prefixes that the installed units name."""
+    return [re.search("^ExecStart=(.*)/%s " % program, read(root, unit), re.MULTILINE)[1]
+            for unit, program in ((SERVICE, PROGRAM), (CALLERS, PROGRAM), (RELAYING, RELAY))]
 
 
 def found_in(folder):
@@ -76,12 +93,18 @@ def the_ten_commands_serve_a_group(volume):
             wait_until(lambda: answers_in(home, "news", "serve.log") == ["listening 127.0.0.1:" + port, "2"], SECONDS)
             with Caller(int(port)) as caller:
                 assert caller.ask("GROUP x.more") == "211 0 1 0 x.more"
+            # a program that rotates the log may cut it
+            log = os.path.join(home, "news", "serve.log")
+            os.truncate(log, 0)
+            subprocess.run(["sh", "-c", "echo more >operator"], cwd=os.path.dirname(log), check=True, timeout=SECONDS)
+            wait_until(lambda: answers_in(log) == ["E14 Bad"], SECONDS)
         finally:
             # the server is of the shell's group of processes
             os.killpg(playing.pid, signal.SIGKILL)
     lines = read(home, "said").splitlines()
-    assert lines[:4] == ["install: " + os.path.join(home, ".local", it) for it in INSTALLED], lines
-    assert lines[4] == "1" and GREETING in lines and "x.test 0 1 y" in lines and lines[-1] == "205 Bye", lines
+    count = len(INSTALLED)
+    assert lines[:count] == ["install: " + os.path.join(home, ".local", it) for it in INSTALLED], lines
+    assert lines[count] == "1" and GREETING in lines and "x.test 0 1 y" in lines and lines[-1] == "205 Bye", lines
 
 
 def a_volume_is_moved_to_a_larger_one(volume):
@@ -120,7 +143,39 @@ def an_installation_is_whole(volume):
         assert files == sorted(INSTALLED), files
     version = subprocess.run([os.path.join(prefix, "bin", "newsd"), "--version"], capture_output=True, text=True, timeout=SECONDS)
     assert version.stdout.startswith("newsd "), version
-    assert "ExecStart=%s/bin/newsd serve " % prefix in read(prefix, INSTALLED[2])
+    assert places_named(prefix) == [prefix] * 3, places_named(prefix)
+
+
+def an_installation_is_staged(volume):
+    """All of it goes below DESTDIR, and the units name the place that the program will have."""
+    place = os.path.join(place_of(volume), "stage")
+    for words, given, prefix in ((["/usr"], {}, "/usr"), ([], {"PREFIX": "/srv/newsd"}, "/srv/newsd"), ([], {}, "/usr/local")):
+        done = install(volume, *words, DESTDIR=place, **given)
+        assert (done.returncode, done.stderr) == (0, ""), done
+        files = [it for it in found_in(place) if os.path.isfile(os.path.join(place, it))]
+        assert files == sorted(os.path.join(prefix[1:], it) for it in INSTALLED), files
+        assert places_named(place + prefix) == [prefix] * 3, places_named(place + prefix)
+        shutil.rmtree(place)
+
+
+def an_installation_is_taken_away(volume):
+    """What it didn't install stays, and a volume beside the program, too."""
+    prefix = os.path.join(place_of(volume), "prefix")
+    install(volume, prefix).check_returncode()
+    os.makedirs(prefix + "/var")
+    shutil.copy(volume.path, prefix + "/var/news.volume")
+    write(os.path.join(prefix, SETTINGS, "mine"), "a setting of mine\n")
+    done = install(volume, "--uninstall", prefix)
+    assert (done.returncode, done.stderr) == (0, ""), done
+    assert done.stdout.splitlines() == ["install: took away " + os.path.join(prefix, it) for it in INSTALLED], done
+    assert [it for it in found_in(prefix) if os.path.isfile(os.path.join(prefix, it))] == [SETTINGS + "/mine", "var/news.volume"]
+    again = install(volume, "--uninstall", prefix)
+    assert (again.returncode, again.stdout, again.stderr) == (0, "", ""), again
+    os.makedirs(os.path.join(prefix, PROGRAM))
+    before = found_in(prefix)
+    refused = install(volume, "--uninstall", prefix)
+    assert (refused.returncode, refused.stdout) == (1, "") and refused.stderr.endswith("/bin/newsd is a folder; nothing was changed\n"), refused
+    assert found_in(prefix) == before
 
 
 def a_refused_installation_changes_nothing(volume):
@@ -146,6 +201,21 @@ def a_refused_installation_changes_nothing(volume):
         assert found_in(place) == before, prefix
 
 
+def an_installation_writes_through_no_link(volume):
+    """What a name led to, at a place or beside it, stays as it is."""
+    place = place_of(volume)
+    prefix, mine = os.path.join(place, "prefix"), place + "/mine"
+    write(mine, "mine\n")
+    for name in INSTALLED:
+        os.makedirs(os.path.dirname(os.path.join(prefix, name)), exist_ok=True)
+        for link in (name, name + ".new"):
+            os.symlink(mine, os.path.join(prefix, link))
+    done = install(volume, prefix)
+    assert (done.returncode, done.stderr, read(mine)) == (0, "", "mine\n"), done
+    assert [it for it in found_in(prefix) if os.path.isfile(os.path.join(prefix, it))] == sorted(INSTALLED), found_in(prefix)
+    assert not any(os.path.islink(os.path.join(prefix, it)) for it in INSTALLED)
+
+
 def a_program_without_a_proof_is_not_installed(volume):
     place = place_of(volume)
     program = place + "/newsd.unproved"
@@ -158,7 +228,7 @@ def a_program_without_a_proof_is_not_installed(volume):
 
 
 def systemd_takes_the_units(volume):
-    """As they are installed, and with contrib/callers.conf."""
+    """As they are installed, and with contrib/callers.conf. The services may do little else than what they have to."""
     program = shutil.which("systemd-analyze")
     if program is None:
         raise Skipped("systemd-analyze isn't installed")
@@ -168,10 +238,45 @@ def systemd_takes_the_units(volume):
     for has_callers in (False, True):
         if has_callers:
             os.mkdir(more)
-            write(more + "/callers.conf", read(TOP, "contrib", "callers.conf").replace("/usr/local", prefix))
-        words = [program, "verify", "--man=no", *(os.path.join(prefix, it) for it in INSTALLED[2:])]
+            shutil.copy(os.path.join(prefix, CALLERS), more)
+        words = [program, "verify", "--man=no", *(os.path.join(prefix, it) for it in (SERVICE, SOCKET, RELAYING))]
         done = subprocess.run(words, capture_output=True, text=True, timeout=SECONDS)
         assert (done.returncode, done.stdout, done.stderr) == (0, "", ""), done
+    for name in (SERVICE, RELAYING):
+        words = [program, "security", "--offline=true", "--threshold=%d" % MOST_EXPOSED, os.path.join(prefix, name)]
+        done = subprocess.run(words, capture_output=True, text=True, timeout=SECONDS)
+        assert done.returncode == 0 or "Unknown" in done.stderr or "unrecognized" in done.stderr, done
+
+
+def the_units_of_a_night_are_of_use(volume):
+    """Those that stand on the page. systemd takes them, and their commands of newsd can be run one after the other."""
+    units = {name: unit_of_the_page(name) for name in ("newsd-night.service", "newsd-night.timer")}
+    commands = re.findall("^ExecStart=runuser -u newsd -- newsd (.*)$", units["newsd-night.service"], re.MULTILINE)
+    assert [command.split()[0] for command in commands] == ["expire", "renew"], commands
+    volume.make_group()
+    for command in commands:
+        done = volume.run(*(volume.path if word == "/var/lib/newsd/news.volume" else word for word in command.split()))
+        assert (done.returncode, done.stderr) == (0, b""), (command, done)
+    program = shutil.which("systemd-analyze")
+    if program is None:
+        raise Skipped("systemd-analyze isn't installed")
+    folder = os.path.join(place_of(volume), "units")
+    os.mkdir(folder)
+    for name in ("newsd.service", "newsd.socket"):
+        write(os.path.join(folder, name), read(TOP, "contrib", name).replace("/usr/local/bin/newsd", volume.program))
+    for name, text in units.items():
+        write(os.path.join(folder, name), text)
+    words = [program, "verify", "--man=no", *(os.path.join(folder, name) for name in units)]
+    done = subprocess.run(words, capture_output=True, text=True, timeout=SECONDS)
+    assert (done.returncode, done.stdout, done.stderr) == (0, "", ""), done
+
+
+def unit_of_the_page(name):
+    """A unit that stands on the page, below its place."""
+    lines = read(PAGE).splitlines()
+    first = lines.index("    # /etc/systemd/system/" + name) + 1
+    text = itertools.takewhile(lambda line: not line or line.startswith("    ") and "# /etc/" not in line, lines[first:])
+    return "".join(line[4:] + "\n" for line in text)
 
 
 def setting(name, *path):
@@ -206,9 +311,11 @@ def the_units_commands_serve_until_they_are_told_to_end(volume):
             assert caller.post(article(2)) == "240 Article received"
             # as systemd does, it takes note of the end at once
             threading.Thread(target=serving.wait, daemon=True).start()
+            # what somebody left in the pipe without a line end
+            os.write(held, b"group x.b y")
             stopped = stop_by_the_unit(pipe, serving.pid)
             assert (stopped.returncode, stopped.stdout, stopped.stderr) == (0, b"", b""), stopped
-            assert (serving.stdout.readline(), serving.wait(SECONDS)) == ("stopped\n", 0)
+            assert [serving.stdout.readline() for _ in range(2)] == ["E14 Bad\n", "stopped\n"] and serving.wait(SECONDS) == 0
         # it has ended by itself
         stopped = stop_by_the_unit(pipe, None)
         assert (stopped.returncode, stopped.stdout, stopped.stderr) == (0, b"", b""), stopped
@@ -221,8 +328,8 @@ def stop_by_the_unit(pipe, process):
     """Runs the command that the unit has for a stop of this process, or of one that has ended."""
     line = setting("ExecStop", "newsd.service")
     assert line.startswith("/bin/sh -c '") and line.endswith("'") and line.count(PIPE) == 1, line
-    # $$ is a $ of the shell's
-    script = line[len("/bin/sh -c '"):-1].replace("$$", "$").replace(PIPE, pipe)
+    # for systemd $$ is one $, and two \ are one
+    script = line[len("/bin/sh -c '"):-1].replace("$$", "$").replace("\\\\", "\\").replace(PIPE, pipe)
     given = {"PATH": os.environ["PATH"], **({} if process is None else {"MAINPID": str(process)})}
     return subprocess.run(["/bin/sh", "-c", script], env=given, capture_output=True, timeout=SECONDS)
 
@@ -274,7 +381,8 @@ def systemd_runs_the_units(volume):
     # the server that was killed is started again, and after a stop in order none for the line that was left
     listening = "listening 127.0.0.1:" + port
     status = next(line for line in said if line.startswith("host "))
-    first, last = [listening, "2", "stopped", listening, listening, "E11 Exists"], [listening, status, "stopped"]
+    # each stop by the unit begins with a line end, which is no line of an operator's
+    first, last = [listening, "2", "E14 Bad", "stopped", listening, listening, "E11 Exists"], [listening, status, "E14 Bad", "stopped"]
     assert said in ([*first, *["stopped"] * answered, *last] for answered in (1, 2)), said
     assert volume.dump() == ["spool 2", "1 group x.a y", "2 group x.b y"]
 
@@ -297,7 +405,8 @@ def is_removed(group):
 # what a systemd of the user's kind doesn't have, or not for each user
 SYSTEMS_OWN = {"User", "Group", "SocketUser", "SocketGroup", "CapabilityBoundingSet", "PrivateDevices", "ProtectSystem", "ReadWritePaths",
                "ProtectHome", "PrivateTmp", "ProtectKernelTunables", "ProtectKernelModules", "ProtectControlGroups", "IPAddressDeny",
-               "IPAddressAllow"}
+               "IPAddressAllow", "ProtectClock", "ProtectHostname", "ProtectKernelLogs", "ProtectProc", "PrivateMounts", "PrivateUsers",
+               "RemoveIPC", "MemoryMax"}
 PLAY = r"""
 mount -t tmpfs tmpfs /run && mkdir -p /run/systemd/system /run/user/0 || { echo no systemd; exit; }
 export XDG_RUNTIME_DIR=/run/user/0 XDG_CONFIG_HOME="$1/config" HOME="$1"
@@ -345,12 +454,16 @@ def readers_elsewhere_come_by_tls(volume):
     place = place_of(volume)
     certificate, reader = (certify(place, name) for name in ("newsd", "reader"))
     volume.make_group()
-    with volume.serve() as server:
+    by_proxy = free_port()
+    with volume.serve(words=["--proxied", "127.0.0.1:%d" % by_proxy, "--most-from", "1"]) as server:
+        assert server.process.stdout.readline().decode() == "listening 127.0.0.1:%d\n" % by_proxy
         with server.call() as caller:
             assert caller.post(article(1)) == "240 Article received"
-        with Tunnel(place, server.port, certificate) as tunnel:
-            assert read_by_tls(tunnel.port, certificate) == [GREETING, "211 1 1 1 " + GROUP, "220 1 <1@a.example>"]
-        with Tunnel(place, server.port, certificate, readers=reader) as tunnel:
+            with Tunnel(place, by_proxy, certificate) as tunnel:
+                # a caller of another address, and one of the address that has its session already
+                assert read_by_tls(tunnel.port, certificate, source="127.0.0.2") == [GREETING, "211 1 1 1 " + GROUP, "220 1 <1@a.example>"]
+                assert read_by_tls(tunnel.port, certificate, asks=()) == [SERVICE_ENDS]
+        with Tunnel(place, by_proxy, certificate, readers=reader) as tunnel:
             assert read_by_tls(tunnel.port, certificate, reader)[0] == GREETING
             for shown in (None, certificate):
                 try:
@@ -373,6 +486,13 @@ def certify(place, name):
     return path
 
 
+def has_user(name):
+    try:
+        return bool(pwd.getpwnam(name))
+    except KeyError:
+        return False
+
+
 class Tunnel:
     """stunnel by contrib/stunnel.conf, with the places of the test."""
 
@@ -382,8 +502,10 @@ class Tunnel:
             raise Skipped("stunnel isn't installed")
         self.port = free_port()
         settings = read(TOP, "contrib", "stunnel.conf")
-        changed = [("accept = 563", "accept = 127.0.0.1:%d" % self.port), ("127.0.0.1:" + PORT, "127.0.0.1:%d" % port),
+        changed = [("accept = 563", "accept = 127.0.0.1:%d" % self.port), ("127.0.0.1:" + PROXIED, "127.0.0.1:%d" % port),
                    ("/etc/stunnel/newsd.pem", certificate)]
+        if os.getuid() or not has_user("stunnel4"):
+            changed += [("\nsetuid = stunnel4\nsetgid = stunnel4\n", "\n")]
         if readers:
             changed += [(";verifyPeer", "verifyPeer"), (";CAfile", "CAfile"), ("/etc/stunnel/readers.pem", readers + ".crt")]
         for before, after in changed:
@@ -409,18 +531,18 @@ class Tunnel:
             return probe.connect_ex(("127.0.0.1", self.port)) == 0
 
 
-def read_by_tls(port, trusted, shown=None):
-    """The first lines of the replies that a reader gets, which shows this certificate."""
+def read_by_tls(port, trusted, shown=None, source="127.0.0.1", asks=("GROUP " + GROUP, "ARTICLE 1")):
+    """The greeting and the first lines of the replies that a reader from this address gets, which shows this certificate."""
     context = ssl.create_default_context(cafile=trusted + ".crt")
     if shown:
         context.load_cert_chain(shown)
-    with socket.create_connection(("127.0.0.1", port), SECONDS) as plain:
+    with socket.create_connection(("127.0.0.1", port), SECONDS, (source, 0)) as plain:
         with context.wrap_socket(plain, server_hostname="news.example") as caller, caller.makefile("rwb") as lines:
-            said = []
-            for asked in ("GROUP " + GROUP, "ARTICLE 1", "QUIT"):
-                said.append(lines.readline().decode().rstrip("\r\n"))
+            said = [lines.readline().decode().rstrip("\r\n")]
+            for asked in asks:
                 lines.write(asked.encode() + b"\r\n")
                 lines.flush()
+                said.append(lines.readline().decode().rstrip("\r\n"))
             return said
 
 
@@ -428,9 +550,13 @@ TESTS = [
     the_ten_commands_serve_a_group,
     a_volume_is_moved_to_a_larger_one,
     an_installation_is_whole,
+    an_installation_is_staged,
+    an_installation_is_taken_away,
     a_refused_installation_changes_nothing,
+    an_installation_writes_through_no_link,
     a_program_without_a_proof_is_not_installed,
     systemd_takes_the_units,
+    the_units_of_a_night_are_of_use,
     the_units_commands_serve_until_they_are_told_to_end,
     systemd_runs_the_units,
     readers_elsewhere_come_by_tls,

@@ -1,5 +1,5 @@
 #!/usr/bin/env python3
-"""System tests of `newsd status`, and of the lines `status` and `stop` that a server's operator sends. orders.py NEWSD [NAME..]"""
+"""System tests of `newsd status`, and of the lines `status`, `sessions`, `drop` and `stop` of an operator. orders.py NEWSD [NAME..]"""
 import json
 import os
 import re
@@ -11,8 +11,9 @@ import sys
 import threading
 import time
 
+from logs import Log
 from newsd import (
-    FAULT, GROUP, HOST, NO_SUPERBLOCK, SECONDS, SERVICE_ENDS, Caller, article, end_with_parent, free_port, message_id, octets,
+    FAULT, GREETING, GROUP, HOST, NO_SUPERBLOCK, SECONDS, SERVICE_ENDS, Caller, article, end_with_parent, free_port, message_id, octets,
     settled_octets, wait_until)
 from playing import Skipped, main
 
@@ -30,9 +31,9 @@ CALLERS_AT_A_STOP = 8
 LINES_AT_A_STOP = 2500
 # the number of a user who may do nothing
 NOBODY = 65534
-LINE = re.compile(r"host (\S+) format (\d+) blocks (\d+) of (\d+) inodes (\d+) of (\d+) sessions (\d+) accepted (\d+) durable (\d+)"
-                  r" batches (\d+) syncs (\d+)")
-NAMES = "host format blocks blocks_all inodes inodes_all sessions accepted durable batches syncs".split()
+LINE = re.compile(r"host (\S+) format (\d+) blocks (\d+) of (\d+) inodes (\d+) of (\d+) sessions (\d+) idle (\d+) sending (\d+) held (\d+)"
+                  r" accepted (\d+) durable (\d+) batches (\d+) syncs (\d+)")
+NAMES = "host format blocks blocks_all inodes inodes_all sessions idle sending held accepted durable batches syncs".split()
 
 
 def the_status_is_that_of_the_files(volume):
@@ -237,6 +238,56 @@ def an_operator_asks_for_the_status(volume):
         assert server.end() == (0, "")
     seen = json.loads(volume.run("status", volume.path, "--json").stdout)
     assert (seen["blocks"]["used"], seen["inodes"]["used"], seen["changes"]) == (last["blocks"], last["inodes"], 22), (seen, last)
+
+
+def an_operator_sees_the_sessions_and_ends_them(volume):
+    volume.make_group()
+    with volume.serve() as server:
+        log = Log(server.process.stderr)
+        assert listed(server) == []
+        idle, sending, other = server.call(), server.call(), Caller(server.port, source="127.0.0.2")
+        assert idle.post(article(1)) == "240 Article received"
+        # an article counts once the next message has come
+        date = idle.ask("DATE")
+        assert sending.ask("POST").startswith("340 ")
+        wait_until(lambda: [it["state"] for it in listed(server)] == ["idle", "sending", "idle"])
+        got = sum(len(line + "\r\n") for line in (GREETING, "340 Send article", "240 Article received", date))
+        wait_until(lambda: listed(server)[0]["out"] == got)
+        one, two, three = listed(server)
+        assert (one["messages"], one["taken"], one["refused"], one["in"]) == (3, 1, 0, len(b"POST\r\nDATE\r\n" + article(1))), one
+        assert one["peer"] == "127.0.0.1:%d" % idle.socket.getsockname()[1] and three["peer"].startswith("127.0.0.2:"), (one, three)
+        assert abs(one["since"] - time.time()) < SECONDS and one["silent"] < SECONDS, one
+        now = asked(server)
+        assert (now["sessions"], now["idle"], now["sending"], now["held"]) == (3, 2, 1, 0), now
+        # by number; that session's article is left out, and its number is gone
+        assert server.order("drop %d" % two["session"]) == "dropped 1"
+        assert sending.has_ended()
+        wait_until(lambda: len(listed(server)) == 2)
+        assert server.order("drop %d" % two["session"]) == "E12 NotFound"
+        # by address
+        assert server.order("drop 127.0.0.2") == "dropped 1" and other.has_ended()
+        assert server.order("drop 192.0.2.0/24") == "E12 NotFound"
+        for line in ("drop", "drop ", "drop x", "drop 1 2", "drop 127.0.0.1:9", "drop -1", "sessions 1", "Sessions"):
+            assert server.order(line) == "E14 Bad", line
+        assert idle.ask("STAT <1@a.example>").startswith("223 ")
+        assert server.order("drop 127.0.0.0/8") == "dropped 1" and idle.has_ended()
+        assert {fields["why"] for _, fields in log.wait("end", 3)} == {"dropped"}, log.lines
+        # the seats are free again
+        wait_until(lambda: asked(server)["sessions"] == 0)
+        with server.call() as caller:
+            assert caller.ask("STAT <1@a.example>").startswith("223 ")
+        assert server.order("stop") == "stopped"
+
+
+def listed(server):
+    """The sessions that a server lists, as names and values."""
+    found, line = [], server.order("sessions")
+    while line.startswith("session "):
+        words = line.split()
+        found.append({name: value if name in ("peer", "state") else int(value) for name, value in zip(words[::2], words[1::2])})
+        line = server.process.stdout.readline().decode().rstrip("\n")
+    assert line == "sessions %d" % len(found), line
+    return found
 
 
 def asked(server):
@@ -457,6 +508,7 @@ TESTS = [
     what_has_no_status_is_refused,
     a_file_that_may_not_be_opened_is_named_so,
     an_operator_asks_for_the_status,
+    an_operator_sees_the_sessions_and_ends_them,
     a_server_that_is_told_to_stop_ends_in_order,
     a_stop_beside_posters_keeps_all_that_was_accepted,
     a_signal_beside_posters_loses_nothing_acknowledged,

@@ -1,7 +1,10 @@
 #!/usr/bin/env python3
-"""Checks of the pages: links, named files, the columns of lines, pictures, the rows of crates, and the list of what has to be believed.
-They need no program.
+"""Checks of the pages: links, named files, the columns of lines, pictures, the rows of crates, the names of contracts, of crates and of code,
+counts, the version, and the list of what has to be believed. Then each check is shown a page with something false in it, and has to find
+that. They need no program.
 pages.py [NEWSD [NAME..]]"""
+import ast
+import functools
 import os
 import re
 import subprocess
@@ -9,6 +12,11 @@ import sys
 import time
 
 TOP = os.path.dirname(os.path.dirname(os.path.abspath(__file__)))
+sys.dont_write_bytecode = True
+sys.path.insert(0, os.path.join(TOP, "bench", "modules"))
+from edits import functions_of  # noqa: E402
+from graph import Graph  # noqa: E402
+
 COLUMNS = 140
 # what builds make, and what isn't of the repository
 APART = {".git", "out"}
@@ -39,7 +47,13 @@ NAMES = {os.path.basename(it) for it in FILES}
 PAGES = sorted(it for it in FILES if it.endswith(".md") and not it.startswith("crates/"))
 
 
+# pages with something false in them, which the checks read in place of the files
+PLANTED = {}
+
+
 def read(page):
+    if page in PLANTED:
+        return PLANTED[page]
     with open(os.path.join(TOP, page)) as file:
         return file.read()
 
@@ -148,8 +162,241 @@ def promises_go_by_the_layers():
         yield "docs/PROMISES.md: no row for %s" % crate
 
 
-TESTS = [each_link_leads_somewhere, each_named_file_is_there, no_line_is_too_long, pictures_are_what_their_scripts_draw,
-         theorem_lists_what_has_to_be_believed, promises_go_by_the_layers]
+QUOTED = re.compile(r"`([^`]+)`")
+# a name of code: of a function, a method, a clause, a type or a definition
+OF_CODE = re.compile(r"(?:[A-Za-z_]\w*::)*[A-Za-z_][\w-]*")
+CLAUSE = re.compile(r"^ *(?:requires|ensures|ghost) (\w+)(?: \{|: | = )", re.MULTILINE)
+TYPE = re.compile(r"^(?:pub(?:\([a-z]+\))? )?(?:struct|enum|trait|type|const) (\w+)", re.MULTILINE)
+DEFINITION = re.compile(r"^(?:(?:pub|abbrev|opaque|unfoldable|record|data) )+([^\s:({]+)", re.MULTILINE)
+WORD = re.compile(r"\w+")
+
+
+@functools.lru_cache(maxsize=None)
+def texts_of(crate, folder, ending):
+    """The files of a folder of a crate, each with its text."""
+    paths = []
+    for at, _, names in os.walk(os.path.join(TOP, "crates", crate, folder)):
+        paths += [os.path.relpath(os.path.join(at, it), TOP) for it in names if it.endswith(ending)]
+    return [(it, read(it)) for it in sorted(paths)]
+
+
+@functools.lru_cache(maxsize=None)
+def names_in(crate):
+    """What a contract of a crate may be called: its functions, each also behind its type, its clauses, types and definitions."""
+    found = set()
+    for path, text in texts_of(crate, "src", ".rt"):
+        found.update(CLAUSE.findall(text), TYPE.findall(text))
+        for function in functions_of(path, text):
+            found.add(function.name)
+            found.update("%s::%s" % (owner, function.name) for owner in TYPE_NAME.findall(function.owner or ""))
+    for _, text in texts_of(crate, "specs", ".antt") + texts_of(crate, "proofs", ".antt"):
+        found.update(DEFINITION.findall(text))
+    return found
+
+
+# `WCacheDisk` is the trait `Disk` of `WCache`
+TYPE_NAME = re.compile(r"\w+")
+
+
+# a crate that fulfils a trait has its calls
+OF_TRAIT = re.compile(r"the trait `(\w+)`")
+
+
+@functools.lru_cache(maxsize=None)
+def names_of_trait(name):
+    return set().union({name}, *(names_in(it) for it in CRATES if any("\npub trait %s" % name in text for _, text in texts_of(it, "src", ".rt"))))
+
+
+def cells_of(line):
+    return [it.strip() for it in re.split(r" ?\| ?", line.strip())[1:-1]]
+
+
+def contracts_are_of_their_crates():
+    for number, line in enumerate(read("docs/PROMISES.md").splitlines(), 1):
+        row = ROW.match(line)
+        crates = [it for it in row[1].split(", ") if it in CRATES] if row else []
+        cell = cells_of(line)[2] if crates else ""
+        known = set().union(*map(names_in, crates), *map(names_of_trait, OF_TRAIT.findall(cell)))
+        for name in QUOTED.findall(cell):
+            if "/" not in name and name not in known:
+                yield "docs/PROMISES.md:%d: %s has nothing that is called %s" % (number, row[1], name)
+
+
+# where a page has the name of a crate: after a name of code in brackets, after the word, and as the first or second cell of a row
+NAMED_CRATES = [re.compile(r"` \(([a-z_]+)\)"), re.compile(r"`[\w:]+` in ([a-z_]+)\)"), re.compile(r"(?<!within the )\bcrates? `([a-z_]+)`"),
+                re.compile(r"`((?:test|bench)_[a-z_]+)`")]
+# the crates of a step in the picture of a post
+OF_STEP = re.compile(r'<text [^>]*font-size="11.5"[^>]*>([a-z_]+(?:, [a-z_]+)*)</text>')
+
+
+def each_named_crate_is_there():
+    for page in PAGES:
+        for number, line in enumerate(read(page).splitlines(), 1):
+            for name in {it for pattern in NAMED_CRATES for it in pattern.findall(line)} - CRATES:
+                if name not in {word for crate in CRATES if crate.startswith("test_") for word in names_in(crate)}:
+                    yield "%s:%d: no crate has the name %s" % (page, number, name)
+    for number, line in enumerate(read("docs/ARCHITECTURE.md").splitlines(), 1):
+        cells = cells_of(line) if line.startswith("| ") and "/src/" in line + "/specs/" else []
+        for name in re.split(r"[,;] ", cells[1]) if len(cells) == 3 and "`" not in cells[1] else ():
+            if name not in CRATES and name != "Crate":
+                yield "docs/ARCHITECTURE.md:%d: no crate has the name %s" % (number, name)
+    for names in OF_STEP.findall(read("docs/pictures/post.svg")):
+        for name in set(names.split(", ")) - CRATES:
+            yield "docs/pictures/post.svg: no crate has the name %s" % name
+
+
+EDITS_OF = re.compile(r"\| ([a-z_]+) \| ((?:`[\w]+\.\w+`(?:, )?)+) \|")
+
+
+def each_named_edit_is_there():
+    for number, line in enumerate(read("docs/THEOREM.md").splitlines(), 1):
+        row = EDITS_OF.match(line)
+        for name in QUOTED.findall(row[2]) if row else ():
+            if "crates/%s/must-fail/%s.edit" % (row[1], name) not in FILES:
+                yield "docs/THEOREM.md:%d: %s has no edit %s" % (number, row[1], name)
+
+
+# names of the toolchain's libraries and of systemd, of which the pages say why no code has them
+OF_OTHERS = {"lines_with_terminator", "trim_with", "split_str", "EXTEND_TIMEOUT_USEC"}
+
+
+@functools.lru_cache(maxsize=None)
+def words_of_code():
+    """The words of all that is no page."""
+    endings = (".rt", ".antt", ".py", ".c", ".service", ".socket", ".conf", ".txt", ".tsv", "stdin", "stdout")
+    is_code = [it for it in FILES if it.endswith(endings) or it.startswith(("bin/", "bench/")) and "." not in os.path.basename(it)]
+    names = {word for it in FILES for word in os.path.basename(it).split(".")}
+    return names.union(OF_OTHERS, *(WORD.findall(read(it)) for it in sorted(is_code) if it != "tests/pages.py"))
+
+
+def each_name_of_code_is_there():
+    """A name with _ or :: in it is one of the code's. That of an edit begins with the name of what it changes."""
+    known = words_of_code()
+    for page in PAGES:
+        for number, line in enumerate(without_code(read(page)).splitlines(), 1):
+            for name in QUOTED.findall(line):
+                if OF_CODE.fullmatch(name) and ("_" in name or "::" in name):
+                    for word in set(re.split(r"::|-", name)) - known:
+                        yield "%s:%d: nothing has the name %s" % (page, number, word)
+
+
+@functools.lru_cache(maxsize=None)
+def system_tests():
+    """How many tests the files of tests/ have: the elements of their lists, and the scripts of tests/refusals.py."""
+    count = 0
+    for path in (it for it in FILES if re.fullmatch(r"tests/\w+\.py", it)):
+        for part in (it for it in ast.parse(read(path)).body if isinstance(it, ast.Assign) and isinstance(it.targets[0], ast.Name)):
+            name, value = part.targets[0].id, part.value
+            if name in ("TESTS", "LONG_ONES", "CHECKS") and isinstance(value, ast.List):
+                count += sum(not isinstance(it, ast.Starred) for it in value.elts)
+            elif isinstance(value, ast.Dict) and (name == "TESTS" or (path, name) == ("tests/refusals.py", "SCRIPTS")):
+                count += sum(it is not None for it in value.keys)
+    return count
+
+
+def rows_of(path, beginning="== "):
+    return sum(line.startswith(beginning) for line in read(path).splitlines())
+
+
+def damages(is_sound):
+    """The rows of damaged file systems whose last check says so, or that they are sound."""
+    rows = re.split(r"^== ", read("crates/test_files/stdout"), flags=re.MULTILINE)
+    return sum(it.startswith("damage: ") and (it.split()[-1] == "sound") == is_sound for it in rows)
+
+
+def edits():
+    return sum(it.endswith(".edit") for it in FILES)
+
+
+def product():
+    return len(Graph(TOP).below(["newsd"]))
+
+
+def room_of_an_overview():
+    return int(re.search(r"OVERVIEW_ROOM: u32 = ([\d_]+);", read("crates/reporting/src/state.rt"))[1])
+
+
+# a page, where it has a count, and what the count has to be
+COUNTS = [
+    ("docs/PROMISES.md", r"(\d+) scripts and lists of words", lambda: rows_of("crates/test_program/stdin")),
+    ("docs/PROMISES.md", r"(\d+) damaged volumes and", lambda: damages(False)),
+    ("docs/PROMISES.md", r"damaged volumes and (\d+) sound ones", lambda: damages(True)),
+    ("docs/GATE.md", r"the program and the (\d+) crates", lambda: product() - 1),
+    ("docs/GATE.md", r"the (\d+) edits of `must-fail/`", lambda: sum("/must-fail/" in it for it in FILES)),
+    ("docs/FORMATS.md", r"in per cent of ([\d,]+)", lambda: room_of_an_overview()),
+    ("docs/FORMATS.md", r'"room":(\d+)', lambda: room_of_an_overview()),
+    ("docs/newsd.1", r"in per cent of (\d+)", lambda: room_of_an_overview()),
+    ("CHANGELOG.md", r"in per cent of ([\d,]+)", lambda: room_of_an_overview()),
+    ("README.md", r"([\d,]+) system tests", lambda: system_tests()),
+    ("README.md", r"([\d,]+) wrong bodies", lambda: edits()),
+]
+
+
+def counts_are_those_of_the_tests():
+    for page, pattern, count in COUNTS:
+        found = re.findall(pattern, read(page))
+        if [int(it.replace(",", "")) for it in found] != [count()]:
+            yield "%s: %s: it says %s, and there are %d" % (page, pattern, ", ".join(found) or "nothing", count())
+
+
+VERSION = re.compile(r'^pub const VERSION: &str = "(.*)";$', re.MULTILINE)
+# the first heading with a version
+RELEASE = re.compile(r"^## \[(.*?)\](?: - (\d{4}-\d\d-\d\d))?$", re.MULTILINE)
+
+
+def the_changelog_has_the_version():
+    """Between releases the version ends in -dev, and the first heading is [Unreleased]."""
+    version, (heading, date) = VERSION.findall(read("crates/command_table/src/syntax.rt"))[0], RELEASE.findall(read("CHANGELOG.md"))[0]
+    wanted = ("Unreleased", "") if version.endswith("-dev") else (version, date or "a date")
+    if (heading, date) != wanted:
+        yield "CHANGELOG.md: the version is %s, and the first heading [%s] %s" % (version, heading, date)
+
+
+CHECKS = [each_link_leads_somewhere, each_named_file_is_there, no_line_is_too_long, pictures_are_what_their_scripts_draw,
+          theorem_lists_what_has_to_be_believed, promises_go_by_the_layers, contracts_are_of_their_crates, each_named_crate_is_there,
+          each_named_edit_is_there, each_name_of_code_is_there, counts_are_those_of_the_tests, the_changelog_has_the_version]
+# a check, a page, a text that stands there once, and something false in its place
+FALSE = [
+    (each_link_leads_somewhere, "README.md", "](docs/GLOSSARY.md)", "](docs/GLOSSARIES.md)"),
+    (each_named_file_is_there, "docs/THEOREM.md", "`synchrony/specs/Service.antt`", "`synchrony/specs/Services.antt`"),
+    (no_line_is_too_long, "docs/GATE.md", "# The gate\n", "# The gate\n" + 141 * "x" + "\n"),
+    (promises_go_by_the_layers, "docs/PROMISES.md", "\n| memdisk | ", "\n| memdiskette | "),
+    (contracts_are_of_their_crates, "docs/PROMISES.md", "`MemDisk::new`", "`MemDisk::now`"),
+    (contracts_are_of_their_crates, "docs/PROMISES.md", "`is_group_name`", "`is_a_group_name`"),
+    (contracts_are_of_their_crates, "docs/PROMISES.md", "`FileDisk::open`", "`FileError::open`"),
+    (each_named_crate_is_there, "docs/THEOREM.md", "`World::step` (world)", "`World::step` (worlds)"),
+    (each_named_crate_is_there, "docs/ARCHITECTURE.md", "| filedisk | `filedisk/src/lib.rt`", "| filedisc | `filedisk/src/lib.rt`"),
+    (each_named_crate_is_there, "docs/pictures/post.svg", "seats, outbox<", "seat, outbox<"),
+    (each_named_crate_is_there, "tests/README.md", "| `test_model` |", "| `test_models` |"),
+    (each_named_edit_is_there, "docs/THEOREM.md", "`happen.told_does_nothing`", "`happen.told_does_something`"),
+    (each_name_of_code_is_there, "docs/ARCHITECTURE.md", "`write_home`", "`write_to_home`"),
+    (counts_are_those_of_the_tests, "docs/PROMISES.md", " scripts and lists of words", "0 scripts and lists of words"),
+    (counts_are_those_of_the_tests, "docs/PROMISES.md", " damaged volumes and", "0 damaged volumes and"),
+    (counts_are_those_of_the_tests, "docs/PROMISES.md", " sound ones", "0 sound ones"),
+    (counts_are_those_of_the_tests, "docs/newsd.1", "in per cent of ", "in per cent of 1"),
+    (counts_are_those_of_the_tests, "README.md", " system tests", "0 system tests"),
+    (the_changelog_has_the_version, "CHANGELOG.md", "\n## [", "\n## [1"),
+]
+
+
+def what_is_false_is_found():
+    """Each of the false texts, in its page, has its check say more than it says of the page as it is."""
+    said = {check: list(check()) for check in {row[0] for row in FALSE}}
+    for check, page, old, new in FALSE:
+        text, before = read(page), said[check]
+        if old not in text:
+            yield "tests/pages.py: %s doesn't have %r" % (page, old)
+            continue
+        # of several places the first one
+        PLANTED[page] = text.replace(old, new, 1)
+        try:
+            if set(check()) <= set(before):
+                yield "tests/pages.py: %s doesn't find %r in %s" % (check.__name__, new, page)
+        finally:
+            del PLANTED[page]
+
+
+TESTS = [*CHECKS, what_is_false_is_found]
 
 
 def main(tests):

@@ -1,7 +1,8 @@
 #!/usr/bin/env python3
 """Refuses memory to commands and to the events of scripts, one request at a time. refusals.py NEWSD [NAME..]
 
-A command that is refused memory before it has done anything ends as `newsd: E2 Memory`, status 1.
+A command that is refused memory before it has done anything ends as `newsd: E2 Memory`, status 1. So does a renewal; the old volume then
+has each octet that it had, and the new one isn't there or is whole.
 
 In `newsd sim` a line whose request is refused answers `E2 Memory`. All is as before then, as a probe shows that is played next. Where the
 same line is played again, its answer, and what the probe shows then, are those of a run that was refused nothing. A refused opening leaves
@@ -9,8 +10,7 @@ nothing open, and a device that opens to what it held. Where a line can't be rea
 `newsd: E2 Memory`. Lines that need no memory answer as ever with every request refused.
 
 There each refusal happens in a copy of the process, which the library of refusing.c makes, so that a script is played once. Every request
-of a script is refused but in two of them, where every other one is: 65 joins that differ in nothing but their number, and the script that
-is played over a cache as well. What the device has is probed in every eighth copy."""
+of a script is refused. What the device has is probed in every eighth copy."""
 import collections
 import concurrent.futures
 import functools
@@ -24,7 +24,7 @@ import tempfile
 import time
 import traceback
 
-from newsd import HOST
+from newsd import HOST, octets
 
 SOURCE = os.path.join(os.path.dirname(os.path.abspath(__file__)), "refusing.c")
 MOMENT = 1000000000
@@ -84,10 +84,10 @@ def carry(images):
 
 
 class Script:
-    """A script, the first of its lines that is refused memory, and how many requests there are to each that is refused."""
+    """A script, and the first of its lines that is refused memory."""
 
-    def __init__(self, lines, first=0, every=1, is_cached=False):
-        self.lines, self.first, self.every = lines, first, every
+    def __init__(self, lines, first=0, is_cached=False):
+        self.lines, self.first = lines, first
         self.words = ["--cache"] if is_cached else []
         self.need_none = NEED_NONE_OVER_CACHE if is_cached else NEED_NONE
         self.sessions = self.lines.count("join")
@@ -117,7 +117,7 @@ SCRIPTS = {
          *send(2, article(1)), "release", *carry(6), "release"]),
     "headers_are_injected": Script(
         [*GROUP_IS_MADE, "join", *ask(1, "POST"), *send(1, BARE_ARTICLE), *READS, "release", *carry(6), "release"]),
-    "sixty_four_sessions_join": Script([*GROUP_IS_MADE, *["join"] * 65, "leave 7", "join", "release", "release"], every=2),
+    "sixty_four_sessions_join": Script([*GROUP_IS_MADE, *["join"] * 65, "leave 7", "join", "release", "release"]),
     "the_operator_makes_and_expires": Script(
         [*GROUP_IS_MADE, group("x.b", "n"), group("x.b", "n"), "expire x.a 1", "join", *post(1, 1), "expire x.a 1", "expire x.a 1",
          "expire x.c 1", *ask(1, "GROUP x.a", "LIST", "QUIT"), "release", *carry(11), "release", "crash new", "spool"]),
@@ -127,7 +127,7 @@ SCRIPTS = {
     "two_open_segments_are_opened": Script([*POST, "crash 00", "spool", "join", *READS, "release"], first=len(POST)),
     "eight_open_segments_are_opened": Script(
         [*IN_A_CHECKPOINT, "crash 00", "spool", "join", *READS, "release"], first=len(IN_A_CHECKPOINT)),
-    "a_post_over_a_cache": Script(POST, every=2, is_cached=True),
+    "a_post_over_a_cache": Script(POST, is_cached=True),
 }
 
 # commands that end before they have done anything
@@ -136,7 +136,14 @@ COMMANDS = [
     ["serve", "no-such-file", "--port", "1119"],
     ["dump", "no-such-file"],
     ["group", "no-such-file", "x.a", "y", "0", "test"],
+    ["expire", "no-such-file", "--older-than", "30"],
+    ["renew", "no-such-file", "--in-place"],
 ]
+
+# of a renewal to a new file, and of one in place, each so many-th request is refused
+BESIDE_EVERY, IN_PLACE_EVERY = 5, 20
+# the sizes of the volume that is renewed
+SIZES = ["--blocks", "1024", "--inodes", "64"]
 
 
 class Copy:
@@ -274,6 +281,50 @@ def refuse_commands(program, library):
     return Judged(counts, faults)
 
 
+def refuse_renewals(program, library):
+    """Refuses some requests of a renewal to a new file, and of one in place, a run for each."""
+    counts, faults = collections.Counter(), []
+    with tempfile.TemporaryDirectory(prefix="newsd-refusals-") as folder:
+        old, new, whole = (os.path.join(folder, name) for name in ("old", "new", "whole"))
+        make_volume(program, old)
+        as_ever = ends_as([program, "renew", old, whole])
+        before, after = octets(old), octets(whole)
+        for place, every in ((new, BESIDE_EVERY), ("--in-place", IN_PLACE_EVERY)):
+            renewed = old if place == "--in-place" else new
+            for number in itertools.count(1, every):
+                put_back(old, before, new)
+                refused = os.path.join(folder, "refused%s%d" % (place == new, number))
+                came = ends_as([program, "renew", old, place], LD_PRELOAD=library, NEWSD_REFUSED_REQUEST=str(number), NEWSD_REFUSED=refused)
+                if not os.path.exists(refused):
+                    break
+                is_whole = os.path.exists(renewed) and octets(renewed) == after
+                is_before = octets(old) == before and not os.path.exists(new)
+                # what the library of the toolchain can do without it does without
+                end = "ended" if came == (1, "", ENDED) and (is_whole or is_before) else "as ever" if came == as_ever and is_whole else "WRONG"
+                counts[end] += 1
+                if end == "WRONG":
+                    faults.append("renew %s, request %d: %r" % (place, number, came))
+    return Judged(counts, faults)
+
+
+def make_volume(program, path):
+    """A volume with three articles, two of which are gone."""
+    texts = [("\n".join(article(number)) + "\n").encode() for number in (1, 2, 3)]
+    batch = b"".join(b"#! rnews %d\n" % len(text) + text for text in texts)
+    for words in (["format", path, "--host", HOST, *SIZES], ["group", path, "x.a", "y", str(MOMENT), "test"], ["import", path],
+                  ["expire", path, "x.a", "2"]):
+        subprocess.run([program, *words], input=batch, capture_output=True, timeout=SECONDS, check=True)
+
+
+def put_back(old, before, new):
+    """Has the old volume as it was, and no new one."""
+    if octets(old) != before:
+        with open(old, "wb") as file:
+            file.write(before)
+    if os.path.exists(new):
+        os.unlink(new)
+
+
 def ends_as(words, **settings):
     """The status, the output and the faults of a program."""
     done = subprocess.run(
@@ -286,7 +337,7 @@ def play(program, library, script):
     with tempfile.TemporaryDirectory(prefix="newsd-refusals-") as folder:
         settings = {
             "LD_PRELOAD": library, "NEWSD_REFUSALS": folder, "NEWSD_REFUSALS_FROM": str(script.first),
-            "NEWSD_REFUSALS_EVERY": str(script.every), "NEWSD_REFUSALS_DEVICE": str(DEVICE_EVERY), **LARGE_PAGES}
+            "NEWSD_REFUSALS_DEVICE": str(DEVICE_EVERY), **LARGE_PAGES}
         lines = [*script.lines, ";", *script.probe(), ";", *DEVICE_PROBE, ""]
         done = subprocess.run(
             [program, "sim", "--host", HOST, *script.words], input="\n".join(lines).encode(), capture_output=True,
@@ -324,7 +375,7 @@ def processor_seconds():
     return used.ru_utime + used.ru_stime
 
 
-TESTS = {"commands_begin": refuse_commands, **{name: functools.partial(play, script=script) for name, script in SCRIPTS.items()}}
+TESTS = {"commands_begin": refuse_commands, "a_volume_is_renewed": refuse_renewals, **{name: functools.partial(play, script=script) for name, script in SCRIPTS.items()}}
 
 
 def main():

@@ -15,8 +15,7 @@
      n   every request of the line is refused, and both probes follow
 
    There are copies b and s of the place after the last line, too. The lines before the one that NEWSD_REFUSALS_FROM counts from 0 get no
-   copies. Of the requests each NEWSD_REFUSALS_EVERY-th is refused. In copies p and a whose number NEWSD_REFUSALS_DEVICE divides the probe
-   of the device follows, too. At last a copy plays lines for a session that isn't there until its output is written, and exits then: to
+   copies. In copies p and a whose number NEWSD_REFUSALS_DEVICE divides the probe of the device follows, too. At last a copy plays lines for a session that isn't there until its output is written, and exits then: to
    give its memory back would take longer than all that it plays.
 
    It includes no header, so that a compiler without those of the C library will do. */
@@ -59,7 +58,7 @@ static char written[MOST_OCTETS];
 static size_t written_length;
 
 static const char *folder;
-static int list, first, every = 1, of_device = 1;
+static int list, first, of_device = 1;
 
 static void read_lines(void) {
     size_t length = 0;
@@ -89,12 +88,11 @@ static void begin(void) {
     folder = getenv("NEWSD_REFUSALS");
     if (!folder) return;
     if (getenv("NEWSD_REFUSALS_FROM")) first = atoi(getenv("NEWSD_REFUSALS_FROM"));
-    if (getenv("NEWSD_REFUSALS_EVERY")) every = atoi(getenv("NEWSD_REFUSALS_EVERY"));
     if (getenv("NEWSD_REFUSALS_DEVICE")) of_device = atoi(getenv("NEWSD_REFUSALS_DEVICE"));
     read_lines();
     snprintf(name, sizeof name, "%s/list", folder);
     list = open(name, TO_WRITE_MADE_EMPTY, 0644);
-    if (list < 0 || every < 1 || of_device < 1) _exit(BAD_INPUT);
+    if (list < 0 || of_device < 1) _exit(BAD_INPUT);
 }
 
 /* Makes a copy of the process, whose outputs are files, and waits for its end. Answers 1 in the copy. */
@@ -183,7 +181,8 @@ static int is_alone(void) {
 
 static int is_refused(size_t size) {
     if (refuses_all || is_alone()) return 1;
-    if (!folder || is_copy || is_over || line < first || line < 0 || ++requests % every) return 0;
+    if (!folder || is_copy || is_over || line < first || line < 0) return 0;
+    requests++;
     if (is_in_copy('p', requests, size)) {
         after = PROBE;
         return 1;

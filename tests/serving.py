@@ -1,18 +1,76 @@
 #!/usr/bin/env python3
 """System tests of `newsd serve`: what callers and the operator learn. serving.py NEWSD [NAME..]"""
 import datetime
+import os
 import random
 import socket
 import sys
+import tempfile
 import threading
 import time
 import warnings
 
-from newsd import GREETING, GROUP, HOST, SECONDS, SERVICE_ENDS, Caller, article, message_id, octets, settled_octets, wait_until
-from playing import Skipped, main
+from logs import Log
+from newsd import (ALL_FROM_ONE, GREETING, GROUP, HOST, SECONDS, SERVICE_ENDS, Caller, article, long_article, message_id, octets,
+                   settled_octets, wait_until)
+from playing import Skipped, main, side_by_side
+from refusals import compile_library
 
+# has the server's clock be as many seconds behind as a file says
+SETTING_BACK = os.path.join(os.path.dirname(os.path.abspath(__file__)), "earlier.c")
+HOUR = 3600
 # articles whose numbers take several releases
 NUMBERS = 30_000
+SECONDS_OF_A_REFUSAL = 2
+# callers that fill a volume, how many articles each sends in one piece, and the last words to it
+FILLING, IN_A_PIECE = 8, 20
+LET_GO = ["441 Article not accepted", SERVICE_ENDS]
+# what an operator does in a volume that callers have filled
+EXPIRIES = 20
+def who_fills_a_volume_leaves_its_operator_room(volume):
+    """By many articles, which take the inodes, and by large ones, which take the blocks. Reading goes on, and so does the operator."""
+    for name, pieces in (("inodes", lambda at: (at * IN_A_PIECE + number for number in range(IN_A_PIECE))), ("blocks", lambda at: (at,))):
+        full = volume.another(name)
+        full.make_group()
+        with full.serve(words=ALL_FROM_ONE) as server:
+            log = Log(server.process.stderr)
+            took = []
+            side_by_side(*(lambda own=own: took.append(fill(server, own, pieces, name == "blocks")) for own in range(FILLING)))
+            assert all(took), took
+            ends = [fields["why"] for _, fields in log.wait("end", FILLING)]
+            assert ends == ["full"] * FILLING, ends
+            with server.call() as caller:
+                assert caller.ask("GROUP x.a") == "211 %d 1 %d x.a" % (sum(took), sum(took))
+                assert caller.ask("STAT 1").startswith("223 1 <") and caller.ask("IHAVE <new@a.example>") == "335 Send article"
+                caller.send(article("new"))
+                assert [caller.line(), caller.line()] == ["436 Try again later", SERVICE_ENDS] and caller.has_ended()
+            serial = sum(took) + 2
+            assert server.order("group x.b y 1000000000 test") == str(serial)
+            for number in range(1, EXPIRIES):
+                assert server.order("expire x.a %d" % number) == str(serial + number)
+            assert server.order("stop") == "stopped" and server.process.wait(SECONDS) == 0
+        assert full.expire(EXPIRIES) == serial + EXPIRIES
+
+
+def fill(server, own, pieces, are_large):
+    """Posts until the server lets the caller go, and says how many articles it took."""
+    took = 0
+    with server.call() as caller:
+        for at in range(10_000):
+            ids = ["%d.%d" % (own, number) for number in pieces(at)]
+            caller.send(b"".join(b"POST\r\n" + (long_article(it, 200_000) if are_large else article(it)) for it in ids))
+            for _ in ids:
+                said = [caller.line(), caller.line()]
+                if said[1] != "240 Article received":
+                    # nothing more is read of it
+                    assert said == ["340 Send article", LET_GO[0]] and caller.line() == LET_GO[1], said
+                    return took
+                assert said[0] == "340 Send article", said
+                took += 1
+    raise AssertionError("it was never let go")
+
+
+LONG_ASKED = b"ARTICLE <long@a.example>\r\n"
 
 
 def a_client_posts_and_reads_back(volume):
@@ -108,7 +166,7 @@ def long_lists_of_numbers_come_whole_beside_posts(volume):
 
 def sixty_four_callers_and_one_more(volume):
     volume.make_group()
-    with volume.serve() as server:
+    with volume.serve(words=ALL_FROM_ONE) as server:
         callers = [server.call() for _ in range(64)]
         assert all(caller.greeting == GREETING for caller in callers)
         with Caller(server.port) as late:
@@ -127,6 +185,131 @@ def sixty_four_callers_and_one_more(volume):
             time.sleep(0.01)
         for caller in callers:
             caller.close()
+
+
+def who_takes_nothing_keeps_its_seat(volume):
+    """A session that is over still has its thread while its caller doesn't take the last reply. Who comes then is told so at once."""
+    volume.make_group()
+    text = long_article("long", 60_000)
+    with volume.serve(words=ALL_FROM_ONE) as server:
+        with server.call() as caller:
+            assert caller.post(text) == "240 Article received"
+        wait_until(lambda: sessions_of(server) == 0)
+        deaf = [Caller(server.port, receive_octets=4096) for _ in range(63)]
+        for caller in deaf:
+            assert caller.greeting == GREETING
+            caller.send(LONG_ASKED * 200)
+        deaf.append(caller_that_has_quit(server, len(b"220 0 <long@a.example>\r\n" + text)))
+        with Caller(server.port, seconds=SECONDS_OF_A_REFUSAL) as late:
+            assert late.greeting == SERVICE_ENDS, late.greeting
+        for caller in deaf:
+            caller.close()
+        server.greet(10).close()
+
+
+def caller_that_has_quit(server, size):
+    """A caller whose session is over, and whose thread writes replies that it doesn't take. What its sockets take differs from time to time,
+    so it is tried how many replies these are."""
+    count = 40
+    for _ in range(60):
+        # the seat of the poster is free once its thread is
+        caller = server.greet(10, receive_octets=4096)
+        caller.send(LONG_ASKED * count + b"QUIT\r\n")
+        time.sleep(0.2)
+        is_over, is_stuck = sessions_of(server) == 63, server.octets_on_the_way(caller) < count * size
+        if is_over and is_stuck:
+            return caller
+        caller.close()
+        server.greet(10).close()
+        wait_until(lambda: sessions_of(server) == 63)
+        count += 1 if is_over else -1
+    raise AssertionError("no session ends before its last reply is taken")
+
+
+def sessions_of(server):
+    """How many sessions the kernel has."""
+    words = server.order("status").split()
+    return int(words[words.index("sessions") + 1])
+
+
+def a_clock_that_goes_back_hides_no_article(volume):
+    """What is filed after the clock went back by an hour is news since the last DATE before, also after another start. A clock that goes
+    back by two days is followed."""
+    volume.make_group()
+    with tempfile.TemporaryDirectory(prefix="newsd-earlier-") as folder:
+        library, back = compile_library(folder, SETTING_BACK), os.path.join(folder, "back")
+        if library is None:
+            raise Skipped("there is no compiler for C")
+        set_back(back, 0)
+        earlier = ["env", "LD_PRELOAD=" + library, "SECONDS_BACK=" + back]
+        with volume.serve(by=earlier) as server, server.call() as caller:
+            assert caller.post(article(1)) == "240 Article received"
+            since = date_of(caller)
+            set_back(back, HOUR)
+            assert caller.post(article(2)) == "240 Article received"
+            assert message_id(2) in news_since(caller, since)
+            assert date_of(caller) >= since
+        with volume.serve(by=earlier) as server, server.call() as caller:
+            assert date_of(caller) >= since
+            assert caller.post(article(3)) == "240 Article received"
+            assert message_id(3) in news_since(caller, since)
+            set_back(back, 48 * HOUR)
+            assert date_of(caller) < since - datetime.timedelta(hours=24)
+
+
+def set_back(file, seconds):
+    """Has the clock be so many seconds behind, at once."""
+    with open(file + ".new", "w") as new:
+        new.write(str(seconds))
+    os.rename(file + ".new", file)
+
+
+def date_of(caller):
+    code, digits = caller.ask("DATE").split()
+    assert code == "111"
+    return datetime.datetime.strptime(digits, "%Y%m%d%H%M%S")
+
+
+def news_since(caller, since):
+    """The message-ids that NEWNEWS lists."""
+    assert caller.ask(since.strftime("NEWNEWS * %Y%m%d %H%M%S")).startswith("230 ")
+    return list(iter(caller.line, "."))
+
+
+def a_web_page_cannot_post(volume):
+    """A browser on the same machine sends a page's request to any port. What it says first ends its session, and nothing is answered."""
+    volume.make_group()
+    body = b"POST\r\n" + article("page") + b"QUIT\r\n"
+    with volume.serve() as server:
+        log = Log(server.process.stderr)
+        for first, fields in ((b"POST / HTTP/1.1", b"Host: news.example"), (b"POST / HTTP/1.0", b""), (b"GET /?a=b HTTP/1.1", b""),
+                              (b"DATE HTTP/1.1", b""), (b"POST /" + b"x" * 600 + b" HTTP/1.1", b"Host: 127.0.0.1:1119")):
+            with server.call() as caller:
+                assert caller.greeting == GREETING
+                head = first + b"\r\n" + fields + (b"\r\n" if fields else b"")
+                caller.send(head + b"Content-Type: text/plain\r\n\r\n" + body)
+                said = read_to_the_end(caller)
+                assert said in ([], ["501 Syntax error"]), (first, said)
+        ends = log.wait("end", 5)
+        assert [fields["why"] for _, fields in ends] == ["http"] * 5 and {fields["taken"] for _, fields in ends} == {"0"}, ends
+        with server.call() as caller:
+            assert caller.ask("STAT <page@a.example>") == "430 No such article"
+            for line in ("HTTP/1.1", "GET / HTTP/1.1 ", "GET / HTTP/2", "Hosts: a", "host", "POST HTTP/1.1x"):
+                assert caller.ask(line)[:2] == "50", line
+            assert caller.post(article(1, subject="a HTTP/1.1", body="Host: a\r\nGET / HTTP/1.1")) == "240 Article received"
+
+
+def read_to_the_end(caller):
+    """The lines up to the end, also where the end discards octets that were sent."""
+    lines = []
+    try:
+        while True:
+            line = caller.line()
+            if not line:
+                return lines
+            lines.append(line)
+    except ConnectionError:
+        return lines
 
 
 def a_kill_under_load_takes_nothing_back(volume):
@@ -360,6 +543,9 @@ TESTS = [
     long_replies_come_whole_beside_posts,
     long_lists_of_numbers_come_whole_beside_posts,
     sixty_four_callers_and_one_more,
+    who_takes_nothing_keeps_its_seat,
+    a_clock_that_goes_back_hides_no_article,
+    a_web_page_cannot_post,
     a_kill_under_load_takes_nothing_back,
     one_server_holds_a_volume,
     the_operator_makes_changes,
@@ -367,6 +553,7 @@ TESTS = [
     a_stop_under_load_ends_in_order,
     a_server_with_nothing_to_do_stops,
     articles_are_taken_out,
+    who_fills_a_volume_leaves_its_operator_room,
     a_client_library_reads,
 ]
 

@@ -12,6 +12,9 @@ LARGEST = 262144
 SMALL_BUFFER = 8192
 WINDOW = 60
 LONG_WINDOW = 240
+# the seconds that the first command may take, and any later message
+FIRST = 30
+SLOW = 600
 
 
 def a_slow_reader_gets_all(volume):
@@ -142,14 +145,94 @@ def read_thirty(server, text, closes):
         assert caller.has_ended()
 
 
+def who_sends_no_command_is_let_go(volume):
+    """Within half a minute of the greeting, however slowly it sends. Whoever has sent one command may be silent for longer."""
+    volume.make_group()
+    with volume.serve() as server:
+        start = time.monotonic()
+        silent, slow, late, early = (Caller(server.port, seconds=2 * FIRST) for _ in range(4))
+        assert early.ask("DATE")[:3] == "111"
+
+        def drip():
+            for _ in range(FIRST // 2):
+                time.sleep(1.5)
+                try:
+                    slow.send(b"D")
+                except ConnectionError:
+                    return
+
+        def come_late():
+            for octet in b"DATE\r\n":
+                time.sleep(FIRST / 8)
+                late.send(bytes([octet]))
+            assert late.line()[:3] == "111"
+
+        side_by_side(drip, come_late, lambda: see_its_end(silent, start), lambda: see_its_end(slow, start))
+        while time.monotonic() < start + FIRST + 5:
+            time.sleep(0.1)
+        for caller in (late, early):
+            assert caller.ask("DATE")[:3] == "111"
+            caller.close()
+        assert server.order("stop") == "stopped"
+        server.process.wait(10)
+        ends = [line.decode() for line in server.process.stderr if b"why=silent" in line]
+        assert len(ends) == 2, ends
+
+
+def see_its_end(caller, start):
+    """The caller is let go once the time for a first command is over, and not before."""
+    try:
+        assert caller.file.read() == b""
+    except ConnectionError:
+        pass
+    waited = time.monotonic() - start
+    assert FIRST - 1 < waited < FIRST + 5, waited
+
+
+def who_sends_too_slowly_is_let_go(volume):
+    """A line ends within ten minutes of its first octet; a block goes on as long as it has come with a hundred octets a second. Silence would
+    end none of these. It takes eleven minutes."""
+    volume.make_group()
+    text = long_article("long", 250_000)
+    with volume.serve() as server:
+        line, block, good = (Caller(server.port, seconds=2 * SLOW) for _ in range(3))
+        for caller in (line, block, good):
+            assert caller.ask("DATE")[:3] == "111"
+        for caller in (block, good):
+            assert caller.ask("POST")[:3] == "340"
+        start = time.monotonic()
+
+        def send(caller, octets, each, pause):
+            try:
+                for at in range(0, len(octets), each):
+                    caller.send(octets[at:at + each])
+                    time.sleep(pause)
+            except ConnectionError:
+                pass
+            return time.monotonic() - start
+
+        def is_let_go(caller, octets, each, pause):
+            waited = send(caller, octets, each, pause)
+            assert SLOW - 5 < waited < SLOW + 45, waited
+
+        def is_served():
+            # some 300 octets a second
+            assert send(good, text[:200_000], 6_000, 20) > SLOW + 30
+            good.send(text[200_000:])
+            assert good.line() == "240 Article received"
+
+        side_by_side(lambda: is_let_go(line, b"x" * 90, 1, 10), lambda: is_let_go(block, text[:4500], 50, 10), is_served)
+
+
 TESTS = [
+    who_sends_no_command_is_let_go,
     a_half_closed_caller_gets_all,
     who_reads_slowly_is_told_all,
     a_slow_reader_gets_all,
 ]
 
-# played where it is named: it takes four minutes
-LONG_ONES = [who_takes_little_is_not_let_go]
+# played where they are named: they take four minutes and eleven
+LONG_ONES = [who_takes_little_is_not_let_go, who_sends_too_slowly_is_let_go]
 
 if __name__ == "__main__":
     sys.exit(main(TESTS, LONG_ONES))

@@ -109,6 +109,19 @@ def an_empty_volume_is_made(volume):
         assert octets(path) == wanted, closed
 
 
+def a_volume_is_renewed(volume):
+    """Also where its report can't be printed: then the status is 1."""
+    fill(volume)
+    before, dumped = settle(volume), volume.dump()
+    words = ["renew", volume.path, "--in-place"]
+    printed = volume.run(*words).stdout.decode()
+    wanted = settle(volume)
+    for closed in CLOSED:
+        write(volume.path, before)
+        Done(volume.program, words, closed).check_closed_output(printed)
+        assert (settle(volume), volume.dump()) == (wanted, dumped), closed
+
+
 def a_batch_is_filed_or_refused(volume):
     """Input that can't be read is no empty batch. What is filed stays filed where its count can't be printed."""
     volume.make_group()
@@ -205,7 +218,7 @@ def what_a_full_output_does_not_take_is_said(volume):
         for words in (
             ["--version"], ["--help"], ["sim", "--host", HOST], ["status", volume.path], ["status", volume.path, "--json"],
             ["dump", volume.path], ["export", volume.path], ["group", volume.path, "x.b", *GROUP_WORDS[1:]],
-            ["expire", volume.path, GROUP, "1"], ["import", volume.path],
+            ["expire", volume.path, GROUP, "1"], ["import", volume.path], ["renew", volume.path, "--in-place"],
         ):
             Done(volume.program, words, (), SCRIPT if words[0] == "sim" else b"", full).check(1, faults=NO_ROOM)
     assert volume.dump()[4:] == ["4 group x.b y", "5 expire x.a 1"]
@@ -231,6 +244,7 @@ TESTS = [
     what_is_read_stays_as_it_is,
     changes_are_those_of_open_streams,
     an_empty_volume_is_made,
+    a_volume_is_renewed,
     a_batch_is_filed_or_refused,
     a_script_is_played_or_refused,
     a_server_serves_without_its_log,

@@ -2,14 +2,15 @@
 """System tests of the commands over a volume in a file, and of its largest sizes. volumes.py NEWSD [NAME..]"""
 import os
 import struct
+import subprocess
 import sys
 
-from newsd import GROUP, HOST, NO_SUPERBLOCK, article, octets, simulate
+from newsd import GROUP, HOST, NO_SUPERBLOCK, SECONDS, article, octets, settled_octets, simulate
 from playing import Skipped, main
 from syncs import count_calls
 
 MOMENT = 1000000000
-FAILED = "E1 Fault: the device failed"
+IRREGULAR = "E1 Fault: it is no regular file"
 
 
 def what_can_not_be_served_is_refused(volume):
@@ -32,7 +33,16 @@ def what_can_not_be_served_is_refused(volume):
         (["expire", volume.path, "x.a", "4294967297"], 1, "E12 NotFound: the group isn't here"),
         (["expire", volume.path, "x.a", "1"], 1, "E12 NotFound: the group isn't here"),
         (["expire", volume.path, "x.a", "0"], 1, "E12 NotFound: the group isn't here"),
-        (["expire", volume.path, "x.a"], 2, None),
+        *((["expire", volume.path, *words], 1, "E14 Bad: PATH '%s' needs NAME and N or --older-than beside it" % volume.path)
+          for words in ([], ["x.a"], ["--dry-run"])),
+        (["expire"], 2, None),
+        (["expire", volume.path, "x.a", "1", "--older-than", "10"], 1, "E14 Bad: N '1' can't be given with --older-than"),
+        (["expire", volume.path, "x.a", "1", "--dry-run"], 1, "E14 Bad: N '1' can't be given with --dry-run"),
+        (["expire", volume.path, "x.[a]", "--older-than", "10"], 1, "E14 Bad: WILDMAT 'x.[a]' is no wildmat"),
+        *((["expire", volume.path, "--older-than", days], 1, "E14 Bad: --older-than '%s' is no number of days from 1 to 36500" % days)
+          for days in ("0", "36501", "1.5", "ten", "", "18446744073709551617")),
+        (["expire", directory + "/none", "--older-than", "10"], 1, "E1 Fault: the file isn't there"),
+        (["expire", directory + "/text", "--older-than", "10", "--dry-run"], 1, NO_SUPERBLOCK),
         (["format", volume.path, "--host", "a..b"], 1, "E14 Bad: --host 'a..b' is no name of a server"),
         (["format", volume.path, "--host", HOST, "--inodes", "96"], 1, "E14 Bad: --inodes '96' is no multiple of 64 from 64 to 4194304"),
         (["serve", volume.path, "--port", "0"], 2, None),
@@ -48,7 +58,9 @@ def what_can_not_be_served_is_refused(volume):
         (["export", directory + "/none"], 1, "E1 Fault: the file isn't there"),
         (["export", directory + "/text", "x.a"], 1, NO_SUPERBLOCK),
         (["export"], 2, None),
-        *(([word, path], 1, FAILED) for word in ("dump", "status", "export", "import") for path in ("/dev/zero", pipe)),
+        *(([*words, path], 1, IRREGULAR)
+          for words in (["dump"], ["status"], ["export"], ["import"], ["serve", "--port", "1"], ["format", "--host", HOST])
+          for path in ("/dev/zero", pipe)),
     ):
         done = volume.run(*words)
         assert done.returncode == status and done.stdout == b"", (words, done)
@@ -96,29 +108,17 @@ def a_damaged_volume_is_not_opened(volume):
 
 
 def a_commit_syncs_the_device(volume):
-    """An opening syncs once, and where a segment is open twice more, as it carries that home: so the first one does, since the
-    batch that makes a volume stands in one. Adding a group then syncs at the seal and at the gate of its batch. The next opening
-    carries it home, and the one after that writes the gate of the format and the eight gates of segments back, and nothing else."""
+    """An opening syncs once, and where a segment is open twice more, as it carries that home. In a new volume none is. Adding a
+    group then syncs at the seal and at the gate of its batch. The next opening carries that home, and the one after it writes the
+    gate of the format and the eight gates of segments back, and nothing else."""
     counted = count_calls([volume.program, "group", volume.path, GROUP, "y", "1000000000", "test"])
     if counted is None:
         raise Skipped("the program can't be traced")
-    assert counted["fdatasync"] == 5, counted
+    assert counted["fdatasync"] == 3, counted
     opened = count_calls([volume.program, "dump", volume.path])
     assert opened["fdatasync"] == 3 and opened["pwrite64"] > 0, opened
     again = count_calls([volume.program, "dump", volume.path])
     assert again["fdatasync"] == 1 and again["pwrite64"] == 9, again
-
-
-def without_memory_no_volume_is_made(volume):
-    """The room of the journal's segments may be refused after the blocks were zeroed: no spool stands there then."""
-    format_words = ["format", volume.path, "--host", HOST]
-    for megabytes in (8, 12, 16):
-        done = volume.run(*format_words, most_memory=megabytes << 20)
-        assert (done.returncode, done.stderr) == (1, b"newsd: E2 Memory\n"), (megabytes, done)
-        done = volume.run("dump", volume.path)
-        assert done.returncode == 1 and done.stderr.startswith((b"newsd: E3 NotAVolume: ", b"newsd: E5 Damaged: ")), (megabytes, done)
-    volume.run(*format_words).check_returncode()
-    assert volume.dump() == ["spool 0"]
 
 
 def the_largest_volume_is_made_in_little_memory(volume):
@@ -144,6 +144,54 @@ def a_server_has_4096_groups_at_most(volume):
     assert "durable 4096" in said and refused == ["E6 Full", "E11 Exists", "opened 4096", "E6 Full"], refused
 
 
+def a_volume_is_not_made_by_a_slip(volume):
+    """With --new, where anything is. What is refused keeps each octet, and so does a volume that a server has."""
+    volume.make_group()
+    format_words = ["format", volume.path, "--host", HOST, "--blocks", "1024", "--inodes", "64"]
+    with volume.serve() as server:
+        with server.call() as caller:
+            assert caller.post(article(1)) == "240 Article received"
+        before = settled_octets(volume.path)
+        held = "newsd: E1 Fault: the volume is in use by process %d\n" % server.process.pid
+        for words in (format_words, [*format_words, "--new"]):
+            done = volume.run(*words)
+            assert (done.returncode, done.stdout, done.stderr.decode()) == (1, b"", held), done
+            assert octets(volume.path) == before, words
+    refused = "newsd: E14 Bad: PATH '%s' is a file that isn't empty\n"
+    other = volume.path + "-other"
+    write(other, b"Dear reader\n")
+    for path in (volume.path, other):
+        kept = octets(path)
+        done = volume.run("format", path, "--new", "--host", HOST)
+        assert (done.returncode, done.stdout, done.stderr.decode()) == (1, b"", refused % path), done
+        assert octets(path) == kept, path
+    assert volume.dump() == ["spool 2", "1 group x.a y", "2 article <1@a.example> x.a"]
+    # an empty file is as good as none
+    write(other, b"")
+    for path in (other, volume.path + "-none"):
+        done = volume.run("format", path, "--new", *format_words[2:])
+        assert (done.returncode, done.stdout, done.stderr) == (0, b"", b""), done
+        assert volume.run("dump", path).stdout == b"spool 0\n"
+
+
+def what_is_replaced_is_told(volume):
+    """A volume, one that is damaged, and another file. Standard error that is closed changes nothing."""
+    volume.make_group()
+    words = ["format", volume.path, "--host", HOST, "--blocks", "1024", "--inodes", "64"]
+    done = volume.run(*words)
+    assert (done.returncode, done.stdout, done.stderr) == (0, b"", b"newsd: replaced a volume of 1 change\n"), done
+    size = os.path.getsize(volume.path)
+    with open(volume.path, "r+b") as file:
+        file.write(b"Y")
+    done = volume.run(*words)
+    assert (done.returncode, done.stdout, done.stderr) == (0, b"", b"newsd: replaced a file of %d octets\n" % size), done
+    done = volume.run(*words)
+    assert (done.returncode, done.stdout, done.stderr) == (0, b"", b"newsd: replaced a volume of 0 changes\n"), done
+    with open("/dev/full", "wb") as full:
+        assert subprocess.run([volume.program, *words], stderr=full, timeout=SECONDS).returncode == 0
+    assert volume.dump() == ["spool 0"]
+
+
 def write(path, content):
     with open(path, "wb") as file:
         file.write(content)
@@ -153,7 +201,8 @@ TESTS = [
     what_can_not_be_served_is_refused,
     a_damaged_volume_is_not_opened,
     a_commit_syncs_the_device,
-    without_memory_no_volume_is_made,
+    a_volume_is_not_made_by_a_slip,
+    what_is_replaced_is_told,
     the_largest_volume_is_made_in_little_memory,
     a_server_has_4096_groups_at_most,
 ]
