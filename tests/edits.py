@@ -11,7 +11,6 @@ import tempfile
 TOP = os.path.dirname(os.path.dirname(os.path.abspath(__file__)))
 sys.dont_write_bytecode = True
 sys.path.insert(0, os.path.join(TOP, "bench", "modules"))
-import built  # noqa: E402
 import prover  # noqa: E402
 from edits import Crate, functions_of  # noqa: E402
 from pages import main  # noqa: E402
@@ -122,28 +121,28 @@ def wrong_bodies_are_refused_once():
             status, said = tried(top)
             if status or not said.endswith("\n2 passed, 0 failed\n"):
                 yield "status %d: %s" % (status, said)
-            if known and keeps(prover.toolchain()) and "2 were refused by earlier runs" not in said:
+            if known and "2 were refused by earlier runs" not in said:
                 yield "tried again: " + said
 
 
-def libraries_of_a_run_are_taken_while_they_fit():
+def what_was_proved_is_kept_while_it_fits():
     if keeps(prover.toolchain()):
         return
-    with repository({}) as top:
+    with repository({}) as top, tempfile.TemporaryDirectory(prefix="newsd-edits-test-") as cache:
         write(top, "crates.txt", "sums:\nmore: sums\n")
         write(top, "crates/more/src/lib.rt", ABOVE)
-        words = {"stdin": subprocess.DEVNULL, "stdout": subprocess.DEVNULL, "stderr": subprocess.DEVNULL}
-        if subprocess.run([os.path.join(top, "bin", "rt-ci")], cwd=top, **words).returncode:
-            yield "bin/rt-ci failed"
-        for source, fits in ((SOURCE, True), (SOURCE.replace("// by a step", "// by one step"), False)):
-            with tempfile.TemporaryDirectory(prefix="newsd-edits-test-") as room:
-                for name in ("crates.txt", "HANDLES"):
-                    shutil.copy(os.path.join(top, name), room)
-                write(room, "crates/sums/src/lib.rt", source)
-                write(room, "crates/more/src/lib.rt", ABOVE)
-                taken = built.take(prover.libraries(top), prover.libraries(room).values())
-                if taken != fits or taken != os.path.isdir(os.path.join(room, "crates", "sums", "out", "rlib")):
-                    yield "taken: %s, and not %s" % (taken, fits)
+        other, wrong = SOURCE.replace("// by a step", "// by one step"), SOURCE.replace("n + STEP", "n + STEP + 1")
+        for source, kept, last in ((SOURCE, 0, "2 passed, 0 failed"), (SOURCE, 2, "2 passed, 0 failed"),
+                                   (other, 0, "2 passed, 0 failed"), (wrong, 0, "0 passed, 2 failed"), (SOURCE, 2, "2 passed, 0 failed")):
+            write(top, "crates/sums/src/lib.rt", source)
+            said = printed_by_rt_ci(top, cache)
+            if said.count("kept from an earlier run") != kept or not said.endswith(last + "\n"):
+                yield "not %d kept, or not `%s`: %s" % (kept, last, said)
+
+
+def printed_by_rt_ci(top, cache):
+    words = {"stdin": subprocess.DEVNULL, "stdout": subprocess.PIPE, "stderr": subprocess.STDOUT, "text": True}
+    return subprocess.run([os.path.join(top, "bin", "rt-ci")], cwd=top, env={**os.environ, "XDG_CACHE_HOME": cache}, **words).stdout
 
 
 def bad_edits_fail_by_their_names():
@@ -170,7 +169,7 @@ TESTS = [
     functions_are_found_in_a_text,
     functions_that_rest_on_one_another_stand_in_two_rounds,
     wrong_bodies_are_refused_once,
-    libraries_of_a_run_are_taken_while_they_fit,
+    what_was_proved_is_kept_while_it_fits,
     bad_edits_fail_by_their_names,
     one_that_only_another_hides_is_not_refused,
 ]
