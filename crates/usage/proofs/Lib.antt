@@ -1,3 +1,4 @@
 pub mod Counted
 pub mod Images
 pub mod Marked
+pub mod Reading

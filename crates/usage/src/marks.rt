@@ -3,6 +3,8 @@
 ghost use Rattle.std.specs.Prelude.{◌≡◌, ◌==◌, ◌<◌, ◌≤◌, ℕ, IfErr, IfOk, IfSome, IsTrue, OnErr, OnOk, length, option_map, position};
 ghost use Rattle.std.specs.Prelude.{slice_index_or};
 ghost use Rattle.std.specs.Prelude.{true};
+ghost use Rattle.disk.specs.Device.{Elapses};
+ghost use Rattle.journal.specs.Inside.{LeftAs};
 ghost use Rattle.journal.specs.Journal.{CountsFailures, IsReady};
 ghost use Rattle.usage.specs.Marks.{AreMarks, IsWhole, image_of, marked_after};
 ghost use Rattle.usage.specs.Usage.{marked, sum_of};
@@ -27,7 +29,8 @@ impl BitmapMarks {
     }
 
     /// Reads the marks of a volume, with a read of its device for each block of the bitmap. The only refusal is `Fault`,
-    /// exactly if the device failed; it halts the journal for good.
+    /// exactly if the device failed; it halts the journal for good. A crash meanwhile leaves what it would have left before,
+    /// or the same volume.
     pub fn read<D: Disk>(journal: &mut Journal<D>) -> Result<BitmapMarks, JournalError>
         requires { IsReady journal.old }
         ensures ready { OnOk result (IsReady journal.new) }
@@ -40,6 +43,9 @@ impl BitmapMarks {
         ensures fault { IfErr result (λ error. error ≡ JournalError.Fault) }
         ensures halts { OnErr result (journal.new.halted ≡ true) }
         ensures failures { CountsFailures result (D.device journal.old.disk) (D.device journal.new.disk) }
+        ensures time { Elapses (D.device journal.old.disk) (D.device journal.new.disk) }
+        ensures since { LeftAs (D.device journal.old.disk) (D.device journal.new.disk) journal.old.format journal.old.label
+            journal.old.blocks }
     {
         // its clauses state how many blocks there are
         let _ready = journal.is_idle();
@@ -134,6 +140,9 @@ fn read_marks<D: Disk>(journal: &mut Journal<D>, block: u64) -> Result<u32, Jour
     ensures fault { IfErr result (λ error. error ≡ JournalError.Fault) }
     ensures halts { OnErr result (journal.new.halted ≡ true) }
     ensures failures { CountsFailures result (D.device journal.old.disk) (D.device journal.new.disk) }
+    ensures time { Elapses (D.device journal.old.disk) (D.device journal.new.disk) }
+    ensures since { LeftAs (D.device journal.old.disk) (D.device journal.new.disk) journal.old.format journal.old.label
+        journal.old.blocks }
 {
     let mut octets = [0; BLOCK_SIZE];
     journal.load(block, &mut octets)?;

@@ -1,4 +1,6 @@
 use Rattle.std.proofs.Common.{◌≡◌, ◌<◌, ℕ, IsTrue, get_or, length}
+use Rattle.disk.specs.Device.{Elapses}
+use Rattle.journal.specs.Inside.{LeftAs}
 use Rattle.journal.specs.Journal.{IsReady}
 use Rattle.usage.specs.Usage.{marked}
 use Rattle.usage.proofs.tables.BitmapMarks.read.Given as goal
@@ -12,3 +14,6 @@ invariant-loop-table g l = IsReady l.journal × (l.journal.label ≡ l.initial.j
     × (IsTrue (g.D.Disk.device l.initial.journal.disk).tells → (t : ℕ) → t < l.table
     → get_or l.bits t 0 ≡ marked l.initial.journal.blocks t)
     × (length l.bits ≡ 128)
+    × Elapses (g.D.Disk.device l.initial.journal.disk) (g.D.Disk.device l.journal.disk)
+    × LeftAs (g.D.Disk.device l.initial.journal.disk) (g.D.Disk.device l.journal.disk) l.initial.journal.format l.initial.journal.label
+    l.initial.journal.blocks
