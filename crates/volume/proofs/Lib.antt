@@ -1,7 +1,13 @@
-pub mod Applying
 pub mod Copied
+pub mod Exchanged
 pub mod InChunks
 pub mod Index
+pub mod Keeping
 pub mod Laid
-pub mod Seen
+pub mod Marked
+pub mod PartIndex
+pub mod PartsIn
+pub mod PutBack
 pub mod Told
+pub mod WithPart
+pub mod Written

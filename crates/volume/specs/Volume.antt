@@ -1,9 +1,9 @@
--- Blocks in memory, with a stage over a cache.
-use Rattle.std.specs.Prelude.{◌≡◌, ◌≢◌, ℕ, ◌*◌, List, [], length, slice_index_or}
+-- Blocks in memory that changes are written into, with what they were before.
+use Rattle.std.specs.Prelude.{◌≡◌, ◌≢◌, ℕ, ◌*◌, ◌/◌, List, [], length, slice_index_or}
 use Rattle.std.specs.List.{All, Contains}
-use Rattle.model.specs.Volume.{blocks_from, laid_over}
 use Rattle.volume.specs.Chunks.{ChunksView, HasOctets}
 use Rattle.volume.specs.Numbers.{Numbers, IsNumbers}
+use Rattle.volume.specs.Parts.{parts_in, put_back}
 
 -- the blocks without the stage, those that reads see, and the numbers of the dirty ones
 pub record VolumeView : Type 0 where
@@ -27,16 +27,16 @@ pub record BatchView : Type 0 where
 
 -- ---- inside
 
--- the blocks with the stage over them
-abbrev pub seen_over : List (List ℕ) → List ℕ → List ℕ → List (List ℕ)
-seen_over cache staged images = laid_over cache staged (blocks_from 0 (length staged) images)
+-- the blocks before these parts changed, which had these octets
+abbrev pub before : List (List ℕ) → List ℕ → List ℕ → List (List ℕ)
+before blocks numbers octets = put_back blocks numbers (parts_in (length numbers) octets)
 
--- an `apply` takes no memory, since the chunk of each staged block has octets
-pub record IsVolume (cache : ChunksView) (images : List ℕ) (staged dirty : Numbers) : Type 0 where
-  pub count : length cache.blocks ≡ staged.bound
-  pub whole : All (λ octets. length octets ≡ 4096) cache.blocks
-  pub room : All (λ n. HasOctets cache.made n) staged.members
-  pub images_size : length images ≡ 4096 * length staged.members
-  pub same_bound : dirty.bound ≡ staged.bound
-  pub staged_numbers : IsNumbers staged
+-- no path back takes memory, since the chunk of each kept part has octets
+pub record IsVolume (blocks : ChunksView) (octets : List ℕ) (kept dirty : Numbers) : Type 0 where
+  pub count : kept.bound ≡ 16 * length blocks.blocks
+  pub whole : All (λ octets. length octets ≡ 4096) blocks.blocks
+  pub room : All (λ p. HasOctets blocks.made (p / 16)) kept.members
+  pub octets_size : length octets ≡ 256 * length kept.members
+  pub kept_numbers : IsNumbers kept
+  pub same_bound : dirty.bound ≡ length blocks.blocks
   pub dirty_numbers : IsNumbers dirty

@@ -3,10 +3,11 @@
 ghost use Rattle.std.specs.Prelude.{◌≡◌, ℕ, ◌*◌, ◌+◌, ◌<◌, ◌≤◌, [], length, replicate, slice_index_or, slice_set, IfOk, OnErr, OnOk};
 ghost use Rattle.std.specs.Prelude.{is_ok, if◌then◌else◌};
 ghost use Rattle.std.specs.List.{All};
+ghost use Rattle.disk.specs.Image.{overwritten};
 ghost use Rattle.model.specs.Volume.{blocks_from};
 ghost use Rattle.volume.specs.Chunks.{ChunksView, AreChunks, HasOctets, block_in, octets_of, view_of, zero_block};
 
-use blocks::{BLOCK_SIZE, block_of, put_block};
+use blocks::{BLOCK_SIZE, block_of, put_in_block};
 use std::alloc::{AllocError, Global};
 use std::marker::Model;
 
@@ -81,7 +82,7 @@ impl Chunks {
             return Ok(());
         }
         self.make_room(number)?;
-        self.put(number, from);
+        self.put_at(number, 0, from);
         Ok(())
     }
 
@@ -96,15 +97,17 @@ impl Chunks {
         Ok(())
     }
 
-    // Replaces the octets of a block whose chunk has octets.
-    pub(crate) fn put(&mut self, number: u32, from: &[u8])
+    // Replaces octets of a block whose chunk has octets, from a place in the block on.
+    pub(crate) fn put_at(&mut self, number: u32, at: usize, part: &[u8])
         requires there { number < length self.old.blocks }
         requires room { HasOctets self.old.made number }
-        requires whole { length from.now ≡ 4096 }
-        ensures { self.new ≡ record self.old { blocks = slice_set self.old.blocks number from.now } }
+        requires fits { at + length part.now ≤ 4096 }
+        ensures { self.new ≡ record self.old {
+          blocks = slice_set self.old.blocks number (overwritten at part.now (slice_index_or self.old.blocks number []));
+        } }
     {
         let chunk = self.chunks[number as usize / CHUNK_BLOCKS].as_mut_slice();
-        put_block(chunk, number as usize % CHUNK_BLOCKS, from);
+        put_in_block(chunk, number as usize % CHUNK_BLOCKS, at, part);
     }
 }
 

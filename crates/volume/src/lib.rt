@@ -1,9 +1,10 @@
-//! The logical blocks in memory: a stage over a cache, and the blocks that changed since the last batch.
+//! The logical blocks in memory, what they were before the last change, and the blocks that changed since the last batch.
 #![tactic(auto)]
 
 mod batch;
 mod chunks;
 mod numbers;
+mod parts;
 mod volume;
 
 pub use batch::BatchBuf;

@@ -1,28 +1,31 @@
-//! A stage over a cache.
+//! Blocks that changes are written into at once, and what their parts had before.
 
-ghost use Rattle.std.specs.Prelude.{◌≡◌, ◌⊎◌, ◌↔◌, ℕ, ◌*◌, ◌<◌, ◌≤◌, List, [], length, slice_index_or, IfOk};
-ghost use Rattle.std.specs.Prelude.{◌∷◌, ◌++◌, is_ok, if◌then◌else◌};
+ghost use Rattle.std.specs.Prelude.{◌≡◌, ◌⊎◌, ◌↔◌, ℕ, ◌+◌, ◌*◌, ◌/◌, ◌<◌, ◌≤◌, List, [], ◌∷◌, ◌++◌, length, slice_index_or, IfOk};
+ghost use Rattle.std.specs.Prelude.{is_ok, if◌then◌else◌, OnOk};
 ghost use Rattle.std.specs.List.{All, Contains, flat_map};
 ghost use Rattle.model.specs.Volume.{AreDistinct, blocks_from, laid_over};
 ghost use Rattle.disk.specs.Image.{overwritten};
 ghost use Rattle.volume.specs.Chunks.{HasOctets};
 ghost use Rattle.volume.specs.Numbers.{IsNumbers};
-ghost use Rattle.volume.specs.Volume.{VolumeView, Differs, AgreeOutside, IsVolume, seen_over};
+ghost use Rattle.volume.specs.Parts.{parts_in, put_back};
+ghost use Rattle.volume.specs.Volume.{VolumeView, Differs, AgreeOutside, IsVolume, before};
 
 use crate::batch::BatchBuf;
 use crate::chunks::Chunks;
 use crate::numbers::NumberSet;
-use blocks::{Blocks, block_of, put_block, put_in_block, put_part};
+use crate::parts::{BLOCK_PARTS, PART_SIZE, PartSet, part_of, swap_part};
+use blocks::Blocks;
 use std::alloc::{AllocError, Global};
 use std::marker::Model;
 
-/// The logical blocks of a volume. Reads see the stage over the cache. A block is dirty exactly if an `apply` changed
-/// its octets since the last `copy_dirty`.
+/// The logical blocks of a volume. What is staged is written at once, and what its parts had before is kept until it is applied
+/// or dropped. A block is dirty exactly if an `apply` changed its octets since the last `copy_dirty`.
 #[derive(Drop)]
 pub struct Volume {
-    cache: Chunks,
-    staged: NumberSet,
-    images: Vec<u8>,
+    blocks: Chunks,
+    // the parts that were written since the last `apply`, and the octets that they had then
+    kept: PartSet,
+    octets: Vec<u8>,
     dirty: NumberSet,
 }
 
@@ -30,12 +33,12 @@ impl Model for Volume {
     ghost Value = { VolumeView };
 
     ghost view = { λ v. record {
-      cache = v.cache.blocks;
-      seen = seen_over v.cache.blocks v.staged.members v.images.items;
+      cache = before v.blocks.blocks v.kept.members v.octets.items;
+      seen = v.blocks.blocks;
       dirty = v.dirty.members;
     } };
 
-    ghost invariant = { λ v. IsVolume v.cache v.images.items v.staged v.dirty };
+    ghost invariant = { λ v. IsVolume v.blocks v.octets.items v.kept v.dirty };
 }
 
 impl Volume {
@@ -60,12 +63,12 @@ impl Volume {
         requires same { dirty ≡ staged }
         ensures { result ≡ record { cache = cache.blocks; seen = cache.blocks; dirty = [] } }
     {
-        // its clauses state that each block is whole
+        // its clauses state that each block is whole, and how many there may be
         let _count = cache.len();
         Volume {
-            cache,
-            staged,
-            images: Vec::new(alloc),
+            blocks: cache,
+            kept: PartSet::of(alloc, staged),
+            octets: Vec::new(alloc),
             dirty,
         }
     }
@@ -77,28 +80,28 @@ impl Volume {
         self.drop_stage();
     }
 
-    /// Discards the stage: reads see the cache again.
+    /// Discards the stage: what it changed has the octets again that it had before.
     pub fn drop_stage(&mut self)
         ensures { self.new ≡ record self.old { seen = self.old.cache } }
     {
-        self.staged.clear();
-        self.images.clear();
+        self.exchange();
+        self.forget();
     }
 
-    /// Moves the stage into the cache. Blocks whose octets change become dirty.
+    /// Keeps what the stage changed. Blocks whose octets it changed become dirty.
     pub fn apply(&mut self)
         ensures cache { self.new.cache ≡ self.old.seen }
         ensures seen { self.new.seen ≡ self.old.seen }
         ensures dirty { (k : ℕ) → Contains self.new.dirty k ↔ (Contains self.old.dirty k ⊎ Differs self.old.cache self.old.seen k) }
         ensures distinct { AreDistinct self.new.dirty }
     {
-        lay_over(
-            &mut self.cache,
-            self.staged.as_slice(),
-            &self.images,
+        mark_changed(
+            &self.blocks,
+            self.kept.as_slice(),
+            &self.octets,
             &mut self.dirty,
         );
-        self.drop_stage();
+        self.forget();
     }
 
     /// The number of dirty blocks.
@@ -119,30 +122,63 @@ impl Volume {
         ensures laid { (blocks : List (List ℕ)) → AgreeOutside into.new.numbers blocks self.old.cache
             → laid_over blocks into.new.numbers (blocks_from 0 (length into.new.numbers) into.new.images) ≡ self.old.cache }
     {
-        into.fill(self.dirty.as_slice(), &self.cache);
+        self.exchange();
+        into.fill(self.dirty.as_slice(), &self.blocks);
         self.dirty.clear();
+        self.exchange();
+    }
+
+    // Exchanges what the kept parts had before for what they have now.
+    fn exchange(&mut self)
+        ensures { self.new ≡ record self.old { cache = self.old.seen; seen = self.old.cache } }
+    {
+        exchange_parts(&mut self.blocks, self.kept.as_slice(), &mut self.octets);
+    }
+
+    // Keeps no part.
+    fn forget(&mut self)
+        ensures { self.new ≡ record self.old { cache = self.old.seen } }
+    {
+        self.kept.clear();
+        self.octets.clear();
     }
 }
 
-// Moves the staged blocks into the cache, and marks those whose octets change.
-fn lay_over(cache: &mut Chunks, staged: &[u32], images: &[u8], dirty: &mut NumberSet)
-    requires count { length cache.old.blocks ≡ dirty.old.bound }
-    requires room { All (λ n. HasOctets cache.old.made n) staged.now }
-    requires images { length images.now ≡ 4096 * length staged.now }
-    requires staged { IsNumbers (record { bound = dirty.old.bound; members = staged.now }) }
+// Exchanges the octets of these parts for those that are given, which then are those that the parts had.
+fn exchange_parts(blocks: &mut Chunks, numbers: &[usize], octets: &mut [u8])
+    requires there { All (λ p. p / 16 < length blocks.old.blocks) numbers.now }
+    requires whole { All (λ octets. length octets ≡ 4096) blocks.old.blocks }
+    requires room { All (λ p. HasOctets blocks.old.made (p / 16)) numbers.now }
+    requires size { length octets.old ≡ 256 * length numbers.now }
+    requires distinct { AreDistinct numbers.now }
+    ensures blocks { blocks.new ≡ record blocks.old { blocks = before blocks.old.blocks numbers.now octets.old } }
+    ensures back { before blocks.new.blocks numbers.now octets.new ≡ blocks.old.blocks }
+{
+    for (place, number) in numbers.iter().enumerate() {
+        let start = place * PART_SIZE;
+        swap_part(blocks, *number, &mut octets[start..start + PART_SIZE]);
+    }
+}
+
+// Marks the blocks of those parts that have other octets now than they had before.
+fn mark_changed(blocks: &Chunks, numbers: &[usize], octets: &[u8], dirty: &mut NumberSet)
+    requires there { All (λ p. p / 16 < length blocks.now.blocks) numbers.now }
+    requires size { length octets.now ≡ 256 * length numbers.now }
+    requires distinct { AreDistinct numbers.now }
+    requires bound { dirty.old.bound ≡ length blocks.now.blocks }
     requires dirty { IsNumbers dirty.old }
-    ensures cache { cache.new.blocks ≡ seen_over cache.old.blocks staged.now images.now }
-    ensures made { cache.new.made ≡ cache.old.made }
     ensures bound { dirty.new.bound ≡ dirty.old.bound }
     ensures valid { IsNumbers dirty.new }
     ensures dirty { (k : ℕ) → Contains dirty.new.members k
-        ↔ (Contains dirty.old.members k ⊎ Differs cache.old.blocks cache.new.blocks k) }
+        ↔ (Contains dirty.old.members k ⊎ Differs (before blocks.now.blocks numbers.now octets.now) blocks.now.blocks k) }
 {
-    for (place, number) in staged.iter().enumerate() {
-        let image = block_of(images, place);
-        if cache.block(*number) != image {
-            cache.put(*number, image);
-            mark(dirty, *number);
+    // its clauses state that each block is whole, and how many there may be
+    let _count = blocks.len();
+    for (place, number) in numbers.iter().enumerate() {
+        let start = place * PART_SIZE;
+        let before = &octets[start..start + PART_SIZE];
+        if part_of(blocks, *number) != before {
+            mark(dirty, (*number / BLOCK_PARTS) as u32);
         }
     }
 }
@@ -160,23 +196,56 @@ fn mark(dirty: &mut NumberSet, number: u32)
     }
 }
 
-// Adds a block to the stage. If memory is refused, nothing changes.
-fn stage_block(
-    staged: &mut NumberSet,
-    images: &mut Vec<u8>,
-    number: u32,
-    from: &[u8],
+// Keeps what these parts have, but for those that are kept already. If memory is refused, some of them may be kept.
+fn keep_parts(
+    kept: &mut PartSet,
+    octets: &mut Vec<u8>,
+    blocks: &Chunks,
+    first: usize,
+    end: usize,
 ) -> Result<(), AllocError>
-    requires below { number < staged.old.bound }
-    requires other { ¬ (Contains staged.old.members number) }
-    requires valid { IsNumbers staged.old }
-    ensures staged { staged.new ≡ (if is_ok result
-        then record { bound = staged.old.bound; members = staged.old.members ++ number ∷ [] } else staged.old) }
-    ensures valid { IsNumbers staged.new }
-    ensures images { images.new.items ≡ (if is_ok result then images.old.items ++ from.now else images.old.items) }
+    requires bound { kept.old.bound ≡ 16 * length blocks.now.blocks }
+    requires there { end ≤ kept.old.bound }
+    requires valid { IsNumbers kept.old }
+    requires size { length octets.old.items ≡ 256 * length kept.old.members }
+    ensures bound { kept.new.bound ≡ kept.old.bound }
+    ensures valid { IsNumbers kept.new }
+    ensures size { length octets.new.items ≡ 256 * length kept.new.members }
+    ensures before { before blocks.now.blocks kept.new.members octets.new.items ≡ before blocks.now.blocks kept.old.members octets.old.items }
+    ensures these { (p : ℕ) → Contains kept.new.members p → Contains kept.old.members p ⊎ ((first ≤ p) × (p < end)) }
+    ensures all { OnOk result ((p : ℕ) → first ≤ p → p < end → Contains kept.new.members p) }
 {
-    images.extend_from_slice(from)?;
-    staged.insert(number);
+    // its clauses state that each block is whole
+    let _count = blocks.len();
+    for number in first..end {
+        if !kept.has(number) {
+            keep_part(kept, octets, number, part_of(blocks, number))?;
+        }
+    }
+    Ok(())
+}
+
+// Keeps what a part has. If memory is refused, nothing changes.
+fn keep_part(
+    kept: &mut PartSet,
+    octets: &mut Vec<u8>,
+    number: usize,
+    part: &[u8],
+) -> Result<(), AllocError>
+    requires below { number < kept.old.bound }
+    requires other { ¬ (Contains kept.old.members number) }
+    requires valid { IsNumbers kept.old }
+    ensures kept { kept.new ≡ (if is_ok result
+        then record { bound = kept.old.bound; members = kept.old.members ++ number ∷ [] } else kept.old) }
+    ensures valid { IsNumbers kept.new }
+    ensures octets { octets.new.items ≡ (if is_ok result then octets.old.items ++ part.now else octets.old.items) }
+{
+    let end = octets.len();
+    octets.extend_from_slice(part)?;
+    if let Err(refused) = kept.insert(number) {
+        octets.truncate(end);
+        return Err(refused);
+    }
     Ok(())
 }
 
@@ -186,38 +255,28 @@ impl Blocks for Volume {
     ghost applied = { λ v. (v.cache, v.dirty) };
 
     fn len(&self) -> u32 {
-        self.cache.len()
+        self.blocks.len()
     }
 
     fn block(&self, number: u32) -> &[u8] {
-        match self.staged.place(number) {
-            Some(place) => block_of(&self.images, place),
-            None => self.cache.block(number),
-        }
+        self.blocks.block(number)
     }
 
     fn put(&mut self, number: u32, from: &[u8]) -> Result<(), AllocError> {
-        match self.staged.place(number) {
-            Some(place) => put_block(&mut self.images, place, from),
-            None => {
-                self.cache.make_room(number)?;
-                stage_block(&mut self.staged, &mut self.images, number, from)?;
-            }
-        }
-        Ok(())
+        self.put_at(number, 0, from)
     }
 
     fn put_at(&mut self, number: u32, at: usize, part: &[u8]) -> Result<(), AllocError> {
-        match self.staged.place(number) {
-            Some(place) => put_in_block(&mut self.images, place, at, part),
-            None => {
-                self.cache.make_room(number)?;
-                let end = self.images.len();
-                let cached = self.cache.block(number);
-                stage_block(&mut self.staged, &mut self.images, number, cached)?;
-                put_part(&mut self.images, end + at, part);
-            }
-        }
+        self.blocks.make_room(number)?;
+        let first = number as usize * BLOCK_PARTS;
+        keep_parts(
+            &mut self.kept,
+            &mut self.octets,
+            &self.blocks,
+            first + at / PART_SIZE,
+            first + (at + part.len()).div_ceil(PART_SIZE),
+        )?;
+        self.blocks.put_at(number, at, part);
         Ok(())
     }
 }

@@ -1,6 +1,5 @@
 use Rattle.std.proofs.Common.{◌≡◌, ℕ, List, [], get_or, set, sym, ◌∙◌, ap}
 use Rattle.std.proofs.lemmas.List.{set-get_or}
-use Rattle.volume.specs.Chunks.{ChunksView}
 use Rattle.volume.proofs.Told.{told_equal}
 use Rattle.volume.proofs.chunks.Chunks.replace.Goals as goal
 
@@ -11,8 +10,3 @@ returns-then-eq c =
     let same : get_or old number [] ≡ c.args.from.now =
     sym c.block.ensures.octets ∙ told_equal c.block.result.now c.args.from.now c.if-eq.ensures in
     sym (ap (λ (b : List ℕ). set old number b) (sym same) ∙ set-get_or old number [])
-
-pub returns : goal.returns
-returns c =
-    ap (λ (v : ChunksView). v.blocks) c.put.ensures
-    ∙ ap (λ (b : List (List ℕ)). set b c.args.number c.args.from.now) c.make_room.ensures.blocks
