@@ -21,10 +21,23 @@
    thread waits for the lock; STOP: the server is stopped; FAULT: the device may fail; ACCEPT: a block is refused only because too many
    blocks are dirty; DMAX: how many changes that is.
 
-   OTHERS=n: n times anything that the other sessions and the operator can do to this one. A writer belongs to one session. Two sessions
-   meet in the kernel, where one's change makes another's block wait or be refused, and in the bells, which they ring for one another; the
-   thread that flushes waits for no lock, so what it does for one session only delays what it does for the next. So one session beside such
-   others stands for any number of them. */
+   OTHERS: whatever any number of other sessions and the operator do to this one, any number of times. Why one session beside them stands
+   for any number of sessions: take a run of n sessions, and one of them, s. Leave out the steps of the other sessions' threads, and those
+   of the flusher, of the releaser and of the threads of rests that concern other sessions. What is left is a run of this model with S=1 and
+   OTHERS:
+   1. Each step that is left reads and writes what belongs to s (its writer, its outputs in the kernel, its caller, its bells) and what is
+      shared: the serials `accepted`, `taken`, `durable`, the flags `halted`, `stopping`, `closing`, `awaited`, and the bells of the flusher
+      and of the releaser. The steps that are left out write nothing of s: a writer is named in each step by its session.
+   2. What a step that is left out writes of what is shared, `Others` does, or the flusher in `gather`. A thread of another session has a
+      change accepted and owes a ring, which it gives, or leaves to the block that is awaited; it rings when it is put off or ends. The
+      flusher itself has changes accepted when it files what others have left, and owes no ring. It may ring the releaser for others after
+      each commit. `taken`, `durable` and the flags are written by the flusher and by who stops the server, for all sessions alike.
+   3. What is left out takes time alone. It ends: the flusher and the releaser wait for no writer's lock. While they try one again, a block
+      is left, and nobody stands in a patient write under that lock (an assertion in `write`).
+   4. What must hold is said of each session by itself, and of the serials. Where nothing moves in the run of n, nothing moves in what is
+      left: `Others` may end wherever it owes no ring, and a thread that owes one still moves.
+   The serials count only as far as they are apart, and what is durable is 0 from each commit on (`rebase`). So `Others` may act for ever,
+   and the states are few: the search over all of them ends. */
 #ifndef S
 #define S 2
 #endif
@@ -66,7 +79,7 @@ byte lk[S], written[S], left[S]; bit missed[S], waiting[S], hasleft[S], slow[S] 
 byte wt[S];
 #endif
 /* the bells: one token each */
-bit tkF, tkR, tkRest[S], tkS[S]; byte later; bit awaited, stopping, closing;
+bit tkF, tkR, tkRest[S], tkS[S], later[S] /* rang since the session's thread noted it */; bit awaited, stopping, closing;
 /* the callers; at: 0 runs, 1 reads, 2 ended, 3 waits for a release (after a fault perhaps until the end); fl: 0 runs, 1 parked, 2 ended */
 byte got[S]; bit rdown[S]; byte at[S], fl; bit frozen /* caller 0 takes nothing, and a thread waits for it */;
 
@@ -82,6 +95,14 @@ inline unlock(s) { atomic { assert(lk[s] == _pid + 1); lk[s] = 0 } }
 inline k_give(s) { /* all that is ready is taken; held: outputs are left in the kernel */
   do :: HASREADY(s) && !gone[s] -> given[s]++ :: else -> break od;
   held = (given[s] < put[s] && !gone[s]) }
+
+inline less(number) { if :: number > durable -> number = number - durable :: else -> number = 0 fi }
+
+inline rebase() { /* only how far serials are apart matters: what is durable is 0 from now on, so any number of changes has few states */
+  less(accepted); less(taken); s = 0;
+  do :: s < S -> less(ldep[s]); s++ :: else -> break od; s = 0;
+  do :: s < S * M -> less(dep[s]); s++ :: else -> break od; s = 0;
+  durable = 0 }
 
 inline k_answer(s, i) { /* Kern::answer */
   if :: gone[s] || closed[s] -> res = NONE
@@ -109,7 +130,7 @@ inline write(s, long) { assert(lk[s] == _pid + 1);
 #else
 #ifdef LONG
 inline write(s, long) { assert(lk[s] == _pid + 1);
-  if :: written[s] = given[s] :: STUCK(s) && long && s == 0 -> frozen = 1; false /* the caller takes nothing */
+  if :: written[s] = given[s] :: STUCK(s) && long && s == 0 -> assert(!hasleft[s]); frozen = 1; false /* the caller takes nothing */
      :: STUCK(s) && !long && s == 0 -> skip fi }
 #else
 inline write(s, long) { assert(lk[s] == _pid + 1); written[s] = given[s] }
@@ -134,6 +155,8 @@ inline catch_up(s) {
 
 inline send(s) { lock(s); atomic { write(s, 1) }; unlock(s); if :: missed[s] -> release(s) :: else fi }
 
+inline ring_later() { d_step { s = 0; do :: s < S -> later[s] = 1; s++ :: else -> break od; s = 0 } }
+
 inline note_post() { if :: tkF = 1 :: awaited -> skip /* the block that is awaited rings, or the pause ends */ fi }
 
 /* the block that was left, if it is not filed yet */
@@ -145,7 +168,7 @@ inline take_back(s) { back = 0;
 #endif
 
 inline have_answered(s, n) {
-  do :: noted = later;
+  do :: later[s] = 0;
      lock(s); missed[s] = 0; waiting[s] = 1;
      atomic { k_answer(s, n - 1) };
      if :: res >= E8 -> missed[s] = 1 :: else -> waiting[s] = held fi;
@@ -154,13 +177,13 @@ inline have_answered(s, n) {
         :: res == NONE -> break
         :: res == E8 || res == E9 -> tkF = 1; release(s);
            if :: closing -> break :: else fi;
-           if :: res == E8 -> later != noted
+           if :: res == E8 -> later[s]
               :: res == E9 && !has_taken && held -> at[s] = 3; atomic { tkS[s] -> tkS[s] = 0; at[s] = 0 }
               :: else fi fi od }
 
-proctype Session(byte s) { bit held, has_taken, fed; byte res, noted, back;
+proctype Session(byte s) { bit held, has_taken, fed; byte res, back;
   do :: /* the next message */
-     atomic { fed = 0; res = 0; held = 0; has_taken = 0; noted = 0; back = 0 };
+     atomic { fed = 0; res = 0; held = 0; has_taken = 0; back = 0 };
      if :: atomic { got[s] > 0 && MAYSEND(s) -> fed = 1; got[s]++ }  /* it came with the last one */
         :: skip fi;
      if :: fed
@@ -242,17 +265,21 @@ inline gather() { atomic { s = 0 };
            if :: won -> catch_up(s) :: else -> tkRest[s] = 1 fi;
            if :: res == CLOSED && MUTANT != 11 -> rdown[s] = 1 :: else fi; /* its thread shall end */
            atomic { held = 0; has_taken = 0; won = 0; res = 0 } ; break fi
-     od; s++ :: else -> break od }
+     od; s++ :: else -> break od;
+#ifdef OTHERS
+  do :: atomic { !halted && accepted - taken < DMAX -> accepted++ } :: break od /* what other sessions have left */
+#endif
+  }
 
 proctype Flusher() { bit got_batch, held, has_taken, won; byte batch, s, res;
   do :: if :: got_batch && MUTANT == 4 -> skip :: else -> gather() fi;
      atomic { got_batch = 0;
               if :: !halted && accepted > taken -> batch = accepted; taken = accepted; got_batch = 1 :: else fi };
-     if :: got_batch -> later++;
+     if :: got_batch -> ring_later();
 #ifdef FAULT
            if :: skip :: atomic { halted = 1; faulted = 1; break } fi;
 #endif
-           atomic { durable = batch; batch = 0 };
+           d_step { durable = batch; batch = 0; rebase() };
            if :: tkR = 1 :: skip fi; /* more than 12 wait */
            atomic { s = 0 };
            do :: s < S ->
@@ -266,24 +293,25 @@ proctype Flusher() { bit got_batch, held, has_taken, won; byte batch, s, res;
         :: else -> 
            if :: atomic { stopping -> if :: durable == accepted -> halted = 1; break :: else fi } :: atomic { !stopping -> skip } fi;
            fl = 1; atomic { tkF -> tkF = 0; fl = 0 } fi od;
-  tkR = 1; later++;            /* wake */
+  tkR = 1; ring_later();       /* wake */
   if :: faulted -> /* until a caller or a stop: what is left is still filed */
         do :: if :: MUTANT != 7 -> gather() :: else fi; if :: stopping -> break :: skip fi;
               if :: break :: fl = 1; atomic { tkF -> tkF = 0; fl = 0 } fi od
      :: else fi;
-  closing = 1; later++; tkR = 1;  /* close */
+  closing = 1; ring_later(); tkR = 1;  /* close */
   atomic { s = 0; do :: s < S -> tkRest[s] = 1; tkS[s] = 1; s++ :: else -> break od; s = 0; fl = 2 } }
 
 #ifdef STOP
 proctype Stopper() { stopping = 1; tkF = 1 }
 #endif
 #ifdef OTHERS
-proctype Others() { byte n;
-  do :: n < OTHERS -> n++;
-        if :: atomic { !halted && accepted - taken < DMAX -> accepted++ }; if :: tkF = 1 :: awaited -> skip fi
-           :: tkF = 1 :: tkR = 1 :: later++ fi
-     :: break od;
-  tkF = 1 }
+proctype Others() { bit owes;
+  do :: atomic { !halted && accepted - taken < DMAX -> accepted++; owes = 1 } /* its thread had it answered */
+     :: atomic { owes -> tkF = 1; owes = 0 }
+     :: atomic { owes && awaited -> owes = 0 }
+     :: atomic { owes -> tkF = 1 }                       /* one of several that owe a ring */
+     :: tkF = 1                                          /* one that is put off, or ends; or the operator */
+     :: atomic { !owes -> break } od }
 #endif
 
 init { byte s;

@@ -28,10 +28,10 @@ MUTANTS = {
     4: ("nothing is filed between the wait and the park", ["S=1", "M=4", "STAY"]),
     5: ("the ring comes before the flag", ONE),
     6: ("the last pass is judged after it", [*ONE, "STOP"]),
-    7: ("nobody files after a fault", [*BLOCK, "FAULT", "OTHERS=1"]),
-    9: ("a block that is refused for dirty ones is dropped", [*ONE, "OTHERS=1", "STAY"]),
+    7: ("nobody files after a fault", [*BLOCK, "FAULT", "OTHERS"]),
+    9: ("a block that is refused for dirty ones is dropped", [*ONE, "OTHERS", "STAY"]),
     10: ("a session ends without its block", ONE),
-    11: ("the thread of a closed session is not woken", [*BLOCK, "FAULT", "OTHERS=1"]),
+    11: ("the thread of a closed session is not woken", [*BLOCK, "FAULT", "OTHERS"]),
     12: ("a block is taken back without the lock", ONE),
     13: ("who files waits for the lock", [*ONE, "BLOCKFIRST", "LONG", "STAY"]),
 }
@@ -101,7 +101,7 @@ def mutants_of_refusals_and_locks_are_refuted(volume):
 def no_order_of_more_is_wrong(volume):
     """Larger models: they take minutes each, and gigabytes."""
     signal.alarm(SECONDS_OF_MANY)
-    for options in ([*ONE, "PART", "FOUR"], [*ONE, "BLOCKFIRST", "LONG", "STAY"], ["S=1", "M=4"], [*ONE, "OTHERS=1", "STAY"]):
+    for options in ([*ONE, "PART", "FOUR"], [*ONE, "BLOCKFIRST", "LONG", "STAY"], ["S=1", "M=4"], [*BLOCK, "OTHERS"]):
         holds(volume, *options, seconds=SECONDS_OF_MANY)
 
 

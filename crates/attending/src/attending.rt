@@ -25,7 +25,7 @@ impl<'a, R, K, G, W> Drop for Attending<'a, R, K, G, W> {
 }
 
 impl<'a, R, K, G, W> Attending<'a, R, K, G, W> {
-    /// No commit was made yet: the first ones are taken to be slow.
+    /// No commit was made yet: the first ones are taken to be slow, and the callers to come at once.
     pub fn new(shared: &'a Shared<'a, R, K, G>, gate: &'a W) -> Attending<'a, R, K, G, W> {
         Attending {
             shared,
@@ -69,7 +69,11 @@ impl<'a, R: Wait + Clock, K: Kern, G: Gate, W> Filing for Attending<'a, R, K, G,
     }
 
     fn is_wait_worth(&self) -> bool {
-        self.pace.is_slow()
+        self.pace.is_wait_worth()
+    }
+
+    fn note_round(&self) {
+        self.pace.note_round(self.shared.rt);
     }
 }
 

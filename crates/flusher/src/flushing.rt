@@ -42,6 +42,9 @@ pub trait Filing {
 
     /// Whether a batch should wait for the callers whose replies the last one has released.
     fn is_wait_worth(&self) -> bool;
+
+    /// The callers that a batch waited for have come, or it waits for them no longer.
+    fn note_round(&self);
 }
 
 /// What the flusher shares with the threads of the sessions.
@@ -388,8 +391,10 @@ fn follow<R: Wait, K: Kern, G: Gate + Filing>(
     } = around;
     tally.note_batch(used_blocks);
     gate.after_batch();
-    if !bells.is_stopping() && gate.is_wait_worth() {
+    // for a batch of one change nothing is gained: the next block wakes the flusher anyway
+    if released > 1 && !bells.is_stopping() && gate.is_wait_worth() {
         gather(rt, around, released);
+        gate.note_round();
     }
 }
 
