@@ -128,6 +128,7 @@ SCRIPTS = {
     "eight_open_segments_are_opened": Script(
         [*IN_A_CHECKPOINT, "crash 00", "spool", "join", *READS, "release"], first=len(IN_A_CHECKPOINT)),
     "a_post_over_a_cache": Script(POST, is_cached=True),
+    "the_service_stops": Script([*POST[:-1], "release 1 9", "release 1", "stop", *ask(1, "DATE"), "release 1"]),
 }
 
 # commands that end before they have done anything

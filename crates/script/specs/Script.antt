@@ -14,7 +14,7 @@ use Rattle.memdisk.specs.declared.Pick.TheVariants.{Old, New, Fill}
 use Rattle.script.specs.Words.{expiry_number_of, hex_octet, hex_octets, moment_of, number_of, split_word, status_of}
 use Rattle.script.specs.declared.lines.Line.{Line}
 use Rattle.script.specs.declared.lines.Line.TheVariants.{Group, Expire, Join, Leave, Arrive, Exec, Take, Dev, Told, Release, Commit, Settle}
-use Rattle.script.specs.declared.lines.Line.TheVariants.{Drain, FailAt, FailKind, Crash, Spool}
+use Rattle.script.specs.declared.lines.Line.TheVariants.{Drain, FailAt, FailKind, Crash, ReleaseOf, Spool, Stop}
 
 -- what a line asks for, with its texts as lists: a group is made, articles are removed from one, octets arrive for a
 -- session, anything else
@@ -35,6 +35,8 @@ said Take = Asked Take
 said Dev = Asked Dev
 said Told = Asked Told
 said Release = Asked Release
+said (ReleaseOf session room) = Asked (ReleaseOf session room)
+said Stop = Asked Stop
 said Commit = Asked Commit
 said Settle = Asked Settle
 said Drain = Asked Drain
@@ -55,10 +57,11 @@ alone_of word =
     else (if bytes_eq word (codes "dev") then Some (Asked Dev)
     else (if bytes_eq word (codes "told") then Some (Asked Told)
     else (if bytes_eq word (codes "release") then Some (Asked Release)
+    else (if bytes_eq word (codes "stop") then Some (Asked Stop)
     else (if bytes_eq word (codes "commit") then Some (Asked Commit)
     else (if bytes_eq word (codes "settle") then Some (Asked Settle)
     else (if bytes_eq word (codes "drain") then Some (Asked Drain)
-    else (if bytes_eq word (codes "spool") then Some (Asked Spool) else None))))))))
+    else (if bytes_eq word (codes "spool") then Some (Asked Spool) else None)))))))))
 
 -- what a crash makes of the touched octets
 unfoldable pub pick_of : Octets → Option Pick
@@ -82,6 +85,17 @@ fail_of words = by_words (split_word words)
       call ← number_of parts.1
       Some (Asked (FailKind kind call))
 
+-- S, or S and the room in octets
+unfoldable pub release_of : Octets → Option LineMeaning
+release_of words = by_words (split_word words)
+  where
+    by_words : Option (Octets × Octets) → Option LineMeaning
+    by_words None = option_map (λ session. Asked (ReleaseOf session 65536)) (number_of words)
+    by_words (Some parts) = do
+      session ← number_of parts.0
+      room ← number_of parts.1
+      Some (Asked (ReleaseOf session room))
+
 -- a line whose words are numbers or name a pick
 unfoldable pub numbered_of : Octets → Octets → Option LineMeaning
 numbered_of keyword words =
@@ -91,8 +105,9 @@ numbered_of keyword words =
       session ← number_of parts.0
       moment ← moment_of parts.1
       Some (Asked (Exec session moment)))
+    else (if bytes_eq keyword (codes "release") then release_of words
     else (if bytes_eq keyword (codes "fail") then fail_of words
-    else (if bytes_eq keyword (codes "crash") then option_map (λ pick. Asked (Crash pick)) (pick_of words) else None)))
+    else (if bytes_eq keyword (codes "crash") then option_map (λ pick. Asked (Crash pick)) (pick_of words) else None))))
 
 abbrev pub new_group : Octets → Status → Octets → ℕ → NewGroup
 new_group name status description moment = record { name = name; status = status; description = description; moment = moment }

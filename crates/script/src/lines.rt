@@ -4,7 +4,7 @@ ghost use Rattle.std.specs.Prelude.{◌≡◌, IfOk, IfErr, Some, None, option_m
 ghost use Rattle.names.specs.Requests as requests;
 ghost use Rattle.script.specs.Words.{hex_octets, hex_octet};
 ghost use Rattle.script.specs.Script.{Expired, alone_of, arrival_of, expired_of, expiry_of, fail_of, group_of, hex_of, kind_of, meaning};
-ghost use Rattle.script.specs.Script.{new_group_of, numbered_of, pick_of, said};
+ghost use Rattle.script.specs.Script.{new_group_of, numbered_of, pick_of, release_of, said};
 ghost use Rattle.script.specs.declared.lines.ParseError.TheVariants.{Memory};
 
 use crate::words::{expiry_number, moment, number, split_word, status};
@@ -15,6 +15,9 @@ use model::Moment;
 use names::{Description, GroupName, GroupRequest, NameError};
 use std::alloc::{AllocError, AllocFailed, Global};
 use thiserror::Error;
+
+/// The room of a release that names none, in octets: the most that one release hands out.
+const MOST_ROOM: u64 = 65_536;
 
 /// What a line of a script asks for. Sessions are named by their numbers.
 #[derive(Drop)]
@@ -40,6 +43,10 @@ pub enum Line {
     Told,
     /// What is ready is handed out.
     Release,
+    /// What is ready of one session is handed out, as far as there is room for so many octets.
+    ReleaseOf { session: u64, room: u64 },
+    /// The service is stopped, if every accepted change is durable.
+    Stop,
     /// A batch is taken and written up to its commit.
     Commit,
     /// The batch in flight is carried to its end.
@@ -128,6 +135,9 @@ fn alone(word: &[u8]) -> Option<Line>
     if word == b"release".as_slice() {
         return Some(Line::Release);
     }
+    if word == b"stop".as_slice() {
+        return Some(Line::Stop);
+    }
     if word == b"commit".as_slice() {
         return Some(Line::Commit);
     }
@@ -158,6 +168,9 @@ fn numbered(keyword: &[u8], words: &[u8]) -> Option<Line>
         let moment = moment(time)?;
         return Some(Line::Exec { session, moment });
     }
+    if keyword == b"release".as_slice() {
+        return releasing(words);
+    }
     if keyword == b"fail".as_slice() {
         return failing(words);
     }
@@ -166,6 +179,23 @@ fn numbered(keyword: &[u8], words: &[u8]) -> Option<Line>
         return Some(Line::Crash(pick));
     }
     None
+}
+
+/// `release S` or `release S N`, after its first word.
+#[tactic(auto, unfolding(crate::specs::Script::release_of))]
+fn releasing(words: &[u8]) -> Option<Line>
+    ensures { option_map said result ≡ release_of words.now }
+{
+    let Some((session, room)) = split_word(words) else {
+        let session = number(words)?;
+        return Some(Line::ReleaseOf {
+            session,
+            room: MOST_ROOM,
+        });
+    };
+    let session = number(session)?;
+    let room = number(room)?;
+    Some(Line::ReleaseOf { session, room })
 }
 
 /// `fail N` or `fail KIND N`, after its first word.

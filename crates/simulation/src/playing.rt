@@ -141,7 +141,12 @@ fn act<D: Device, W: Write>(
 ) -> Result<(), Failure> {
     match line {
         Line::Join => join(alloc, sim, output),
-        Line::Release => release(alloc, sim, output),
+        Line::Release => release(alloc, sim, Event::Release, output),
+        Line::ReleaseOf { session, room } => {
+            let number = session;
+            release(alloc, sim, Event::ReleaseOf { number, room }, output)
+        }
+        Line::Stop => stop(alloc, sim, output),
         Line::Commit => commit(alloc, sim, output),
         Line::Settle => settle(alloc, sim, output),
         Line::Drain => drain(alloc, sim, output),
@@ -195,14 +200,28 @@ fn join<D: Device, W: Write>(
     }
 }
 
-/// Hands out and prints what is ready.
+/// Hands out and prints what is ready, of all sessions or of one.
 fn release<D: Device, W: Write>(
+    alloc: Global,
+    sim: &mut Sim<D>,
+    event: Event,
+    output: &mut W,
+) -> Result<(), Failure> {
+    match sim.step(alloc, &event) {
+        Ok(_) => print_released(alloc, sim.ready(), output),
+        Err(error) => Ok(print_refusal(&error, output)?),
+    }
+}
+
+/// Stops the service, if every accepted change is durable, and prints whether it did.
+fn stop<D: Device, W: Write>(
     alloc: Global,
     sim: &mut Sim<D>,
     output: &mut W,
 ) -> Result<(), Failure> {
-    match sim.step(alloc, &Event::Release) {
-        Ok(_) => print_released(alloc, sim.ready(), output),
+    match sim.step(alloc, &Event::Stop) {
+        Ok(StepAnswer::Stopped(true)) => Ok(writeln!(output, "stopped")?),
+        Ok(_) => Ok(writeln!(output, "not stopped")?),
         Err(error) => Ok(print_refusal(&error, output)?),
     }
 }

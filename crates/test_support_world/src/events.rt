@@ -2,30 +2,19 @@
 
 use crate::errors::SimError;
 use model::{Change, Mark};
-use script::{Line, ParseError, number, parse};
+use script::{Line, ParseError, parse};
 use std::alloc::{AllocError, Global};
 use world::{Entry, Event, Happened, StepAnswer, StepError};
 
-/// A line of a script, or `release S` for what is ready of one session, and its answer.
+/// A line of a script, and its answer.
 pub type Row = (&'static str, &'static str);
 
 /// What a line asks.
 pub(crate) fn event(alloc: Global, line: &str) -> Result<Event, SimError> {
-    if let Some(session) = line.strip_prefix("release ") {
-        return release_of(session);
-    }
     match parse(alloc, line.as_bytes()) {
         Ok(line) => event_of(line),
         Err(ParseError::Bad) => Err(SimError::NoEvent),
         Err(ParseError::Memory) => Err(SimError::Memory),
-    }
-}
-
-// A script has no line for this.
-fn release_of(session: &str) -> Result<Event, SimError> {
-    match number(session.as_bytes()) {
-        Some(session) => Ok(Event::ReleaseOf(session)),
-        None => Err(SimError::NoEvent),
     }
 }
 
@@ -41,6 +30,11 @@ fn event_of(line: Line) -> Result<Event, SimError> {
         Line::Dev => Ok(Event::Dev),
         Line::Told => Ok(Event::Told),
         Line::Release => Ok(Event::Release),
+        Line::ReleaseOf { session, room } => Ok(Event::ReleaseOf {
+            number: session,
+            room,
+        }),
+        Line::Stop => Ok(Event::Stop),
         _ => Err(SimError::NoEvent),
     }
 }
@@ -64,6 +58,8 @@ pub(crate) fn said(
         Ok(StepAnswer::Made(serial)) => format!(in alloc; "made {serial}"),
         Ok(StepAnswer::Took(last)) => format!(in alloc; "took {last:?}"),
         Ok(StepAnswer::Progressed(progress)) => format!(in alloc; "{progress:?}"),
+        Ok(StepAnswer::Stopped(true)) => String::from_str(alloc, "stopped"),
+        Ok(StepAnswer::Stopped(false)) => String::from_str(alloc, "not stopped"),
         Err(error) => format!(in alloc; "{error}"),
     }
 }

@@ -45,6 +45,10 @@ fn answer_line(line: &Line, answer: &mut Answer) -> Result<(), AllocError> {
             answer.number(*session)?;
             answer.number(moment.seconds())
         }
+        Line::ReleaseOf { session, room } => {
+            answer.number(*session)?;
+            answer.number(*room)
+        }
         Line::FailAt(call) => answer.number(*call),
         Line::FailKind(kind, call) => {
             answer.shown(kind)?;
@@ -95,6 +99,8 @@ fn word_of(line: &Line) -> &'static str {
         Line::Dev => "Dev",
         Line::Told => "Told",
         Line::Release => "Release",
+        Line::ReleaseOf { .. } => "ReleaseOf",
+        Line::Stop => "Stop",
         Line::Commit => "Commit",
         Line::Settle => "Settle",
         Line::Drain => "Drain",

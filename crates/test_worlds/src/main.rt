@@ -6,7 +6,7 @@
 //!
 //! | Row | What it does or answers |
 //! |---|---|
-//! | an event of a script of `newsd sim`; `release S` | what the event answers; `release S` is for what is ready of one session |
+//! | an event of a script of `newsd sim` | what the event answers |
 //! | `new` | a new volume, opened |
 //! | `close`, `open`, `damage PICK`, `crash PICK` | closes the world; opens the device; crashes the device; all three |
 //! | `fail N`, `fail KIND N` | a later device call fails |

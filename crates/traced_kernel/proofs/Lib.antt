@@ -8,3 +8,4 @@ pub mod Inputs
 pub mod Peers
 pub mod Sound
 pub mod Room
+pub mod Within

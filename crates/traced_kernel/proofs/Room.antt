@@ -6,12 +6,12 @@ use Rattle.std.proofs.Common.{⊎_elim}
 use Rattle.std.proofs.lemmas.Bool.{cases_lt}
 use Rattle.seats.specs.Kept.{RiseFrom}
 use Rattle.std.specs.Option.{IsSome}
-use Rattle.seats.specs.Seats.{Ready, Seat, ready, ready_of}
+use Rattle.seats.specs.Seats.{Ready, Seat, ready}
 use Rattle.seats.proofs.SeatsLaws.{eqb-same, find_place}
 use Rattle.outbox.specs.Queue.{ReadyEntry}
 use Rattle.synchrony.specs.Server.{updated}
 use Rattle.model.proofs.Joined.{front_more}
-use Rattle.traced_kernel.specs.Events.{with_released}
+use Rattle.traced_kernel.specs.Events.{ready_within, with_released}
 use Rattle.traced_kernel.specs.Fields.{AreKnown, HasRoom, HaveRoom, given_in, inputs, sents}
 use Rattle.traced_kernel.specs.Traced.{Sent, numbered, sent_at, with_numbered, with_sent}
 use Rattle.traced_kernel.specs.declared.peer.Peer.{Peer}
@@ -94,7 +94,7 @@ released_more sessions (first ∷ entries) entry =
     released_more (with_sent sessions first.0
     (record (sent_at sessions first.0) { released = (sent_at sessions first.0).released ++ first.1 })) entries entry
 
-drop_more : {A : Type 0} (xs : List A) (k : ℕ) (x : A) → slice_get xs k ≡ Some x → drop k xs ≡ x ∷ drop (k + 1) xs
+pub drop_more : {A : Type 0} (xs : List A) (k : ℕ) (x : A) → slice_get xs k ≡ Some x → drop k xs ≡ x ∷ drop (k + 1) xs
 drop_more [] k x is = absurd (cc is)
 drop_more (y ∷ xs) zero x is = let same : y ≡ x = cc is in ap (λ z. z ∷ xs) same
 drop_more (y ∷ xs) (suc k) x is = let e : suc k + 1 ≡ suc (k + 1) = omega arith in
@@ -204,9 +204,9 @@ pub ready_room : (seats : List Seat) (durable : ℕ) (peers : List Peer) → Ris
 ready_room seats durable peers rise =
     given_room seats durable peers (ready durable 65536 seats) (ready_gives 0 durable 65536 seats rise) (ready_short durable 65536 seats)
 
-pub one_room : (seats : List Seat) (durable : ℕ) (number : ℕ) (peers : List Peer)
+pub one_room : (seats : List Seat) (durable room number : ℕ) (peers : List Peer) → room ≤ 65536
     → ((k : ℕ) (seat : Seat) → slice_get seats k ≡ Some seat → HasRoom peers seat.number 65536)
-    → HaveRoom peers (λ k. length (given_in k (ready_of durable [] number seats).entries))
-one_room seats durable number peers =
-    given_room seats durable peers (ready_of durable [] number seats) (one_gives durable [] number seats)
-    (one_short durable [] number seats)
+    → HaveRoom peers (λ k. length (given_in k (ready_within durable room seats (seat_in seats number)).entries))
+one_room seats durable room number peers few =
+    given_room seats durable peers (ready_within durable room seats (seat_in seats number)) (one_gives durable room number seats)
+    (λ k. omega (arith, few, one_short durable room number seats k))

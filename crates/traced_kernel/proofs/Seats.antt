@@ -7,9 +7,10 @@ use Rattle.std.proofs.lemmas.Bool.Decides.{nat_tests}
 use Rattle.std.proofs.lemmas.List.{append-nil}
 use Rattle.outbox.specs.Queue.{Giving, ReadyEntry, give, entry_of, nothing_more, octets_in}
 use Rattle.outbox.proofs.GivingLaws.{give-full}
-use Rattle.seats.specs.Seats.{Seat, Ready, given_of, ready, ready_by, ready_of, seat_given, with_seat}
+use Rattle.seats.specs.Seats.{Seat, Ready, ready, ready_by, seat_given, with_seat}
 use Rattle.seats.specs.Kept.{RiseFrom}
 use Rattle.seats.proofs.SeatsLaws.{eqb-same}
+use Rattle.traced_kernel.specs.Events.{ready_within}
 use Rattle.traced_kernel.specs.Fields.{given_in}
 use Rattle.traced_kernel.proofs.Giving.{give_room}
 use Rattle.synchrony.specs.Server.{updated}
@@ -237,19 +238,20 @@ given_nothing p (Some seat) =
     let none : give p 0 seat.given seat.held ≡ nothing_more 0 seat.given seat.held = give-full p 0 seat.given seat.held refl in
     (0, ap (seat_after seat) (sym none), ap (λ (g : Giving). g.octets) (sym none))
 
-pub one_gives : (p : ℕ) (entries : List ReadyEntry) (number : ℕ) (seats : List Seat) (k : ℕ)
-    → Given p (seat_in seats k) (seat_in (ready_of p entries number seats).seats k) (given_in k (ready_of p entries number seats).entries)
-one_gives p entries number seats k = go (seat_in seats number) refl
+pub one_gives : (p room number : ℕ) (seats : List Seat) (k : ℕ)
+    → Given p (seat_in seats k) (seat_in (ready_within p room seats (seat_in seats number)).seats k)
+    (given_in k (ready_within p room seats (seat_in seats number)).entries)
+one_gives p room number seats k = go (seat_in seats number) refl
   where
     found : (seat : Seat) → seat_in seats seat.number ≡ Some seat
-        → Given p (seat_in seats k) (seat_in (ready_by p entries seats (Some seat)).seats k)
-        (given_in k (ready_by p entries seats (Some seat)).entries)
+        → Given p (seat_in seats k) (seat_in (ready_within p room seats (Some seat)).seats k)
+        (given_in k (ready_within p room seats (Some seat)).entries)
     found seat is =
-        by_number (λ j. Given p (seat_in seats j) (seat_in (ready_by p entries seats (Some seat)).seats j)
-        (given_in j (ready_by p entries seats (Some seat)).entries)) seat.number
-        (subst (λ o. Given p o (seat_in (ready_by p entries seats (Some seat)).seats seat.number)
+        by_number (λ j. Given p (seat_in seats j) (seat_in (ready_within p room seats (Some seat)).seats j)
+        (given_in j (ready_within p room seats (Some seat)).entries)) seat.number
+        (subst (λ o. Given p o (seat_in (ready_within p room seats (Some seat)).seats seat.number)
         (given_in seat.number (entry_of seat.number g))) (sym is) (
-          65536 - octets_in entries,
+          room,
           after g.ended seat.number ∙ updated-same (seat_in seats) seat.number (seat_after seat g),
           given_in-own seat.number g,
         ))
@@ -264,17 +266,17 @@ one_gives p entries number seats k = go (seat_in seats number) refl
         k
       where
         g : Giving
-        g = given_of p entries seat
+        g = give p room seat.given seat.held
 
         after : (ended : Bool) (j : ℕ) → seat_in
             (if ended then filter (λ (other : Seat). not (other.number == seat.number)) seats else with_seat seats
-            (seat_given seat (given_of p entries seat))) j
-            ≡ updated (seat_in seats) seat.number (if ended then None else Some (seat_given seat (given_of p entries seat))) j
+            (seat_given seat (give p room seat.given seat.held))) j
+            ≡ updated (seat_in seats) seat.number (if ended then None else Some (seat_given seat (give p room seat.given seat.held))) j
         after true j = seat_in-left seat.number seats j
-        after false j = seat_in-answered seats (seat_given seat (given_of p entries seat)) seat is j
+        after false j = seat_in-answered seats (seat_given seat (give p room seat.given seat.held)) seat is j
 
     go : (o : Option Seat) → seat_in seats number ≡ o
-        → Given p (seat_in seats k) (seat_in (ready_by p entries seats o).seats k) (given_in k (ready_by p entries seats o).entries)
+        → Given p (seat_in seats k) (seat_in (ready_within p room seats o).seats k) (given_in k (ready_within p room seats o).entries)
     go None is = given_nothing p (seat_in seats k)
     go (Some seat) is = found seat (ap (seat_in seats) (seat_in-number seats number seat is) ∙ is)
 
@@ -305,14 +307,22 @@ ready_short p room (seat ∷ seats) number =
       give_room p room seat.given seat.held,
     )
 
-pub one_short : (p : ℕ) (entries : List ReadyEntry) (number : ℕ) (seats : List Seat) (k : ℕ)
-    → length (given_in k (ready_of p entries number seats).entries) ≤ 65536
-one_short p entries number seats k = go (seat_in seats number)
+pub one_short : (p room number : ℕ) (seats : List Seat) (k : ℕ)
+    → length (given_in k (ready_within p room seats (seat_in seats number)).entries) ≤ room
+one_short p room number seats k = go (seat_in seats number)
   where
-    go : (o : Option Seat) → length (given_in k (ready_by p entries seats o).entries) ≤ 65536
+    go : (o : Option Seat) → length (given_in k (ready_within p room seats o).entries) ≤ room
     go None = omega arith
     go (Some seat) = omega (
       arith,
-      entry_short k seat.number (given_of p entries seat),
-      give_room p (65536 - octets_in entries) seat.given seat.held,
+      entry_short k seat.number (give p room seat.given seat.held),
+      give_room p room seat.given seat.held,
     )
+
+-- ---- a release into a buffer that holds octets
+
+-- it gives what one gives with the room that is left
+pub of_within : (p : ℕ) (entries : List ReadyEntry) (seats : List Seat) (o : Option Seat)
+    → ready_by p entries seats o ≡ ready_within p (65536 - octets_in entries) seats o
+of_within p entries seats None = refl
+of_within p entries seats (Some seat) = refl

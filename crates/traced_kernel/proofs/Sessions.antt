@@ -7,14 +7,14 @@ use Rattle.std.proofs.lemmas.List.{append-nil, length-set}
 use Rattle.std.proofs.lemmas.Option.{slice_get_past, slice_get_within, slice_get-map}
 use Rattle.std.proofs.lemmas.List.Elements.{All-head, All-tail}
 use Rattle.outbox.specs.Queue.{ReadyEntry, Giving, give, entry_of}
-use Rattle.seats.specs.Seats.{Seat, given_of, ready, ready_by, ready_of}
+use Rattle.seats.specs.Seats.{Seat, ready}
 use Rattle.seats.specs.Kept.{IsSeat}
 use Rattle.seats.proofs.SeatsLaws.{eqb-same, find_place}
 use Rattle.kernel.proofs.KernelLaws.{all_at}
 use Rattle.model.specs.declared.change.Change.{Change}
 use Rattle.synchrony.specs.Server.{updated}
 use Rattle.traced_kernel.specs.Traced.{Sent, nobody, numbered, session_at, sent_at, with_sent}
-use Rattle.traced_kernel.specs.Events.{with_released}
+use Rattle.traced_kernel.specs.Events.{ready_within, with_released}
 use Rattle.traced_kernel.specs.Fields.{AreKnown, given_in}
 use Rattle.traced_kernel.proofs.Seats.{eqb-other, by_number, seat_in, updated-same, updated-other}
 
@@ -203,15 +203,15 @@ ready_known host S joined p room sessions (seat ∷ seats) long h =
     (session_at-some sessions seat.number this.some (omega (arith, this.spent))))
     (ready_known host S joined p (give p room seat.given seat.held).room sessions seats long (All-tail (IsSeat host S joined) seat seats h))
 
-pub one_known : (host : List ℕ) (S : List Change) (joined p : ℕ) (entries : List ReadyEntry) (number : ℕ) (sessions : List Sent)
+pub one_known : (host : List ℕ) (S : List Change) (joined p room number : ℕ) (sessions : List Sent)
     (seats : List Seat) → length sessions ≡ joined → All (IsSeat host S joined) seats
-    → AreKnown sessions (ready_of p entries number seats).entries
-one_known host S joined p entries number sessions seats long h = go (seat_in seats number) refl
+    → AreKnown sessions (ready_within p room seats (seat_in seats number)).entries
+one_known host S joined p room number sessions seats long h = go (seat_in seats number) refl
   where
-    go : (o : Option Seat) → seat_in seats number ≡ o → AreKnown sessions (ready_by p entries seats o).entries
+    go : (o : Option Seat) → seat_in seats number ≡ o → AreKnown sessions (ready_within p room seats o).entries
     go None is = tt
     go (Some seat) is =
         let place = find_place number seats seat is in
         let this : IsSeat host S joined seat = all_at (IsSeat host S joined) place.0 seats seat h place.1 in
-        AreKnown-own sessions seat.number (given_of p entries seat)
+        AreKnown-own sessions seat.number (give p room seat.given seat.held)
         (session_at-some sessions seat.number this.some (omega (arith, this.spent)))

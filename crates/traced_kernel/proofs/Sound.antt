@@ -2,11 +2,11 @@
 use Rattle.std.proofs.Common.{◌≡◌, ◌≢◌, ◌⊎◌, inl, inr, ℕ, zero, suc, ◌+◌, ◌≤◌, ◌==◌, Bool, true, false, List, [], ◌∷◌, ◌++◌, length, take}
 use Rattle.std.proofs.Common.{Option, Some, None, refl, ap, sym, ◌∙◌, subst, arith, length-append}
 use Rattle.std.specs.Prelude.{filter, is_err, not, OnOk, IfOk, IfSome, IsNone, MatchOption, OnErr, Result, Ok, Err, unwrap_or, is_some}
-use Rattle.std.specs.Prelude.{if◌then◌else◌}
+use Rattle.std.specs.Prelude.{if◌then◌else◌, min}
 use Rattle.std.proofs.lemmas.List.{append-nil, length-set, take_all}
 use Rattle.kernel.specs.Kernel.{FitsMode, KernelView, Refusal, Tested, answered, exec_refusal, halted_for_good, joined, made_durable}
 use Rattle.kernel.specs.Kernel.{mode_at, seat_of, taken}
-use Rattle.seats.specs.Seats.{Ready, Seat, new_seat, ready, ready_of}
+use Rattle.seats.specs.Seats.{Ready, Seat, new_seat, ready}
 use Rattle.seats.proofs.SeatsLaws.{eqb-same}
 use Rattle.kernel.specs.Errors.{of_exec}
 use Rattle.shared_kernel.specs.declared.errors.ExecError.{ExecError}
@@ -25,7 +25,8 @@ use Rattle.synchrony.specs.Progress.{HasMore, with_more}
 use Rattle.synchrony.specs.Server.{Connection, updated}
 use Rattle.synchrony.proofs.Fronts.{same_functions}
 use Rattle.synchrony.proofs.GoingOn.{account_served}
-use Rattle.traced_kernel.specs.Events.{arrives, joins, leaves, opens, releases, releases_of, with_kernel, DidExec, Makes, Serves}
+use Rattle.traced_kernel.specs.Events.{arrives, given_within, joins, leaves, opens, releases, releases_of, with_kernel, DidExec, Makes}
+use Rattle.traced_kernel.specs.Events.{Serves}
 use Rattle.traced_kernel.specs.Fields.{AreKnown, Becomes, InputsStand, IsSound, given_in}
 use Rattle.traced_kernel.specs.Input.{Found, HoldsMessage, MayAsk, Waits}
 use Rattle.traced_kernel.specs.Traced.{IsPresent, IsServed, IsSession, IsThere, IsUnknown, TracedView, account, arrived_at, nobody, sent_at}
@@ -454,13 +455,13 @@ sound_releases served inputs kept h =
     h.beside.numbers kept.seats)
     (ready_gives 0 served.kernel.durable 65536 served.kernel.seats kept.rising) h
 
-pub sound_releases_of : (served : TracedView) (inputs : List Input) (number : ℕ) → IsKept served.kernel → IsSound served inputs
-    → IsSound (releases_of served number) inputs
-sound_releases_of served inputs number kept h =
-    sound_gives served inputs (ready_of served.kernel.durable [] number served.kernel.seats)
-    (one_known served.kernel.host served.kernel.spool served.kernel.joined served.kernel.durable [] number served.sessions
+pub sound_releases_of : (served : TracedView) (inputs : List Input) (number room : ℕ) → IsKept served.kernel → IsSound served inputs
+    → IsSound (releases_of served number room) inputs
+sound_releases_of served inputs number room kept h =
+    sound_gives served inputs (given_within served.kernel (min room 65536) number)
+    (one_known served.kernel.host served.kernel.spool served.kernel.joined served.kernel.durable (min room 65536) number served.sessions
     served.kernel.seats h.beside.numbers kept.seats)
-    (one_gives served.kernel.durable [] number served.kernel.seats) h
+    (one_gives served.kernel.durable (min room 65536) number served.kernel.seats) h
 
 -- ---- the kernel alone
 

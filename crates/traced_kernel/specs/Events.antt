@@ -1,15 +1,15 @@
 -- What each event does to what is served.
 use Rattle.std.specs.Prelude.{Result, Err, MatchResult, ◌≡◌, ℕ, ◌++◌, true, List, [], ◌∷◌, length, Option, Some, None, is_some, is_none}
-use Rattle.std.specs.Prelude.{if◌then◌else◌}
+use Rattle.std.specs.Prelude.{◌==◌, not, filter, min, if◌then◌else◌}
 use Rattle.model.specs.Stream.{Octets}
 use Rattle.model.specs.declared.change.Change.{Change}
 use Rattle.model.specs.declared.message.Message.{Message}
 use Rattle.model.specs.declared.message.Mark.{Mark}
 use Rattle.model.specs.declared.message.Mode.{Mode}
-use Rattle.outbox.specs.Queue.{ReadyEntry}
-use Rattle.kernel.specs.Kernel.{KernelView, seat_of, mode_at, joined, left, released, released_of, exec_refusal, first_failing, Refusal}
+use Rattle.outbox.specs.Queue.{ReadyEntry, entry_of, give}
+use Rattle.kernel.specs.Kernel.{KernelView, seat_of, mode_at, joined, left, released, exec_refusal, first_failing, Refusal}
 use Rattle.kernel.specs.Kernel.{NoSession, Execs, Administers, TestedOrMemory}
-use Rattle.seats.specs.Seats.{ready, ready_of}
+use Rattle.seats.specs.Seats.{Ready, Seat, ready, seat_given, with_seat}
 use Rattle.kernel.specs.Errors.{of_exec}
 use Rattle.shared_kernel.specs.declared.errors.ExecError.{ExecError}
 use Rattle.shared_kernel.specs.declared.errors.ExecError.TheVariants as exec
@@ -57,13 +57,26 @@ releases served =
       ready = (ready served.kernel.durable 65536 served.kernel.seats).entries;
     }
 
--- what is ready of one session is handed out
-abbrev pub releases_of : TracedView → ℕ → TracedView
-releases_of served number =
+-- what a session gives where there is room for so many octets, and the sessions afterwards; if it does not exist, nothing
+-- happens
+abbrev pub ready_within : ℕ → ℕ → List Seat → Option Seat → Ready
+ready_within p room seats None = record { entries = []; seats = seats }
+ready_within p room seats (Some seat) = record {
+  entries = entry_of seat.number (give p room seat.given seat.held);
+  seats = if (give p room seat.given seat.held).ended then filter (λ (other : Seat). not (other.number == seat.number)) seats
+      else with_seat seats (seat_given seat (give p room seat.given seat.held));
+}
+
+abbrev pub given_within : KernelView → ℕ → ℕ → Ready
+given_within kernel room number = ready_within kernel.durable room kernel.seats (seat_of kernel number)
+
+-- what is ready of one session is handed out, as far as there is room for octets: for 65,536 at most
+abbrev pub releases_of : TracedView → ℕ → ℕ → TracedView
+releases_of served number room =
     record served {
-      kernel = released_of served.kernel [] number;
-      sessions = with_released served.sessions (ready_of served.kernel.durable [] number served.kernel.seats).entries;
-      ready = (ready_of served.kernel.durable [] number served.kernel.seats).entries;
+      kernel = record served.kernel { seats = (given_within served.kernel (min room 65536) number).seats };
+      sessions = with_released served.sessions (given_within served.kernel (min room 65536) number).entries;
+      ready = (given_within served.kernel (min room 65536) number).entries;
     }
 
 -- only the kernel changes

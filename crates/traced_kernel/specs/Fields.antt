@@ -7,7 +7,7 @@ use Rattle.model.specs.News.{mode_of}
 use Rattle.model.specs.declared.change.Change.{Change}
 use Rattle.model.specs.declared.message.Mark.{Mark}
 use Rattle.model.specs.declared.message.Mode.{Mode}
-use Rattle.outbox.specs.Queue.{ReadyEntry}
+use Rattle.outbox.specs.Queue.{Giving, ReadyEntry, entry_of as entry_given}
 use Rattle.model.specs.declared.session.Session.{Session}
 use Rattle.synchrony.specs.Server.{Connection, Entry, Command as Commanded, Admin as Administered}
 use Rattle.traced_kernel.specs.Input.{Waits}
@@ -59,6 +59,10 @@ Becomes old new number R = (before : Input) → numbered old number ≡ Some bef
 abbrev pub given_in : ℕ → List ReadyEntry → List ℕ
 given_in number [] = []
 given_in number (entry ∷ entries) = (if entry.0 == number then entry.1 else []) ++ given_in number entries
+
+-- what one session gives: an entry or none
+abbrev pub GivesOne : List ReadyEntry → Type 0
+GivesOne entries = (number : ℕ) × (given : Giving) × (length given.octets ≤ 65536) × (entries ≡ entry_given number given)
 
 -- each entry is of a session that joined
 abbrev pub AreKnown : List Sent → List ReadyEntry → Type 0

@@ -4,36 +4,43 @@
 #![tactic(auto)]
 
 ghost use Rattle.std.specs.Prelude.{◌≡◌, ◌≢◌, ◌⊎◌, ◌↔◌, ◌+◌, ◌*◌, [], Option, Some, None, Ok, IsTrue, IsSome, IsNone, IfOk};
-ghost use Rattle.std.specs.Prelude.{IfSome, OnOk, OnErr, length, true, false, is_none};
+ghost use Rattle.std.specs.Prelude.{IfSome, OnOk, OnErr, List, length, true, false, is_none, ℕ, ◌-◌};
 ghost use Rattle.kernel.specs.Errors.{of_join, of_admin, of_expire};
 ghost use Rattle.traced_kernel.specs.Errors.{of_arrive};
 ghost use Rattle.kernel.specs.Kept.{IsKept};
 ghost use Rattle.kernel.specs.Kernel.{Takes, Tested, TestedOrMemory, admin_refusal_of, early_refusal, expire_refusal_of, halted_for_good};
-ghost use Rattle.kernel.specs.Kernel.{has_batch, join_refusal, made_durable, mode_at};
+ghost use Rattle.kernel.specs.Kernel.{KernelView, has_batch, join_refusal, made_durable, mode_at, released_of};
 ghost use Rattle.model.specs.Volume.{blocks_from};
 ghost use Rattle.model.specs.declared.change.Change.TheVariants.{Expire, Group};
 ghost use Rattle.names.specs.Requests.{group_of};
+ghost use Rattle.outbox.specs.Queue.{ReadyEntry, octets_in};
+ghost use Rattle.seats.specs.Seats.{ready_of};
 ghost use Rattle.traced_kernel.specs.Events.{DidExec, Makes, arrive_refusal, arrives, joins};
-ghost use Rattle.traced_kernel.specs.Events.{leaves, opens, releases, releases_of, with_kernel};
+ghost use Rattle.traced_kernel.specs.Events.{given_within, leaves, opens, releases, releases_of, with_kernel};
 ghost use Rattle.synchrony.specs.Server.{Admin};
 ghost use Rattle.traced_kernel.specs.Traced.{FollowsPlain, IsServed, TracedView, arrived_at, next_of, released_at};
 
+mod buffers;
 mod entry;
 mod errors;
 mod input;
 mod peer;
 
+use buffers::Spare;
 pub use entry::{Entry, Happened};
 pub use errors::ArriveError;
 pub use input::Input;
 use kernel::{BatchBuf, Kernel, Spool};
 use model::{Change, Expiry, Mark, Mode, Moment, NewGroup, Text};
 use names::{GroupName, GroupRequest};
-use outbox::ReadyBuf;
+use outbox::{RELEASE_OCTETS, ReadyBuf};
 pub use peer::Peer;
 use shared_kernel::{AdminError, ExecError, ExpireError, JoinError, Stale, Ticket};
 use std::alloc::{AllocError, Global};
 use std::marker::Model;
+
+/// The most octets that one release hands out, as a number of any room.
+const MOST_ROOM: u64 = RELEASE_OCTETS as u64;
 
 /// The kernel, with what its sessions sent and were sent, and the trace.
 pub struct TracedKernel {
@@ -229,17 +236,22 @@ impl TracedKernel {
         Ok(())
     }
 
-    /// Hands out what is ready of one session, which then counts as released: `ready` returns it. Nothing is handed out
-    /// if the session does not exist. Refused only for want of memory, with nothing changed.
-    pub fn release_of(&mut self, number: u64) -> Result<(), AllocError>
-        ensures ok { OnOk result (self.new ≡ releases_of self.old number) }
+    /// Hands out what is ready of one session, as far as there is room for so many octets, and for 65,536 at most; it
+    /// then counts as released: `ready` returns it. Nothing is handed out if the session does not exist. Refused only for
+    /// want of memory, with nothing changed.
+    pub fn release_of(&mut self, alloc: Global, number: u64, room: u64) -> Result<(), AllocError>
+        ensures ok { OnOk result (self.new ≡ releases_of self.old number room) }
         ensures err { OnErr result (self.new ≡ self.old) }
     {
         self.kernel.kept();
         peer::make_room(&self.kernel, &mut self.peers)?;
+        // the kernel asks a buffer itself for its room
+        let mut buffer = buffers::filled(alloc, RELEASE_OCTETS - room.min(MOST_ROOM) as usize)?;
+        let place = buffer.len();
+        let spare = Spare::new(alloc)?;
+        self.kernel.give_ready(number, &mut buffer);
         let ready = &mut self.ready;
-        ready.clear();
-        self.kernel.give_ready(number, ready);
+        buffers::copy_entry(&buffer, place, spare, ready);
         peer::file(&mut self.peers, ready);
         Ok(())
     }
@@ -323,7 +335,31 @@ impl TracedKernel {
     {
         self.kernel.halt();
     }
+
+    /// The kernel halts for good if every accepted change is durable, and the answer is whether it did. Otherwise nothing
+    /// changes.
+    pub fn stop(&mut self) -> bool
+        ensures when { IsTrue result ↔ (self.old.kernel.durable ≡ length self.old.kernel.spool) }
+        ensures stops { result ≡ true → self.new ≡ with_kernel self.old (halted_for_good self.old.kernel) }
+        ensures goes_on { result ≡ false → self.new ≡ self.old }
+    {
+        if self.kernel.durable() != self.kernel.len() {
+            return false;
+        }
+        self.kernel.halt();
+        true
+    }
 }
+
+/// A release of one session into a buffer that holds entries hands out what one does with the room that these leave, and
+/// leaves the same of the kernel. The function does nothing.
+pub fn a_buffer_leaves_room()
+    ensures given { (kernel : KernelView) (entries : List ReadyEntry) (number : ℕ)
+        → ready_of kernel.durable entries number kernel.seats ≡ given_within kernel (65_536 - octets_in entries) number }
+    ensures kept { (kernel : KernelView) (entries : List ReadyEntry) (number : ℕ)
+        → released_of kernel entries number
+        ≡ record kernel { seats = (given_within kernel (65_536 - octets_in entries) number).seats } }
+{}
 
 /// The entry of a group that the operator makes.
 fn group_entry(alloc: Global, group: &GroupRequest) -> Result<Entry, AllocError>

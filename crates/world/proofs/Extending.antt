@@ -1,6 +1,6 @@
 -- No event changes what a system began with: it only puts changes behind those that are there.
-use Rattle.std.proofs.Common.{◌≡◌, ⊎_elim, inl, inr, ◌⊎◌, ℕ, ◌≤◌, length, take, Bool, true, false, List, [], ◌∷◌, ◌++◌, Option, Some, None}
-use Rattle.std.proofs.Common.{refl, ap, sym, ◌∙◌, subst, arith, append_assoc}
+use Rattle.std.proofs.Common.{◌≡◌, ◌≢◌, ⊎_elim, inl, inr, ◌⊎◌, ℕ, ◌≤◌, length, take, Bool, true, false, List, [], ◌∷◌, ◌++◌, Option, Some}
+use Rattle.std.proofs.Common.{None, refl, ap, sym, ◌∙◌, subst, arith, append_assoc}
 use Rattle.std.proofs.lemmas.List.{append-nil}
 use Rattle.std.specs.Prelude.{Result, Ok, Err, MatchResult}
 use Rattle.std.specs.Option.{option_to_list}
@@ -8,7 +8,7 @@ use Rattle.disk.specs.Device.{Device}
 use Rattle.journal.specs.declared.Next.{Next}
 use Rattle.journal.specs.declared.Next.TheVariants as next
 use Rattle.kernel.specs.Kernel.{KernelView, Refusal, Tested, TestedOrMemory, admin_refusal_of, early_refusal, exec_refusal}
-use Rattle.kernel.specs.Kernel.{expire_refusal_of, has_batch, join_refusal, mode_at, taken}
+use Rattle.kernel.specs.Kernel.{expire_refusal_of, halted_for_good, has_batch, join_refusal, mode_at, taken}
 use Rattle.model.specs.Spool.{Spool}
 use Rattle.model.specs.Stream.{Octets}
 use Rattle.model.specs.declared.change.Change.{Change}
@@ -26,6 +26,7 @@ use Rattle.world.specs.declared.events.Event.TheVariants as event
 use Rattle.world.specs.declared.events.StepAnswer.{StepAnswer}
 use Rattle.world.specs.declared.events.StepError.{StepError}
 use Rattle.world.specs.declared.events.StepError.TheVariants as error
+use Rattle.world.proofs.Sound.{same_or_not}
 
 -- the same host, the same number of changes at the opening, and more changes behind those that were there
 pub record Extends (old new : TracedView) : Type 0 where
@@ -145,9 +146,16 @@ module _ {D : Type 0} (device : D → Device) (write_grows sync_grows : Bool) (o
   did_extends event.Release (Ok a) d =
       goes (releases old.served) (alike old.served (releases old.served) refl refl refl) d.1
   did_extends event.Release (Err e) d = stays d.1
-  did_extends (event.ReleaseOf number) (Ok a) d =
-      goes (releases_of old.served number) (alike old.served (releases_of old.served number) refl refl refl) d.1
-  did_extends (event.ReleaseOf number) (Err e) d = stays d.1
+  did_extends (event.ReleaseOf number room) (Ok a) d =
+      goes (releases_of old.served number room) (alike old.served (releases_of old.served number room) refl refl refl) d.1
+  did_extends (event.ReleaseOf number room) (Err e) d = stays d.1
+  did_extends event.Stop result d =
+      ⊎_elim
+      (λ (clean : (kernel_of old).durable ≡ length (kernel_of old).spool).
+      goes (with_kernel old.served (halted_for_good (kernel_of old)))
+      (alike old.served (with_kernel old.served (halted_for_good (kernel_of old))) refl refl refl) (d.stops clean).1)
+      (λ (more : (kernel_of old).durable ≢ length (kernel_of old).spool). stays (d.goes_on more).1)
+      (same_or_not (kernel_of old).durable (length (kernel_of old).spool))
 
 pub went_extends : {D : Type 0} (device : D → Device) (write_grows sync_grows : Bool) (old new : WorldView D) (events : List Event)
     → Went device write_grows sync_grows old events new → Extends old.served new.served

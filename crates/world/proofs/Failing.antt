@@ -15,7 +15,7 @@ over journal disk = record journal { disk = disk }
 phase_over : {D : Type 0} (tells : Bool) (journal : JournalView D) (kernel : KernelView) (untold : List News) (disk : D)
     → Phase tells journal kernel untold → Phase tells (over journal disk) kernel untold
 phase_over tells journal kernel untold disk (Quiet q) =
-    Quiet (record { none = q.none; past = q.past; blocks = q.blocks; faults = q.faults })
+    Quiet (record { none = q.none; past = q.past; blocks = q.blocks; dirty = q.dirty; faults = q.faults; stopped = q.stopped })
 phase_over tells journal kernel untold disk (Flying last f) =
     Flying last (record {
       flies = f.flies;
@@ -24,6 +24,8 @@ phase_over tells journal kernel untold disk (Flying last f) =
       size = f.size;
       before = f.before;
       after = f.after;
+      more = f.more;
+      dirty = f.dirty;
       faults = f.faults;
     })
 phase_over tells journal kernel untold disk (IsToBeTold last c) =
@@ -31,6 +33,8 @@ phase_over tells journal kernel untold disk (IsToBeTold last c) =
       flies = c.flies;
       past = c.past;
       blocks = c.blocks;
+      more = c.more;
+      dirty = c.dirty;
       running = c.running;
       later = c.later;
       told = c.told;

@@ -19,7 +19,7 @@ use Rattle.world.specs.Fields.{IsSound}
 use Rattle.opening.specs.Standing.{IsDamagedVolume, IsNoNewsVolume}
 use Rattle.world.specs.Images.{KeepsSpools, StandsForNone}
 use Rattle.journal.specs.Order.{is_to_commit}
-use Rattle.world.specs.Tied.{AreFaults, IsQuiet, Quiet}
+use Rattle.world.specs.Tied.{AreFaultsOrStopped, IsQuiet, Quiet}
 
 module _ {D : Type 0} (device : D → Device) (only_now : (d : D) (image : Octets) → IsTrue (device d).tells
     → (device d).left_since (device d).clock image → (device d).may_leave image)
@@ -69,7 +69,9 @@ sound_new {D} device journal kernel served is k format ready =
             agrees = record { size = ap length lies; clean = λ n lt clean. ap (λ xs. slice_index_or xs n []) lies };
             holds = subst (λ (t : List Octets × Spool). Holds kernel.host kernel.inodes t.0 t.1) (λ i. (sym lies i, sym all i)) k.holds;
           };
-          faults = subst (λ b. AreFaults b kernel.halted []) (sym ready.0) (k.fresh.halted, refl);
+          dirty = λ some. absurd (some k.fresh.dirty);
+          faults = subst (λ b. AreFaultsOrStopped b kernel.halted []) (sym ready.0) refl;
+          stopped = λ runs halted. k.fresh.durable;
         }
 
     now : IsSound (device journal.disk).tells (record { journal = journal; served = opens kernel; untold = [] }) None

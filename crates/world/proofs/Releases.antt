@@ -292,7 +292,7 @@ pub record DrainsOn {D : Type 0} (device : D → Device) (write_grows sync_grows
   pub inner : RunsInner {A = Unit {0}} device write_grows sync_grows old (Ok tt) now
   pub keeps : IsWorld device now
   pub asked : AsksNothing old.served now.served
-  pub settled : IsSettled device now
+  pub settled : IsSettled device (kernel_of old).halted now
   pub still : IsStill device old now
   pub cost : CostsToSettle device old (device now.journal.disk)
   pub empty : gives ≡ false → IsTrue (device now.journal.disk).tells → All HoldsNothing (kernel_of now).seats
@@ -303,7 +303,8 @@ left_to_give world gives = held_in (kernel_of world).seats + (if gives then 1 el
 
 module _ {D : Type 0} (device : D → Device) (write_grows sync_grows : Bool) (old now new : WorldView D) where
   pub drains_first : RunsInner {A = Unit {0}} device write_grows sync_grows old (Ok tt) now → IsWorld device now
-      → now.served ≡ with_kernel old.served (with_progress (kernel_of old) (kernel_of now)) → IsSettled device now → IsStill device old now
+      → now.served ≡ with_kernel old.served (with_progress (kernel_of old) (kernel_of now))
+      → IsSettled device (kernel_of old).halted now → IsStill device old now
       → CostsToSettle device old (device now.journal.disk) → DrainsOn device write_grows sync_grows old now true
   drains_first inner keeps served settled still cost = record {
     inner = inner;
@@ -333,9 +334,9 @@ module _ {D : Type 0} (device : D → Device) (write_grows sync_grows : Bool) (o
           keeps = h.keeps;
           asked = subst (λ (w : WorldView D). AsksNothing old.served w.served) same
               (asks_then old.served now.served (releases now.served) so_far.asked (asks_releases device now so_far.keeps));
-          settled = subst (λ (w : WorldView D). IsSettled device w) same (record {
+          settled = subst (λ (w : WorldView D). IsSettled device (kernel_of old).halted w) same (record {
             ready = so_far.settled.ready;
-            running = so_far.settled.running;
+            halted = so_far.settled.halted;
             none = so_far.settled.none;
             clean = so_far.settled.clean;
             told = so_far.settled.told;
@@ -456,12 +457,12 @@ module _ {D : Type 0} (device : D → Device) (write_grows sync_grows : Bool) (o
     pub refused_asks : AsksNothing old.served new.served
     refused_asks = subst (λ (w : WorldView D). AsksNothing old.served w.served) (sym h.did.1) so_far.asked
 
-    pub refused_hindered : (first : Type 0) → IsHindered device old new (first ⊎ IsSettled device new) e
+    pub refused_hindered : (first : Type 0) → IsHindered device old new (first ⊎ IsSettled device (kernel_of old).halted new) e
     refused_hindered first = inr (inr (
       so_far.still.ran,
       h.did.0,
       ap (λ (w : WorldView D). (device w.journal.disk).failures) h.did.1 ∙ so_far.still.failures,
-      inr (subst (λ (w : WorldView D). IsSettled device w) (sym h.did.1) so_far.settled),
+      inr (subst (λ (w : WorldView D). IsSettled device (kernel_of old).halted w) (sym h.did.1) so_far.settled),
     ))
 
 -- ---- all that is said of a drain
@@ -472,20 +473,21 @@ pub record Drains {D : Type 0} (device : D → Device) (write_grows sync_grows :
   pub now : EachNow (device new.journal.disk) (Fits new)
   pub keeps : IsWorld device new
   pub asked : AsksNothing old.served new.served
-  pub ok : OnOk result (IsSettled device new)
+  pub ok : OnOk result (IsSettled device (kernel_of old).halted new)
   pub all : IsTrue (device old.journal.disk).tells → OnOk result (SendsAll old.served new.served)
   pub cost : OnOk result (CostsToSettle device old (device new.journal.disk))
   pub fault : (result ≡ Err error.Fault) ↔ ((device new.journal.disk).failures ≢ (device old.journal.disk).failures)
   pub halted : (result ≡ Err error.Halted) ↔ (old.journal.halted ≡ true)
   pub stays : result ≡ Err error.Halted → new ≡ old
-  pub memory : result ≡ Err error.Memory → IsTrue (write_grows || sync_grows) ⊎ IsSettled device new
+  pub memory : result ≡ Err error.Memory → IsTrue (write_grows || sync_grows) ⊎ IsSettled device (kernel_of old).halted new
 
 module _ {D : Type 0} (device : D → Device) (write_grows sync_grows : Bool) (old now new : WorldView D) where
   pub undrained : (e : StepError) → RunsInner {A = Unit {0}} device write_grows sync_grows old (Err e) new → IsWorld device new
-      → AsksNothing old.served new.served → IsHindered device old new (IsTrue (write_grows || sync_grows) ⊎ IsSettled device new) e
+      → AsksNothing old.served new.served
+      → IsHindered device old new (IsTrue (write_grows || sync_grows) ⊎ IsSettled device (kernel_of old).halted new) e
       → Drains device write_grows sync_grows old (Err e) new
   undrained e inner keeps asked hindered =
-      let why = IsTrue (write_grows || sync_grows) ⊎ IsSettled device new in
+      let why = IsTrue (write_grows || sync_grows) ⊎ IsSettled device (kernel_of old).halted new in
       record {
         inner = inner;
         now = now_fits device new keeps;
@@ -504,7 +506,7 @@ module _ {D : Type 0} (device : D → Device) (write_grows sync_grows : Bool) (o
       → Drains device write_grows sync_grows old (Err e) new
   unsettled_drain e h = undrained e h.inner h.keeps (asks_progress old.served new.served (kernel_of new) h.served)
       (weaker_hindrance device write_grows sync_grows old now new (IsTrue (write_grows || sync_grows))
-      (IsTrue (write_grows || sync_grows) ⊎ IsSettled device new) e inl h.hindered)
+      (IsTrue (write_grows || sync_grows) ⊎ IsSettled device (kernel_of old).halted new) e inl h.hindered)
 
   pub unreleased_drain : DrainsOn device write_grows sync_grows old now true → (e : StepError)
       → ReleasesSome device write_grows sync_grows now (Err e) new → Drains device write_grows sync_grows old (Err e) new

@@ -20,7 +20,7 @@ use Rattle.world.specs.Draining.{CostsToSettle, FinishesBatch, IsHindered, IsSet
 use Rattle.world.specs.Draining.{syncs_left, with_batch_durable, with_progress, writes_left}
 use Rattle.world.specs.Events.{DidTake, begun}
 use Rattle.world.specs.Images.{EachNow, EachSince, Fits, LeftFits}
-use Rattle.world.specs.Tied.{IsWorld, LieBehind, Phase, Quiet, Flying, IsToBeTold}
+use Rattle.world.specs.Tied.{IsTied, IsWorld, LieBehind, Phase, Quiet, Flying, IsToBeTold}
 use Rattle.world.specs.World.{WorldView, kernel_of}
 use Rattle.world.specs.declared.events.Event.TheVariants as event
 use Rattle.world.specs.declared.events.StepAnswer.{StepAnswer}
@@ -57,6 +57,22 @@ durable_when_clean device world h tells none clean = go h.tied.phase where
   go : Phase (device world.journal.disk).tells world.journal (kernel_of world) world.untold
       → (kernel_of world).durable ≡ length (kernel_of world).spool
   go (Quiet q) = all_durable (kernel_of world) world.journal.blocks clean h.kernel.cache h.tied.label.few h.kernel.durable (q.blocks tells)
+  go (Flying last f) = absurd (let no : Some last ≡ None = sym f.flies ∙ none in cc)
+  go (IsToBeTold last c) = absurd (let no : Some last ≡ None = sym c.flies ∙ none in cc)
+
+-- a kernel that was stopped has no dirty block
+clean_when_stopped : {D : Type 0} (tells : Bool) (world : WorldView D) → IsTied tells world → IsReady world.journal
+    → (kernel_of world).in_flight ≡ None → (kernel_of world).halted ≡ true → (length (kernel_of world).dirty == 0) ≡ true
+clean_when_stopped tells world h ready none halted = go h.phase where
+  go : Phase tells world.journal (kernel_of world) world.untold → (length (kernel_of world).dirty == 0) ≡ true
+  go (Quiet q) = by_test (length (kernel_of world).dirty == 0) refl where
+    by_test : (b : Bool) → (length (kernel_of world).dirty == 0) ≡ b → b ≡ true
+    by_test true is = refl
+    by_test false is =
+        let some : (kernel_of world).dirty ≡ [] → ⊥ = λ empty.
+        let no : (length (kernel_of world).dirty == 0) ≡ true = ap (λ (xs : List ℕ). length xs == 0) empty in
+        true≢false (sym no ∙ is) in
+        absurd (omega (arith, q.dirty some, q.stopped ready.0 halted))
   go (Flying last f) = absurd (let no : Some last ≡ None = sym f.flies ∙ none in cc)
   go (IsToBeTold last c) = absurd (let no : Some last ≡ None = sym c.flies ∙ none in cc)
 
@@ -110,18 +126,25 @@ module _ {D : Type 0} (device : D → Device) (write_grows sync_grows : Bool) (o
   abbrev kernel : KernelView
   kernel = kernel_of old
 
-  runs : kernel.halted ≡ false
-  runs = ap (λ (s : TracedView). s.kernel.halted) (sym before.served) ∙ before.running
-
-  -- there is a batch exactly if a block is dirty
+  -- there is a batch exactly if a block is dirty; none is, if the service was stopped
   has : has_batch (kernel_of first) ≡ not (length kernel.dirty == 0)
-  has = ap (λ (s : TracedView). has_batch s.kernel) before.served
-      ∙ ap (λ (halted : Bool). not (length (kernel_of old).dirty == 0 || false || halted)) runs
-      ∙ by_test (length (kernel_of old).dirty == 0)
+  has = ap (λ (s : TracedView). has_batch s.kernel) before.served ∙ by_halt kernel.halted refl
     where
       by_test : (b : Bool) → not (b || false || false) ≡ not b
       by_test true = refl
       by_test false = refl
+
+      clean : kernel.halted ≡ true → (length kernel.dirty == 0) ≡ true
+      clean halted =
+          ap (λ (s : TracedView). length s.kernel.dirty == 0) (sym before.served)
+          ∙ clean_when_stopped (device first.journal.disk).tells first before.keeps.tied before.ready
+          (ap (λ (s : TracedView). s.kernel.in_flight) before.served) (ap (λ (s : TracedView). s.kernel.halted) before.served ∙ halted)
+
+      by_halt : (halted : Bool) → kernel.halted ≡ halted
+          → not (length kernel.dirty == 0 || false || kernel.halted) ≡ not (length kernel.dirty == 0)
+      by_halt false is = ap (λ (b : Bool). not (length kernel.dirty == 0 || false || b)) is ∙ by_test (length kernel.dirty == 0)
+      by_halt true is =
+          ap (λ (b : Bool). not (b || false || kernel.halted)) (clean is) ∙ sym (ap not (clean is))
 
   -- what Take does
   record Takes : Type 0 where
@@ -204,21 +227,28 @@ module _ {D : Type 0} (device : D → Device) (write_grows sync_grows : Bool) (o
       → RunsInner device write_grows sync_grows old result new
   settled_inner result after = inner_then device write_grows sync_grows old second new tt result inner after.inner
 
-  pub settled : FinishesBatch device write_grows sync_grows second (Ok tt) new → IsSettled device new
+  pub settled : FinishesBatch device write_grows sync_grows second (Ok tt) new → IsSettled device (kernel_of old).halted new
   settled after =
-      let parts : ((kernel_of new).in_flight ≡ None) × ((kernel_of new).dirty ≡ []) = ⊎_elim
+      let parts : ((kernel_of new).in_flight ≡ None) × ((kernel_of new).dirty ≡ []) × ((kernel_of new).halted ≡ (kernel_of old).halted) =
+      ⊎_elim
       (λ (e : second.served ≡ with_kernel old.served (taken (with_batch_durable (kernel_of old)))).
       let is : new.served ≡ with_kernel old.served (with_batch_durable (taken (with_batch_durable (kernel_of old)))) =
-      after.served ∙ ap (λ (s : TracedView). with_kernel s (with_batch_durable s.kernel)) e in
-      (ap (λ (s : TracedView). s.kernel.in_flight) is, ap (λ (s : TracedView). s.kernel.dirty) is))
+      after.served ∙ ap (λ (s : TracedView). with_kernel s (with_batch_durable s.kernel)) e in (
+        ap (λ (s : TracedView). s.kernel.in_flight) is,
+        ap (λ (s : TracedView). s.kernel.dirty) is,
+        ap (λ (s : TracedView). s.kernel.halted) is,
+      ))
       (λ (e : (second.served ≡ with_kernel old.served (with_batch_durable (kernel_of old))) × ((kernel_of old).dirty ≡ [])).
       let is : new.served ≡ with_kernel old.served (with_batch_durable (with_batch_durable (kernel_of old))) =
-      after.served ∙ ap (λ (s : TracedView). with_kernel s (with_batch_durable s.kernel)) e.0 in
-      (ap (λ (s : TracedView). s.kernel.in_flight) is, ap (λ (s : TracedView). s.kernel.dirty) is ∙ e.1))
+      after.served ∙ ap (λ (s : TracedView). with_kernel s (with_batch_durable s.kernel)) e.0 in (
+        ap (λ (s : TracedView). s.kernel.in_flight) is,
+        ap (λ (s : TracedView). s.kernel.dirty) is ∙ e.1,
+        ap (λ (s : TracedView). s.kernel.halted) is,
+      ))
       served in
       record {
         ready = after.ready;
-        running = after.running;
+        halted = parts.2;
         none = parts.0;
         clean = parts.1;
         told = after.told;
@@ -290,7 +320,7 @@ pub record Settles {D : Type 0} (device : D → Device) (write_grows sync_grows 
     (result : Result (Unit {0}) StepError) (new : WorldView D) : Type 0 where
   pub inner : RunsInner device write_grows sync_grows old result new
   pub served : new.served ≡ with_kernel old.served (with_progress (kernel_of old) (kernel_of new))
-  pub ok : OnOk result (IsSettled device new)
+  pub ok : OnOk result (IsSettled device (kernel_of old).halted new)
   pub still : OnOk result (IsStill device old new)
   pub cost : OnOk result (CostsToSettle device old (device new.journal.disk))
   pub hindered : IfErr result (IsHindered device old new (IsTrue (write_grows || sync_grows)))

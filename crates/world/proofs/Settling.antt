@@ -26,7 +26,7 @@ use Rattle.world.specs.Draining.{CarriesOut, FinishesBatch, IsHindered, RunsInne
 use Rattle.world.specs.Draining.{syncs_left, with_batch_durable, writes_left}
 use Rattle.world.specs.Events.{Did, DidDev, dev_answer, news_of, told}
 use Rattle.world.specs.Images.{EachSince, Fits, LeftFits}
-use Rattle.world.specs.Tied.{AreFaults, IsTied, IsWorld, Phase, Quiet, Flying, IsToBeTold}
+use Rattle.world.specs.Tied.{AreFaults, AreFaultsOrStopped, IsTied, IsWorld, Phase, Quiet, Flying, IsToBeTold}
 use Rattle.world.specs.World.{News, WorldView, kernel_of}
 use Rattle.world.specs.declared.events.Event.TheVariants as event
 use Rattle.world.specs.declared.events.StepAnswer.{StepAnswer}
@@ -313,7 +313,6 @@ no_faults true other news is f = absurd (true≢false is)
 
 -- what the kernel learns when the calls are made
 pub record Learns (kernel : KernelView) (news : List News) : Type 0 where
-  pub running : kernel.halted ≡ false
   pub kernel_is : told kernel news ≡ with_batch_durable kernel
   pub rest : drop 1 news ≡ []
 
@@ -327,16 +326,12 @@ learns {D} tells world ready tied = go tied.phase where
   nothing none = λ i. record kernel { durable = unwrap_or (none i) kernel.durable; in_flight = sym none i }
 
   go : Phase tells world.journal kernel world.untold → Learns kernel world.untold
-  go (Quiet q) = let f = no_faults world.journal.halted kernel.halted world.untold ready.0 q.faults in
-      record {
-        running = f.0;
-        kernel_is = ap (told kernel) f.1 ∙ sym (nothing q.none);
-        rest = ap (drop 1) f.1;
-      }
+  go (Quiet q) =
+      let quiet : world.untold ≡ [] = subst (λ b. AreFaultsOrStopped b kernel.halted world.untold) ready.0 q.faults in
+      record { kernel_is = ap (told kernel) quiet ∙ sym (nothing q.none); rest = ap (drop 1) quiet }
   go (Flying last f) = absurd (true≢false (sym f.waits ∙ ap is_to_commit ready.1))
   go (IsToBeTold last c) = let f = no_faults world.journal.halted false c.later ready.0 c.faults in
       record {
-        running = c.running;
         kernel_is = ap (told kernel) c.told
             ∙ ap (λ (o : Option ℕ). record kernel { durable = unwrap_or o kernel.durable; in_flight = None }) (sym c.flies);
         rest = ap (drop 1) c.told ∙ f.1;
@@ -360,7 +355,6 @@ module _ {D : Type 0} (device : D → Device) (write_grows sync_grows : Bool) wh
             (inner_one device write_grows sync_grows now new event.Told r (Ok tt) tt (λ _. fine) d world during since);
         keeps = world;
         served = served;
-        running = ap (λ (s : TracedView). s.kernel.halted) served ∙ ap (λ (s : TracedView). s.kernel.halted) (sym h.served) ∙ l.running;
         told = ap (λ (w : WorldView D). w.untold) d.1 ∙ l.rest;
         ready = subst (λ (j : JournalView D). IsReady j) (sym journal) h.ready;
         same = subst (λ (j : JournalView D). IsSameBatch old.journal j) (sym journal) h.same;
@@ -378,7 +372,6 @@ module _ {D : Type 0} (device : D → Device) (write_grows sync_grows : Bool) wh
     inner = h.inner;
     keeps = h.keeps;
     served = h.served;
-    running = tt;
     told = tt;
     ready = tt;
     same = tt;

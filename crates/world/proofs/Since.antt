@@ -1,6 +1,6 @@
 -- What a crash at some moment of an event might have left.
 use Rattle.std.proofs.Common.{◌≡◌, ◌≢◌, ◌⊎◌, inl, inr, ⊎_elim, ℕ, ◌≤◌, Bool, true, false, Option, Some, None, refl, ap, sym, ◌∙◌, subst}
-use Rattle.std.proofs.Common.{arith}
+use Rattle.std.proofs.Common.{arith, length}
 use Rattle.std.specs.Prelude.{IsTrue, IfErr, MatchResult, Result, Ok, Err}
 use Rattle.disk.specs.Device.{Device, Elapses}
 use Rattle.journal.specs.Calls.{IsRetried, MakesCall, OnMade, OnRetried}
@@ -26,7 +26,7 @@ use Rattle.world.specs.declared.events.Event.TheVariants as event
 use Rattle.world.specs.declared.events.StepError.{StepError}
 use Rattle.world.specs.declared.events.StepError.TheVariants as error
 use Rattle.world.proofs.Fitting.{admits_fits, now_fits}
-use Rattle.world.proofs.Sound.{tested_or}
+use Rattle.world.proofs.Sound.{same_or_not, tested_or}
 
 -- an image fits by what is served alone
 FitsAt : TracedView → Octets → Type 0
@@ -130,7 +130,11 @@ module _ {D : Type 0} (device : D → Device) (write_grows sync_grows : Bool) (o
   did_left event.Dev r h d = left_dev r h d
   did_left event.Told r h d = same_disk (ap (λ (w : WorldView D). w.journal.disk) d.1)
   did_left event.Release r h d = left_release r _ (λ a done. by_served _ done.1) d
-  did_left (event.ReleaseOf number) r h d = left_release r _ (λ a done. by_served _ done.1) d
+  did_left (event.ReleaseOf number room) r h d = left_release r _ (λ a done. by_served _ done.1) d
+  did_left event.Stop r h d =
+      ⊎_elim (λ (clean : (kernel_of old).durable ≡ length (kernel_of old).spool). by_served _ (d.stops clean).1)
+      (λ (more : (kernel_of old).durable ≢ length (kernel_of old).spool). by_world (d.goes_on more).1)
+      (same_or_not (kernel_of old).durable (length (kernel_of old).spool))
 
   -- a crash at some moment of the event leaves what fits the world before it
   pub step_since : (e : Event) (r : Result StepAnswer StepError) → IsWorld device new → Did device write_grows sync_grows old e r new

@@ -1,6 +1,7 @@
 -- What the fields keep, through each event.
-use Rattle.std.proofs.Common.{◌≡◌, ◌≢◌, ◌⊎◌, inl, inr, ⊎_elim, ℕ, ◌+◌, Bool, true, false, eqb, List, [], ◌∷◌, ◌++◌, length, Option, Some}
-use Rattle.std.proofs.Common.{None, refl, ap, sym, ◌∙◌, subst}
+use Rattle.std.proofs.Common.{◌≡◌, ◌≢◌, ◌⊎◌, ◌↔◌, ◌==◌, inl, inr, ⊎_elim, ℕ, ◌+◌, Bool, true, false, eqb, List, [], ◌∷◌, ◌++◌, length, Option}
+use Rattle.std.proofs.Common.{Some, None, refl, ap, sym, ◌∙◌, subst}
+use Rattle.std.proofs.lemmas.Bool.{eqb-true, eqb-false}
 use Rattle.std.proofs.lemmas.List.{append-nil}
 use Rattle.disk.specs.Device.{Device}
 use Rattle.journal.specs.Calls.{MakesCall, OnMade}
@@ -15,30 +16,32 @@ use Rattle.kernel.specs.Kernel as refusal
 use Rattle.shared_kernel.specs.declared.errors.ExecError.TheVariants as exec
 use Rattle.world.specs.declared.events.StepAnswer.TheVariants as answer
 use Rattle.std.specs.Prelude.{drop, ◌||◌, ◌&&◌, not, is_none, nat_le, nat_lt, IfOk, map, option_map, slice_index_or, OnErr, OnOk, Result}
-use Rattle.std.specs.Prelude.{Ok, Err}
+use Rattle.std.specs.Prelude.{Ok, Err, IsTrue, if◌then◌else◌}
 use Rattle.journal.specs.Journal.{IsReady, JournalView, sizes, still_open}
 use Rattle.journal.specs.declared.Next.TheVariants.{Descriptor}
 use Rattle.kernel.specs.Errors.{of_exec}
 use Rattle.kernel.specs.Kernel.{AgreesBehind, KernelView, halted_for_good, made_durable, Refusal, Takes, Tested, TestedOrMemory, buffered}
-use Rattle.kernel.specs.Kernel.{exec_refusal, first_failing, has_batch, is_block, mode_at, most_dirty, taken}
+use Rattle.kernel.specs.Kernel.{admin_refusal_of, exec_refusal, expire_refusal_of, first_failing, has_batch, is_block, mode_at, most_dirty}
+use Rattle.kernel.specs.Kernel.{taken}
 use Rattle.seats.specs.Seats.{Seat}
 use Rattle.kernel.specs.Kept.{IsKept}
 use Rattle.shared_kernel.specs.declared.ticket.Ticket.{Ticket}
 use Rattle.shared_kernel.specs.declared.errors.ExecError.{ExecError}
 use Rattle.model.specs.Stream.{Octets}
 use Rattle.model.specs.Volume.{laid_over}
+use Rattle.model.specs.declared.change.Change.{Change}
 use Rattle.model.specs.declared.message.Mark.{Mark}
 use Rattle.model.specs.declared.message.Message.{Message}
 use Rattle.model.specs.declared.message.Mode.{Mode}
 use Rattle.traced_kernel.specs.Events.{DidExec as ServedExec, releases, releases_of, with_kernel}
 use Rattle.traced_kernel.specs.Traced.{TracedView}
 use Rattle.traced_kernel.proofs.Sound.{err_of}
-use Rattle.world.specs.Events.{DidExec, Steps, begun, commits, exec_answer, fails, news_of, of_exec_error, of_kernel, told}
+use Rattle.world.specs.Events.{DidExec, DidStop, Steps, begun, commits, exec_answer, fails, news_of, of_exec_error, of_kernel, told}
 use Rattle.world.specs.Fields.{IsSound, durable_news, failed_news, news_in}
-use Rattle.world.specs.Tied.{AreFaults, IsTied, Phase, Quiet, Flying, IsToBeTold}
+use Rattle.world.specs.Tied.{AreFaults, AreFaultsOrStopped, IsTied, Phase, Quiet, Flying, IsToBeTold}
 use Rattle.world.specs.World.{IsDurable, HasFailed, News, WorldView, kernel_of, with_served}
 use Rattle.world.proofs.Tying.{Grows, Grows-executed, Grows-refl, IsTied-grows, IsTied-steps, IsTied-takes, IsTied-told_durable}
-use Rattle.world.proofs.Tying.{IsTied-told_failed, batch_parts}
+use Rattle.world.proofs.Tying.{IsTied-stops, IsTied-told_failed, batch_parts}
 
 -- ---- the sessions and the kernel's changes go on
 
@@ -65,12 +68,23 @@ tested_or as_error memory None old new (Err e) done h = (inl (h.0, refl), h.1)
 
 pub sound_tested : {A E D : Type 0} (as_error : Refusal → E) (memory : E) (early refusal : Option Refusal) (tells : Bool)
     (old : WorldView D) (served : TracedView) (ticket : Option Ticket) (r : Result A E) (done : A → Type 0)
-    → ((x : A) → done x → Grows (kernel_of old) served.kernel) → IsKept (kernel_of old)
+    → ((x : A) → refusal ≡ None → done x → Grows (kernel_of old) served.kernel) → IsKept (kernel_of old)
     → TestedOrMemory as_error memory early refusal old.served served r done → IsSound tells old ticket
     → IsSound tells (with_served old served) ticket
 sound_tested as_error memory early refusal tells old served ticket (Ok x) done grows kept t h =
-    sound_grows tells old served ticket kept (grows x t.1) h
+    sound_grows tells old served ticket kept (grows x t.0 t.1) h
 sound_tested as_error memory early refusal tells old served ticket (Err e) done grows kept t h = sound_same tells old served ticket t.1 h
+
+-- a test that did not fail
+test_passed : (failed : Bool) (r : Refusal) (others : Option Refusal) → (if failed then Some r else others) ≡ None → failed ≡ false
+test_passed true r others none = absurd (cc none)
+test_passed false r others none = refl
+
+pub admin_runs : (kernel : KernelView) (change : Change) → admin_refusal_of kernel change ≡ None → kernel.halted ≡ false
+admin_runs kernel change none = test_passed kernel.halted refusal.Halted _ none
+
+pub expire_runs : (kernel : KernelView) (change : Change) → expire_refusal_of kernel change ≡ None → kernel.halted ≡ false
+expire_runs kernel change none = test_passed kernel.halted refusal.Halted _ none
 
 pub sound_exec : {D : Type 0} (tells : Bool) (old : WorldView D) (served : TracedView) (ticket : Option Ticket) (number moment : ℕ)
     (m : Option Mode) (found : Option (Message × Octets)) (r : Result (Option (Option Mode × Mark)) ExecError)
@@ -82,7 +96,7 @@ sound_exec tells old served ticket number moment (Some mode) None (Err e) kept d
 sound_exec tells old served ticket number moment (Some mode) (Some found) (Ok a) kept d h =
     let s = d.1.2 in
     sound_grows tells old served ticket kept
-    (Grows-executed (kernel_of old) served.kernel s.kernel.seat found.0 moment d.1.0.1 s.kernel.executed) h
+    (Grows-executed (kernel_of old) served.kernel s.kernel.seat found.0 moment d.1.0.1 s.kernel.mark_is s.kernel.executed) h
 sound_exec tells old served ticket number moment (Some mode) (Some found) (Err e) kept d h = sound_same tells old served ticket d.1 h
 
 pub sound_release : {D E : Type 0} (tells : Bool) (old : WorldView D) (served : TracedView) (ticket : Option Ticket)
@@ -93,14 +107,44 @@ sound_release tells old served ticket (Ok x) kept ok err h =
     (Grows-seats (kernel_of old) served.kernel (kernel_of old).joined _ (ap (λ (s : TracedView). s.kernel) ok)) h
 sound_release tells old served ticket (Err e) kept ok err h = sound_same tells old served ticket err h
 
-pub sound_release_of : {D E : Type 0} (tells : Bool) (old : WorldView D) (served : TracedView) (number : ℕ) (ticket : Option Ticket)
-    (r : Result (Unit {0}) E) → IsKept (kernel_of old) → OnOk r (served ≡ releases_of old.served number) → OnErr r (served ≡ old.served)
-    → IsSound tells old ticket
-    → IsSound tells (with_served old served) ticket
-sound_release_of tells old served number ticket (Ok x) kept ok err h =
+pub sound_release_of : {D E : Type 0} (tells : Bool) (old : WorldView D) (served : TracedView) (number room : ℕ) (ticket : Option Ticket)
+    (r : Result (Unit {0}) E) → IsKept (kernel_of old) → OnOk r (served ≡ releases_of old.served number room)
+    → OnErr r (served ≡ old.served) → IsSound tells old ticket → IsSound tells (with_served old served) ticket
+sound_release_of tells old served number room ticket (Ok x) kept ok err h =
     sound_grows tells old served ticket kept
     (Grows-seats (kernel_of old) served.kernel (kernel_of old).joined _ (ap (λ (s : TracedView). s.kernel) ok)) h
-sound_release_of tells old served number ticket (Err e) kept ok err h = sound_same tells old served ticket err h
+sound_release_of tells old served number room ticket (Err e) kept ok err h = sound_same tells old served ticket err h
+
+-- ---- Stop
+
+-- whether two numbers are equal can be told
+pub same_or_not : (a b : ℕ) → (a ≡ b) ⊎ (a ≢ b)
+same_or_not a b = go (a == b) refl where
+  go : (t : Bool) → (a == b) ≡ t → (a ≡ b) ⊎ (a ≢ b)
+  go true is = inl (eqb-true a b is)
+  go false is = inr (eqb-false a b is)
+
+module _ {D : Type 0} (old : WorldView D) (served : TracedView) where
+  pub sound_stop : (tells : Bool) (ticket : Option Ticket) (stopped : Bool) → IsKept (kernel_of old)
+      → IsTrue stopped ↔ ((kernel_of old).durable ≡ length (kernel_of old).spool)
+      → (stopped ≡ true → served ≡ with_kernel old.served (halted_for_good (kernel_of old))) → (stopped ≡ false → served ≡ old.served)
+      → IsSound tells old ticket → IsSound tells (with_served old served) ticket
+  sound_stop tells ticket true kept when stops goes_on h =
+      subst (λ s. IsSound tells (with_served old s) ticket) (sym (stops refl))
+      (record { tied = IsTied-stops tells old kept (when.0 refl) h.tied; flies = h.flies })
+  sound_stop tells ticket false kept when stops goes_on h = sound_same tells old served ticket (goes_on refl) h
+
+  pub did_stop : (stopped : Bool) → IsTrue stopped ↔ ((kernel_of old).durable ≡ length (kernel_of old).spool)
+      → (stopped ≡ true → served ≡ with_kernel old.served (halted_for_good (kernel_of old))) → (stopped ≡ false → served ≡ old.served)
+      → DidStop old (Ok (answer.Stopped stopped)) (with_served old served)
+  did_stop true when stops goes_on = record {
+    stops = λ clean. (refl, ap (with_served old) (stops refl));
+    goes_on = λ more. absurd (more (when.0 refl));
+  }
+  did_stop false when stops goes_on = record {
+    stops = λ clean. absurd (let no : false ≡ true = when.1 clean in cc);
+    goes_on = λ more. (refl, ap (with_served old) (goes_on refl));
+  }
 
 -- ---- Take
 
@@ -222,7 +266,7 @@ runs_at false answered h other = refl
 -- while the journal runs, no fault is untold
 running_news : {D : Type 0} (tells : Bool) (journal : JournalView D) (kernel : KernelView) (untold : List News) → journal.halted ≡ false
     → Phase tells journal kernel untold → (untold ≡ []) ⊎ ((last : ℕ) × (untold ≡ IsDurable last ∷ []))
-running_news tells journal kernel untold runs (Quiet q) = inl (subst (λ b. AreFaults b kernel.halted untold) runs q.faults).1
+running_news tells journal kernel untold runs (Quiet q) = inl (subst (λ b. AreFaultsOrStopped b kernel.halted untold) runs q.faults)
 running_news tells journal kernel untold runs (Flying last f) = inl (subst (λ b. AreFaults b kernel.halted untold) runs f.faults).1
 running_news tells journal kernel untold runs (IsToBeTold last c) =
     inr (last, c.told ∙ ap (λ xs. IsDurable last ∷ xs) (subst (λ b. AreFaults b false c.later) runs c.faults).1)

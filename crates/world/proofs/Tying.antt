@@ -1,11 +1,11 @@
 -- Each event keeps the tie between journal and kernel.
 use Rattle.std.proofs.Common.{◌≡◌, ◌≢◌, ◌⊎◌, inl, inr, ⊎_elim, ℕ, ◌≤◌, ◌<◌, ◌==◌, Bool, true, false, List, [], ◌∷◌, ◌++◌, length, take}
-use Rattle.std.proofs.Common.{Some, None, refl, ap, sym, ◌∙◌, subst, arith}
-use Rattle.std.specs.Prelude.{bytes_eq, slice_index_or, not, ◌||◌, is_some, IfErr, IsTrue, map, Result, Ok, Err}
+use Rattle.std.proofs.Common.{Option, Some, None, refl, ap, sym, ◌∙◌, subst, arith, length-append, ◌+◌}
+use Rattle.std.specs.Prelude.{bytes_eq, slice_index_or, not, ◌||◌, is_some, if◌then◌else◌, IfErr, IsTrue, map, Result, Ok, Err}
 use Rattle.std.specs.Option.{option_to_list}
 use Rattle.std.proofs.lemmas.List.{append-nil, take-append-le, take_all}
 use Rattle.std.proofs.lemmas.Slice.Eq.{bytes_eq-Decides}
-use Rattle.std.proofs.lemmas.Bool.{or_parts, not-false, not-true}
+use Rattle.std.proofs.lemmas.Bool.{or_parts, not-false, not-true, true≢false}
 use Rattle.disk.specs.Device.{Device}
 use Rattle.journal.specs.Calls.{IsRetried, MakesCall, OnMade, OnRetried, blocks_after}
 use Rattle.journal.specs.Journal.{JournalView, IsReady, IsSameBatch, sizes, with_batch}
@@ -17,23 +17,28 @@ use Rattle.journal.specs.declared.Next.TheVariants as next
 use Rattle.journal.specs.declared.Progress.{Progress}
 use Rattle.journal.specs.declared.Progress.TheVariants.{Working}
 use Rattle.kernel.specs.Kernel.{KernelView, AgreesBehind, Dirties, Executed, Administers, has_batch, halted_for_good, is_dirty}
-use Rattle.kernel.specs.Kernel.{made_durable, taken}
+use Rattle.kernel.specs.Kernel.{made_durable, mark_for, taken}
 use Rattle.seats.specs.Seats.{Seat}
 use Rattle.kernel.specs.Kept.{IsKept}
 use Rattle.model.specs.Layout.{IsLabel}
+use Rattle.model.specs.Answer as answers
+use Rattle.model.specs.Answer.{is_long}
 use Rattle.model.specs.News.{Holds, answer as answer_to}
+use Rattle.model.specs.Room.{is_full}
 use Rattle.model.specs.Spool.{Spool}
 use Rattle.model.specs.Stream.{Octets}
 use Rattle.model.specs.Volume.{laid_over}
 use Rattle.model.specs.declared.change.Change.{Change}
 use Rattle.model.specs.declared.message.Mark.{Mark}
+use Rattle.model.specs.declared.message.Mark.TheVariants as marks
 use Rattle.model.specs.declared.message.Message.{Message}
 use Rattle.model.proofs.LawfulLaws.{none_by_test}
 use Rattle.traced_kernel.specs.Traced.{TracedView}
 use Rattle.traced_kernel.specs.Events.{with_kernel}
 use Rattle.world.specs.World.{News, IsDurable, HasFailed, WorldView, kernel_of, with_served}
 use Rattle.world.specs.Events.{begun, news_of, Steps}
-use Rattle.world.specs.Tied.{AreFaults, IsTied, IsQuiet, IsFlying, LieBehind, Phase, Quiet, Flying, IsToBeTold}
+use Rattle.world.specs.Tied.{AreFaults, AreFaultsOrStopped, DirtyAfter, IsTied, IsQuiet, IsFlying, LieBehind, Phase, Quiet, Flying}
+use Rattle.world.specs.Tied.{IsToBeTold}
 use Rattle.world.proofs.Fitting.{flying_last}
 use Rattle.journal.proofs.Waiting.{idle_or_flies, past_answer, past_at_fault, past_commit, past_following, waits_at_fault, waits_or_commits}
 
@@ -50,6 +55,9 @@ pub record Grows (old new : KernelView) : Type 0 where
   pub spool : new.spool ≡ old.spool ++ more
   pub size : length new.blocks ≡ length old.blocks
   pub agrees : (base : List Octets) → AgreesBehind old base → AgreesBehind new base
+  pub dirty : (p : ℕ) → p ≤ length old.spool → DirtyAfter old p → DirtyAfter new p
+  -- a kernel that is halted accepts nothing
+  pub still : old.halted ≡ true → more ≡ []
 
 -- blocks that the old cache had but for its dirty ones, the new one has but for its own
 agrees_still : (old new : KernelView) (base : List Octets) → Dirties old new → AgreesBehind old base → AgreesBehind new base
@@ -75,11 +83,24 @@ Grows-refl kernel joined seats =
       spool = sym (append-nil kernel.spool);
       size = refl;
       agrees = λ base h. record { size = h.size; clean = h.clean };
+      dirty = λ p le h. h;
+      still = λ halted. refl;
     }
 
-pub Grows-executed : (old new : KernelView) (seat : Seat) (m : Message) (t : ℕ) (mark : Mark) → Executed old new seat m t mark
-    → Grows old new
-Grows-executed old new seat m t mark e =
+-- a stopped session is answered without a change
+mark_stops : (kernel : KernelView) (seat : Seat) (m : Message) (t : ℕ) (mark : Mark) → mark ≡ mark_for kernel seat.session m t
+    → kernel.halted ≡ true → (answer_to kernel.host kernel.spool seat.session m t mark).change ≡ None
+unfolding answers.answer
+mark_stops kernel seat m t mark is halted =
+    ap (λ k. (answer_to kernel.host kernel.spool seat.session m t k).change) (is ∙ ap (λ b. if b then marks.Stopped
+    else if is_long kernel.host kernel.spool seat.session m then marks.Long
+    else if is_full (length kernel.blocks) kernel.inodes kernel.spool
+    (answer_to kernel.host kernel.spool seat.session m t marks.Served).change then marks.Full
+    else marks.Served) halted)
+
+pub Grows-executed : (old new : KernelView) (seat : Seat) (m : Message) (t : ℕ) (mark : Mark)
+    → mark ≡ mark_for old seat.session m t → Executed old new seat m t mark → Grows old new
+Grows-executed old new seat m t mark marked e =
     record {
       host = e.host;
       inodes = e.inodes;
@@ -90,10 +111,28 @@ Grows-executed old new seat m t mark e =
       spool = e.spool;
       size = e.blocks.size;
       agrees = λ base h. agrees_still old new base e.blocks h;
+      dirty = λ p le h. dirty_still p le h made refl;
+      still = λ halted. ap option_to_list (mark_stops old seat m t mark marked halted);
     }
+  where
+    made : Option Change
+    made = (answer_to old.host old.spool seat.session m t mark).change
 
-pub Grows-administers : (old new : KernelView) (change : Change) (serial : ℕ) → Administers old new change serial → Grows old new
-Grows-administers old new change serial a =
+    dirty_still : (p : ℕ) → p ≤ length old.spool → DirtyAfter old p → (c : Option Change) → made ≡ c → DirtyAfter new p
+    dirty_still p le h None is some =
+        let same = e.still is in
+        let was : p < length old.spool = h (λ none. some (same.1 ∙ none)) in
+        let spool : length new.spool ≡ length old.spool = ap length (e.spool ∙ ap (λ c. old.spool ++ option_to_list c) is
+        ∙ append-nil old.spool) in
+        omega (arith, was, spool)
+    dirty_still p le h (Some c) is some =
+        let spool : length new.spool ≡ length old.spool + 1 =
+        ap length (e.spool ∙ ap (λ c. old.spool ++ option_to_list c) is) ∙ length-append old.spool (c ∷ []) in
+        omega (arith, le, spool)
+
+pub Grows-administers : (old new : KernelView) (change : Change) (serial : ℕ) → old.halted ≡ false → Administers old new change serial
+    → Grows old new
+Grows-administers old new change serial runs a =
     record {
       host = a.rest.0;
       inodes = a.rest.1;
@@ -104,6 +143,8 @@ Grows-administers old new change serial a =
       spool = a.spool;
       size = a.blocks.size;
       agrees = λ base h. agrees_still old new base a.blocks h;
+      dirty = λ p le h some. omega (arith, le, ap length a.spool, length-append old.spool (change ∷ []));
+      still = λ halted. absurd (true≢false (sym halted ∙ runs));
     }
 
 module _ (old new : KernelView) (g : Grows old new) where
@@ -125,7 +166,12 @@ module _ (old new : KernelView) (g : Grows old new) where
         none = g.in_flight ∙ q.none;
         past = q.past;
         blocks = λ t. subst (LieBehind new journal.blocks) (sym g.durable) (lie_still journal.blocks old.durable kept.durable (q.blocks t));
-        faults = subst (λ b. AreFaults journal.halted b untold) (sym g.halted) q.faults;
+        dirty = subst (DirtyAfter new) (sym g.durable) (g.dirty old.durable kept.durable q.dirty);
+        faults = subst (λ b. AreFaultsOrStopped journal.halted b untold) (sym g.halted) q.faults;
+        stopped = λ runs halted.
+            let was : old.halted ≡ true = sym g.halted ∙ halted in
+            g.durable ∙ q.stopped runs was
+            ∙ ap length (sym (append-nil old.spool) ∙ ap (λ xs. old.spool ++ xs) (sym (g.still was)) ∙ sym g.spool);
       })
   phase_grows tells journal untold kept (Flying last f) =
       let le = flying_last old last kept f.flies in
@@ -137,6 +183,8 @@ module _ (old new : KernelView) (g : Grows old new) where
         before = λ t. subst (λ p. Holds new.host new.inodes journal.blocks (take p new.spool)) (sym g.durable)
             (holds_still journal.blocks old.durable kept.durable (f.before t));
         after = λ t. lie_still (with_batch journal) last le.1 (f.after t);
+        more = omega (arith, g.durable, f.more);
+        dirty = g.dirty last le.1 f.dirty;
         faults = subst (λ b. AreFaults journal.halted b untold) (sym g.halted) f.faults;
       })
   phase_grows tells journal untold kept (IsToBeTold last c) =
@@ -145,6 +193,8 @@ module _ (old new : KernelView) (g : Grows old new) where
         flies = g.in_flight ∙ c.flies;
         past = c.past;
         blocks = λ t. lie_still journal.blocks last le.1 (c.blocks t);
+        more = omega (arith, g.durable, c.more);
+        dirty = g.dirty last le.1 c.dirty;
         running = g.halted ∙ c.running;
         later = c.later;
         told = c.told;
@@ -172,8 +222,24 @@ batch_parts kernel is =
     let some = or_parts (length kernel.dirty == 0) (is_some kernel.in_flight) all.0 in
     (none_by_test kernel.in_flight some.1, all.1)
 
-faults_none : (halted : Bool) (news : List News) → AreFaults false halted news → news ≡ []
-faults_none halted news h = h.1
+-- a block is dirty
+some_dirty : (kernel : KernelView) → has_batch kernel ≡ true → kernel.dirty ≢ []
+some_dirty kernel is none =
+    let no : has_batch kernel ≡ false = ap (λ (xs : List ℕ). not (length xs == 0 || is_some kernel.in_flight || kernel.halted)) none in
+    true≢false (sym is ∙ no)
+
+-- a kernel that runs was not stopped
+faults_alone : (journal_halted halted : Bool) (news : List News) → halted ≡ false → AreFaultsOrStopped journal_halted halted news
+    → AreFaults journal_halted halted news
+faults_alone false halted news runs h = (runs, h)
+faults_alone true false news runs h = h
+faults_alone true true news runs h = absurd (true≢false runs)
+
+pub or_stopped : (journal_halted halted : Bool) (news : List News) → AreFaults journal_halted halted news
+    → AreFaultsOrStopped journal_halted halted news
+or_stopped false halted news h = h.1
+or_stopped true false news h = h
+or_stopped true true news h = inl h
 
 pub IsTied-takes : {D : Type 0} (tells : Bool) (world : WorldView D) → IsKept (kernel_of world) → IsReady world.journal
     → has_batch (kernel_of world) ≡ true
@@ -216,7 +282,9 @@ IsTied-takes {D} tells world kept ready has lays h = record { label = h.label; s
           before = λ t. let b : LieBehind kernel journal.blocks kernel.durable = q.blocks t in b.holds;
           after = λ t. let b : LieBehind kernel journal.blocks kernel.durable = q.blocks t in
               lies (with_batch (begun journal kernel)) (lays journal.blocks b.agrees);
-          faults = q.faults;
+          more = q.dirty (some_dirty kernel has);
+          dirty = λ some. absurd (some refl);
+          faults = faults_alone journal.halted kernel.halted world.untold parts.1 q.faults;
         })
     go (Flying last f) = absurd (let both : Some last ≡ None = sym f.flies ∙ parts.0 in cc)
     go (IsToBeTold last c) = absurd (let both : Some last ≡ None = sym c.flies ∙ parts.0 in cc)
@@ -242,7 +310,9 @@ module _ {D : Type 0} (tells : Bool) (old new : JournalView D) (kernel : KernelV
         none = q.none;
         past = past;
         blocks = lies_on kernel.durable same q.blocks;
-        faults = subst (λ b. AreFaults b kernel.halted untold) (runs ∙ sym halted) q.faults;
+        dirty = q.dirty;
+        faults = subst (λ b. AreFaultsOrStopped b kernel.halted untold) (runs ∙ sym halted) q.faults;
+        stopped = λ now. q.stopped runs;
       })
   phase_past untold past halted same was (Flying last f) = absurd (let both : true ≡ false = sym f.waits ∙ was in cc)
   phase_past untold past halted same was (IsToBeTold last c) =
@@ -250,6 +320,8 @@ module _ {D : Type 0} (tells : Bool) (old new : JournalView D) (kernel : KernelV
         flies = c.flies;
         past = past;
         blocks = lies_on last same c.blocks;
+        more = c.more;
+        dirty = c.dirty;
         running = c.running;
         later = c.later;
         told = c.told;
@@ -265,6 +337,17 @@ module _ {D : Type 0} (tells : Bool) (old new : JournalView D) (kernel : KernelV
   faulted halted news h is =
       let f = no_faults halted news h in
       subst (λ (t : Bool × Bool × List News). AreFaults t.0 t.1 (t.2 ++ HasFailed ∷ [])) (λ i. (sym is i, sym f.0 i, sym f.1 i)) refl
+
+  -- the same if the service may have been stopped
+  failed : (halted : Bool) (news : List News) → AreFaultsOrStopped old.halted halted news → new.halted ≡ true
+      → AreFaultsOrStopped new.halted halted (news ++ HasFailed ∷ [])
+  failed halted news h is =
+      let none : news ≡ [] = subst (λ b. AreFaultsOrStopped b halted news) runs h in
+      subst (λ (t : Bool × List News). AreFaultsOrStopped t.0 halted (t.1 ++ HasFailed ∷ [])) (λ i. (sym is i, sym none i)) (go halted)
+    where
+      go : (b : Bool) → AreFaultsOrStopped true b (HasFailed ∷ [])
+      go false = refl
+      go true = inr refl
 
   with_batch_on : new.numbers ≡ old.numbers → new.images ≡ old.images → (IsTrue tells → new.blocks ≡ old.blocks) → IsTrue tells
       → with_batch new ≡ with_batch old
@@ -283,6 +366,8 @@ module _ {D : Type 0} (tells : Bool) (old new : JournalView D) (kernel : KernelV
         before = λ t. subst (λ blocks. Holds kernel.host kernel.inodes blocks (take kernel.durable kernel.spool)) (sym (same t))
             (f.before t);
         after = λ t. subst (λ blocks. LieBehind kernel blocks last) (sym (with_batch_on numbers images same t)) (f.after t);
+        more = f.more;
+        dirty = f.dirty;
         faults = faults;
       }
 
@@ -295,7 +380,9 @@ module _ {D : Type 0} (tells : Bool) (old new : JournalView D) (kernel : KernelV
         none = q.none;
         past = ap is_to_commit call ∙ past_at_fault n (sizes old) old.next q.past;
         blocks = lies_on kernel.durable same q.blocks;
-        faults = faulted kernel.halted untold q.faults halted;
+        dirty = q.dirty;
+        faults = failed kernel.halted untold q.faults halted;
+        stopped = λ now. absurd (true≢false (sym halted ∙ now));
       })
   phase_faulted untold n call halted last_is numbers images same (Flying last f) =
       Flying last (flies_on last untold (untold ++ HasFailed ∷ []) f last_is numbers images same (ap is_to_commit call
@@ -305,6 +392,8 @@ module _ {D : Type 0} (tells : Bool) (old new : JournalView D) (kernel : KernelV
         flies = c.flies;
         past = ap is_to_commit call ∙ past_at_fault n (sizes old) old.next c.past;
         blocks = lies_on last same c.blocks;
+        more = c.more;
+        dirty = c.dirty;
         running = c.running;
         later = c.later ++ HasFailed ∷ [];
         told = ap (λ xs. xs ++ HasFailed ∷ []) c.told;
@@ -319,7 +408,9 @@ module _ {D : Type 0} (tells : Bool) (old new : JournalView D) (kernel : KernelV
         none = q.none;
         past = ap is_to_commit call ∙ q.past;
         blocks = lies_on kernel.durable same q.blocks;
-        faults = subst (λ b. AreFaults b kernel.halted untold) (sym halted) q.faults;
+        dirty = q.dirty;
+        faults = subst (λ b. AreFaultsOrStopped b kernel.halted untold) (sym halted) q.faults;
+        stopped = λ now. q.stopped runs;
       })
   phase_retried untold call halted last_is numbers images same (Flying last f) =
       Flying last (flies_on last untold untold f last_is numbers images same (ap is_to_commit call
@@ -329,6 +420,8 @@ module _ {D : Type 0} (tells : Bool) (old new : JournalView D) (kernel : KernelV
         flies = c.flies;
         past = ap is_to_commit call ∙ c.past;
         blocks = lies_on last same c.blocks;
+        more = c.more;
+        dirty = c.dirty;
         running = c.running;
         later = c.later;
         told = c.told;
@@ -361,6 +454,8 @@ module _ {D : Type 0} (tells : Bool) (old new : JournalView D) (kernel : KernelV
             past = ap is_to_commit (call ∙ ap (following n (sizes old)) is) ∙ past_commit n (sizes old);
             blocks = λ t. subst (λ blocks. LieBehind kernel blocks last)
                 (sym (blocks t ∙ ap (λ (c : Next). blocks_after old (answer old.last (sizes old) c)) is)) (f.after t);
+            more = f.more;
+            dirty = f.dirty;
             running = quiet.0;
             later = [];
             told = (λ i. quiet.1 i ++ news_of (Ok (answer (f.last_is i) (sizes old) (is i))));
@@ -480,14 +575,15 @@ IsTied-told_durable {D} tells world last later is h = go h.phase
     Told = (kernel.in_flight ≡ Some last) × (kernel.halted ≡ false)
         × IsTied tells (record { journal = world.journal; served = with_kernel world.served (made_durable kernel last); untold = later })
 
-    no_fault : (halted other : Bool) → AreFaults halted other world.untold → Told
-    no_fault false other f = absurd (let both : IsDurable last ∷ later ≡ [] = sym is ∙ f.1 in cc)
+    no_fault : (halted other : Bool) → AreFaultsOrStopped halted other world.untold → Told
+    no_fault false other f = absurd (let both : IsDurable last ∷ later ≡ [] = sym is ∙ f in cc)
     no_fault true false f = absurd (let both : IsDurable last ∷ later ≡ HasFailed ∷ [] = sym is ∙ f in cc)
-    no_fault true true f = absurd (let both : IsDurable last ∷ later ≡ [] = sym is ∙ f in cc)
+    no_fault true true (inl f) = absurd (let both : IsDurable last ∷ later ≡ [] = sym is ∙ f in cc)
+    no_fault true true (inr f) = absurd (let both : IsDurable last ∷ later ≡ HasFailed ∷ [] = sym is ∙ f in cc)
 
     go : Phase tells journal kernel world.untold → Told
     go (Quiet q) = no_fault journal.halted kernel.halted q.faults
-    go (Flying n f) = no_fault journal.halted kernel.halted f.faults
+    go (Flying n f) = no_fault journal.halted kernel.halted (or_stopped journal.halted kernel.halted world.untold f.faults)
     go (IsToBeTold n c) =
         let news : IsDurable n ∷ c.later ≡ IsDurable last ∷ later = sym c.told ∙ is in
         let same : n ≡ last = cc news in
@@ -501,7 +597,10 @@ IsTied-told_durable {D} tells world last later is h = go h.phase
                 agrees = record { size = b.agrees.size; clean = b.agrees.clean };
                 holds = subst (λ p. Holds kernel.host kernel.inodes journal.blocks (take p kernel.spool)) same b.holds;
               };
-          faults = subst (λ (t : Bool × List News). AreFaults journal.halted t.0 t.1) (λ i. (sym c.running i, rest i)) c.faults;
+          dirty = λ some. omega (arith, c.dirty some, same);
+          faults = or_stopped journal.halted kernel.halted later
+              (subst (λ (t : Bool × List News). AreFaults journal.halted t.0 t.1) (λ i. (sym c.running i, rest i)) c.faults);
+          stopped = λ runs halted. absurd (true≢false (sym halted ∙ c.running));
         } in
         (c.flies ∙ ap Some same, c.running, record { label = h.label; size = h.size; format = h.format; phase = Quiet quiet })
 
@@ -520,11 +619,15 @@ IsTied-told_failed {D} tells world later is h = record { label = h.label; size =
     journal : JournalView D
     journal = world.journal
 
-    halts : (halted other : Bool) → journal.halted ≡ halted → AreFaults halted other world.untold → AreFaults journal.halted true later
-    halts false other e f = absurd (let both : HasFailed ∷ later ≡ [] = sym is ∙ f.1 in cc)
-    halts true false e f = let none : HasFailed ∷ later ≡ HasFailed ∷ [] = sym is ∙ f in
-        subst (λ b. AreFaults b true later) (sym e) (cc none)
-    halts true true e f = absurd (let both : HasFailed ∷ later ≡ [] = sym is ∙ f in cc)
+    -- the journal is halted, and nothing else is untold
+    halts : (halted other : Bool) → AreFaultsOrStopped halted other world.untold → (halted ≡ true) × (later ≡ [])
+    halts false other f = absurd (let both : HasFailed ∷ later ≡ [] = sym is ∙ f in cc)
+    halts true false f = let none : HasFailed ∷ later ≡ HasFailed ∷ [] = sym is ∙ f in (refl, cc none)
+    halts true true (inl f) = absurd (let both : HasFailed ∷ later ≡ [] = sym is ∙ f in cc)
+    halts true true (inr f) = let none : HasFailed ∷ later ≡ HasFailed ∷ [] = sym is ∙ f in (refl, cc none)
+
+    told : (journal.halted ≡ true) × (later ≡ []) → AreFaults journal.halted true later
+    told h = subst (λ (t : Bool × List News). AreFaults t.0 true t.1) (λ i. (sym h.0 i, sym h.1 i)) refl
 
     lies : (blocks : List Octets) (p : ℕ) → LieBehind kernel blocks p → LieBehind (halted_for_good kernel) blocks p
     lies blocks p b = record { agrees = record { size = b.agrees.size; clean = b.agrees.clean }; holds = b.holds }
@@ -534,7 +637,9 @@ IsTied-told_failed {D} tells world later is h = record { label = h.label; size =
       none = q.none;
       past = q.past;
       blocks = λ t. lies journal.blocks kernel.durable (q.blocks t);
-      faults = halts journal.halted kernel.halted refl q.faults;
+      dirty = q.dirty;
+      faults = or_stopped journal.halted true later (told (halts journal.halted kernel.halted q.faults));
+      stopped = λ runs. absurd (true≢false (sym (halts journal.halted kernel.halted q.faults).0 ∙ runs));
     })
     go (Flying last f) =
         Flying last (record {
@@ -544,6 +649,38 @@ IsTied-told_failed {D} tells world later is h = record { label = h.label; size =
           size = f.size;
           before = f.before;
           after = λ t. lies (with_batch journal) last (f.after t);
-          faults = halts journal.halted kernel.halted refl f.faults;
+          more = f.more;
+          dirty = f.dirty;
+          faults = told (halts journal.halted kernel.halted (or_stopped journal.halted kernel.halted world.untold f.faults));
         })
     go (IsToBeTold last c) = absurd (let both : HasFailed ∷ later ≡ IsDurable last ∷ c.later = sym is ∙ c.told in cc)
+
+-- ---- Stop
+
+-- each accepted change is durable, so no batch is in flight
+pub IsTied-stops : {D : Type 0} (tells : Bool) (world : WorldView D) → IsKept (kernel_of world)
+    → (kernel_of world).durable ≡ length (kernel_of world).spool → IsTied tells world
+    → IsTied tells (with_served world (with_kernel world.served (halted_for_good (kernel_of world))))
+IsTied-stops {D} tells world kept clean h = record { label = h.label; size = h.size; format = h.format; phase = go h.phase }
+  where
+    kernel : KernelView
+    kernel = kernel_of world
+
+    halts : (journal_halted halted : Bool) → AreFaultsOrStopped journal_halted halted world.untold
+        → AreFaultsOrStopped journal_halted true world.untold
+    halts false halted f = f
+    halts true false f = inr f
+    halts true true f = f
+
+    go : Phase tells world.journal kernel world.untold → Phase tells world.journal (halted_for_good kernel) world.untold
+    go (Quiet q) = Quiet (record {
+      none = q.none;
+      past = q.past;
+      blocks = λ t. let b : LieBehind kernel world.journal.blocks kernel.durable = q.blocks t in
+          record { agrees = record { size = b.agrees.size; clean = b.agrees.clean }; holds = b.holds };
+      dirty = q.dirty;
+      faults = halts world.journal.halted kernel.halted q.faults;
+      stopped = λ runs halted. clean;
+    })
+    go (Flying last f) = absurd (omega (arith, f.more, clean, (flying_last kernel last kept f.flies).1))
+    go (IsToBeTold last c) = absurd (omega (arith, c.more, clean, (flying_last kernel last kept c.flies).1))

@@ -52,10 +52,10 @@ pub record RunsInner {D A : Type 0} (device : D → Device) (write_grows sync_gr
 
 -- ---- what stands at the end
 
--- each accepted change is durable, and nothing is on its way
-pub record IsSettled {D : Type 0} (device : D → Device) (world : WorldView D) : Type 0 where
+-- Each accepted change is durable, and nothing is on its way. The kernel is halted only if the service was stopped.
+pub record IsSettled {D : Type 0} (device : D → Device) (stopped : Bool) (world : WorldView D) : Type 0 where
   pub ready : IsReady world.journal
-  pub running : (kernel_of world).halted ≡ false
+  pub halted : (kernel_of world).halted ≡ stopped
   pub none : (kernel_of world).in_flight ≡ None
   pub clean : (kernel_of world).dirty ≡ []
   pub told : world.untold ≡ []
@@ -141,7 +141,6 @@ pub record FinishesBatch {D : Type 0} (device : D → Device) (write_grows sync_
   pub keeps : IsWorld device new
   pub served : MatchResult result (λ done. new.served ≡ with_kernel old.served (with_batch_durable (kernel_of old)))
       (λ e. new.served ≡ old.served)
-  pub running : OnOk result ((kernel_of new).halted ≡ false)
   pub told : OnOk result (new.untold ≡ [])
   pub ready : OnOk result (IsReady new.journal)
   pub same : OnOk result (IsSameBatch old.journal new.journal)

@@ -62,6 +62,14 @@ DidExec old number moment (Some mode) (Some found) result new =
     (λ a. (reads_next : Option Mode × Mark) × (a ≡ answer.Served (Some reads_next))
     × Serves old.served new.served number moment found.0 reads_next × (new ≡ with_served old new.served))
 
+-- ---- Stop
+
+-- the service is stopped exactly if each accepted change is durable: then the kernel halts, and otherwise nothing happens
+pub record DidStop {D : Type 0} (old : WorldView D) (result : Result StepAnswer StepError) (new : WorldView D) : Type 0 where
+  pub stops : (kernel_of old).durable ≡ length (kernel_of old).spool →
+      (result ≡ Ok (answer.Stopped true)) × (new ≡ with_served old (with_kernel old.served (halted_for_good (kernel_of old))))
+  pub goes_on : (kernel_of old).durable ≢ length (kernel_of old).spool → (result ≡ Ok (answer.Stopped false)) × (new ≡ old)
+
 -- ---- Take, Dev and Told
 
 -- the journal with the kernel's dirty blocks as its batch
@@ -162,9 +170,10 @@ Did device write_grows sync_grows old event.Told result new =
     })
 Did device write_grows sync_grows old event.Release result new =
     MatchResult result (λ a. (a ≡ answer.Done) × (new ≡ with_served old (releases old.served))) (λ e. (e ≡ error.Memory) × (new ≡ old))
-Did device write_grows sync_grows old (event.ReleaseOf number) result new =
-    MatchResult result (λ a. (a ≡ answer.Done) × (new ≡ with_served old (releases_of old.served number)))
+Did device write_grows sync_grows old (event.ReleaseOf number room) result new =
+    MatchResult result (λ a. (a ≡ answer.Done) × (new ≡ with_served old (releases_of old.served number room)))
     (λ e. (e ≡ error.Memory) × (new ≡ old))
+Did device write_grows sync_grows old event.Stop result new = DidStop old result new
 
 -- whether a result is a refusal for memory
 abbrev pub for_memory : Result StepAnswer StepError → Bool

@@ -1,5 +1,5 @@
 -- What ties the journal to the kernel.
-use Rattle.std.specs.Prelude.{◌≡◌, ℕ, Bool, true, false, IsTrue, List, [], ◌∷◌, length, take, Some, None}
+use Rattle.std.specs.Prelude.{◌≡◌, ◌≢◌, ◌⊎◌, ◌<◌, ℕ, Bool, true, false, IsTrue, List, [], ◌∷◌, length, take, Some, None}
 use Rattle.disk.specs.Device.{Device}
 use Rattle.journal.specs.Journal.{JournalView, LeavesAdmitted, with_batch}
 use Rattle.journal.specs.Order.{is_to_commit}
@@ -23,12 +23,25 @@ AreFaults false halted news = (halted ≡ false) × (news ≡ [])
 AreFaults true false news = news ≡ HasFailed ∷ []
 AreFaults true true news = news ≡ []
 
+-- the same if the service may have been stopped: that halts the kernel without a fault, and the device may fail later
+abbrev pub AreFaultsOrStopped : Bool → Bool → List News → Type 0
+AreFaultsOrStopped false halted news = news ≡ []
+AreFaultsOrStopped true false news = news ≡ HasFailed ∷ []
+AreFaultsOrStopped true true news = (news ≡ []) ⊎ (news ≡ HasFailed ∷ [])
+
+-- blocks are dirty only if there are more than p changes
+abbrev pub DirtyAfter : KernelView → ℕ → Type 0
+DirtyAfter kernel p = kernel.dirty ≢ [] → p < length kernel.spool
+
 -- no batch is in flight: the journal's blocks hold the durable changes
 pub record IsQuiet {D : Type 0} (tells : Bool) (journal : JournalView D) (kernel : KernelView) (untold : List News) : Type 0 where
   pub none : kernel.in_flight ≡ None
   pub past : is_to_commit journal.next ≡ false
   pub blocks : IsTrue tells → LieBehind kernel journal.blocks kernel.durable
-  pub faults : AreFaults journal.halted kernel.halted untold
+  pub dirty : DirtyAfter kernel kernel.durable
+  pub faults : AreFaultsOrStopped journal.halted kernel.halted untold
+  -- the service is stopped only once each accepted change is durable
+  pub stopped : journal.halted ≡ false → kernel.halted ≡ true → kernel.durable ≡ length kernel.spool
 
 -- a batch is in flight and not committed: the journal's blocks hold the durable changes, and with the batch those up to
 -- its last serial
@@ -40,6 +53,8 @@ pub record IsFlying {D : Type 0} (tells : Bool) (journal : JournalView D) (kerne
   pub size : IsTrue tells → length journal.blocks ≡ length kernel.blocks
   pub before : IsTrue tells → Holds kernel.host kernel.inodes journal.blocks (take kernel.durable kernel.spool)
   pub after : IsTrue tells → LieBehind kernel (with_batch journal) last
+  pub more : kernel.durable < last
+  pub dirty : DirtyAfter kernel last
   pub faults : AreFaults journal.halted kernel.halted untold
 
 -- the batch is committed, and the kernel has yet to learn it
@@ -48,6 +63,8 @@ pub record IsCommitted {D : Type 0} (tells : Bool) (journal : JournalView D) (ke
   pub flies : kernel.in_flight ≡ Some last
   pub past : is_to_commit journal.next ≡ false
   pub blocks : IsTrue tells → LieBehind kernel journal.blocks last
+  pub more : kernel.durable < last
+  pub dirty : DirtyAfter kernel last
   pub running : kernel.halted ≡ false
   pub later : List News
   pub told : untold ≡ IsDurable last ∷ later

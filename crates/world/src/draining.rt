@@ -24,7 +24,7 @@ impl<D: Disk> World<D> {
     pub fn settle(&mut self, alloc: Global) -> Result<(), StepError>
         ensures inner { RunsInner D.device D.write_grows D.sync_grows self.old result self.new }
         ensures served { self.new.served ≡ with_kernel self.old.served (with_progress (kernel_of self.old) (kernel_of self.new)) }
-        ensures ok { OnOk result (IsSettled D.device self.new) }
+        ensures ok { OnOk result (IsSettled D.device (kernel_of self.old).halted self.new) }
         ensures still { OnOk result (IsStill D.device self.old self.new) }
         ensures cost { OnOk result (CostsToSettle D.device self.old (D.device self.new.journal.disk)) }
         ensures hindered { IfErr result (IsHindered D.device self.old self.new (IsTrue (D.write_grows || D.sync_grows))) }
@@ -47,14 +47,15 @@ impl<D: Disk> World<D> {
         ensures now { EachNow (D.device self.new.journal.disk) (Fits self.new) }
         ensures keeps { IsWorld D.device self.new }
         ensures asked { AsksNothing self.old.served self.new.served }
-        ensures ok { OnOk result (IsSettled D.device self.new) }
+        ensures ok { OnOk result (IsSettled D.device (kernel_of self.old).halted self.new) }
         ensures all { IsTrue (D.device self.old.journal.disk).tells → OnOk result (SendsAll self.old.served self.new.served) }
         ensures cost { OnOk result (CostsToSettle D.device self.old (D.device self.new.journal.disk)) }
         ensures fault { (result ≡ Err StepError.Fault)
             ↔ ((D.device self.new.journal.disk).failures ≢ (D.device self.old.journal.disk).failures) }
         ensures halted { (result ≡ Err StepError.Halted) ↔ (self.old.journal.halted ≡ true) }
         ensures stays { result ≡ Err StepError.Halted → self.new ≡ self.old }
-        ensures memory { result ≡ Err StepError.Memory → IsTrue (D.write_grows || D.sync_grows) ⊎ IsSettled D.device self.new }
+        ensures memory { result ≡ Err StepError.Memory
+            → IsTrue (D.write_grows || D.sync_grows) ⊎ IsSettled D.device (kernel_of self.old).halted self.new }
     {
         self.settle(alloc)?;
         let mut gives = true;

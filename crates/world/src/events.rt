@@ -28,8 +28,11 @@ pub enum Event {
     Told,
     /// What is ready is handed out.
     Release,
-    /// What is ready of one session is handed out.
-    ReleaseOf(u64),
+    /// What is ready of one session is handed out, as far as there is room for so many octets. A room of more than
+    /// 65,536 counts as 65,536.
+    ReleaseOf { number: u64, room: u64 },
+    /// The service is stopped, if every accepted change is durable: each message is then answered that it has ended.
+    Stop,
 }
 
 /// The answer to an event.
@@ -45,6 +48,8 @@ pub enum StepAnswer {
     /// the last serial of the batch that begins, if any
     Took(Option<u64>),
     Progressed(Progress),
+    /// whether the service is stopped: exactly if every accepted change is durable
+    Stopped(bool),
 }
 
 /// Why an event was refused.

@@ -10,7 +10,7 @@ ghost use Rattle.model.specs.declared.change.Change.TheVariants.{Expire, Group};
 ghost use Rattle.names.specs.Requests.{group_of};
 ghost use Rattle.traced_kernel.specs.Events.{Makes, arrive_refusal, arrives, leaves};
 ghost use Rattle.traced_kernel.specs.Traced.{arrived_at, next_of, released_at};
-ghost use Rattle.world.specs.Events.{Did, DidDev, DidExec, DidTake, Passed, Ran, commits, dev_answer, exec_answer, fails};
+ghost use Rattle.world.specs.Events.{Did, DidDev, DidExec, DidStop, DidTake, Passed, Ran, commits, dev_answer, exec_answer, fails};
 ghost use Rattle.world.specs.Events.{for_memory, of_admin_error, of_arrive_error, of_expire_error, of_join_error, of_kernel, told};
 ghost use Rattle.world.specs.Fields.{durable_news};
 ghost use Rattle.disk.specs.Device.{Elapses};
@@ -289,7 +289,8 @@ impl<D: Disk> World<D> {
             Event::Dev => self.dev(),
             Event::Told => self.told(),
             Event::Release => self.release(),
-            Event::ReleaseOf(number) => self.release_of(*number),
+            Event::ReleaseOf { number, room } => self.release_of(alloc, *number, *room),
+            Event::Stop => self.stop(),
         }
     }
 
@@ -414,14 +415,21 @@ impl<D: Disk> World<D> {
         }
     }
 
-    fn release_of(&mut self, number: u64) -> Result<StepAnswer, StepError>
-        ensures { Did D.device D.write_grows D.sync_grows self.old (Event.ReleaseOf number) result self.new }
+    fn release_of(&mut self, alloc: Global, number: u64, room: u64) -> Result<StepAnswer, StepError>
+        ensures { Did D.device D.write_grows D.sync_grows self.old (Event.ReleaseOf number room) result self.new }
     {
         self.served.kept();
-        match self.served.release_of(number) {
+        match self.served.release_of(alloc, number, room) {
             Ok(()) => Ok(StepAnswer::Done),
             Err(_) => Err(StepError::Memory),
         }
+    }
+
+    fn stop(&mut self) -> Result<StepAnswer, StepError>
+        ensures { DidStop self.old result self.new }
+    {
+        self.served.kept();
+        Ok(StepAnswer::Stopped(self.served.stop()))
     }
 }
 

@@ -18,6 +18,6 @@ invariant_of-self g c =
     } in
     sound_tested of_arrive Memory None (arrive_refusal (kernel_of old) c.args.number) (g.D.Disk.device c.self.inside.journal.disk).tells old
     c.arrive.new.self c.self.inside.ticket c.arrive.result _
-    (λ x done. Grows-seats (kernel_of old) c.arrive.new.self.kernel _ _ (ap (λ (s : TracedView). s.kernel) done)) c.kept.ensures.kernel
+    (λ x none done. Grows-seats (kernel_of old) c.arrive.new.self.kernel _ _ (ap (λ (s : TracedView). s.kernel) done)) c.kept.ensures.kernel
     (tested_or of_arrive Memory (arrive_refusal (kernel_of old) c.args.number) old.served c.arrive.new.self c.arrive.result _
     c.arrive.ensures) c.self.invariant

@@ -21,3 +21,6 @@ returns-in-Release g c = search rules
 
 pub returns-in-ReleaseOf : goal.returns-in-ReleaseOf
 returns-in-ReleaseOf g c = search rules
+
+pub returns-in-Stop : goal.returns-in-Stop
+returns-in-Stop g c = search rules

@@ -18,5 +18,6 @@ invariant_of-self g c =
     } in
     sound_tested of_join Memory None (join_refusal (kernel_of old)) (g.D.Disk.device c.self.inside.journal.disk).tells old c.join.new.self
     c.self.inside.ticket c.join.result _
-    (λ number done. Grows-seats (kernel_of old) c.join.new.self.kernel _ _ (ap (λ (s : TracedView). s.kernel) done.1)) c.kept.ensures.kernel
+    (λ number none done. Grows-seats (kernel_of old) c.join.new.self.kernel _ _ (ap (λ (s : TracedView). s.kernel) done.1))
+    c.kept.ensures.kernel
     (tested_or of_join Memory (join_refusal (kernel_of old)) old.served c.join.new.self c.join.result _ c.join.ensures) c.self.invariant

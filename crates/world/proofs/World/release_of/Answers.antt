@@ -11,5 +11,6 @@ invariant_of-self g c =
       served = c.self.inside.served;
       untold = news_in c.self.inside.ticket c.self.inside.is_committed c.self.inside.has_failed;
     } in
-    sound_release_of (g.D.Disk.device c.self.inside.journal.disk).tells old c.release_of.new.self c.args.number c.self.inside.ticket
+    sound_release_of (g.D.Disk.device c.self.inside.journal.disk).tells old c.release_of.new.self c.args.number c.args.room
+    c.self.inside.ticket
     c.release_of.result c.kept.ensures.kernel c.release_of.ensures.ok c.release_of.ensures.err c.self.invariant
