@@ -33,8 +33,8 @@ impl FileDisk {
     /// Opens the file at `path` as a device of `len` octets, and makes the file if there is none. Sets its length to
     /// `len`, and makes the file and its directory entry durable. The file is locked as in `open_existing`. `Missing`
     /// if its directory isn't there, `Refused` if the system doesn't open the file, `Irregular` if it is no regular file,
-    /// `Held` if the file is locked. Each of these leaves an existing file as it was. `Failed` if a later call fails; then the file may be new, or have
-    /// the new length.
+    /// `Held` if the file is locked. Each of these leaves an existing file as it was. `Failed` if a later call fails; then
+    /// the file may be new, or have the new length.
     pub fn open<R: Files<File = File>>(rt: &R, path: &str, len: u64) -> Result<FileDisk, FileError>
         ensures size { IfOk result (λ f. (file_device f).size ≡ len) }
         ensures calls { IfOk result (λ f. ((file_device f).reads ≡ 0) × ((file_device f).writes ≡ 0) × ((file_device f).syncs ≡ 0)) }

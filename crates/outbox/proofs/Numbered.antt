@@ -149,7 +149,8 @@ all_counted first count counted lower octets small c = ⊎_elim
     c.reached
 
 -- the first lines and those after them
-pub lines_split : (from some left : ℕ) → some ≤ left → number_lines from left ≡ number_lines from some ++ number_lines (from + some) (left - some)
+pub lines_split : (from some left : ℕ) → some ≤ left
+    → number_lines from left ≡ number_lines from some ++ number_lines (from + some) (left - some)
 lines_split from some left within =
     let size : left ≡ some + (left - some) = omega (arith, within) in
     ap (number_lines from) size ∙ more_after from some (left - some)
@@ -163,5 +164,6 @@ some_short from some left within =
     )
 
 -- the octets at the end of an array
-pub at_end : (octets lines : List ℕ) (start : ℕ) → length octets ≡ 1408 → drop start octets ≡ lines → take (1408 - start) (drop start octets) ≡ lines
+pub at_end : (octets lines : List ℕ) (start : ℕ) → length octets ≡ 1408 → drop start octets ≡ lines
+    → take (1408 - start) (drop start octets) ≡ lines
 at_end octets lines start long is = take_all (1408 - start) (drop start octets) (omega (arith, long, length-drop start octets)) ∙ is

@@ -11,11 +11,13 @@ use Rattle.volume.specs.Chunks.{ChunksView}
 use Rattle.volume.specs.Parts.{part_of, parts_in, put_back, with_part}
 use Rattle.volume.specs.Volume.{before}
 use Rattle.volume.proofs.PartsIn.{length-parts_in, get_or-parts_in, parts_sizes}
-use Rattle.volume.proofs.PutBack.{Fit, IsOther, length-put_back, put_back_agree, put_back_done, put_back_other, put_back_push, put_back_whole}
+use Rattle.volume.proofs.PutBack.{Fit, IsOther, length-put_back, put_back_agree, put_back_done, put_back_other, put_back_push}
+use Rattle.volume.proofs.PutBack.{put_back_whole}
 
 -- as far as the first `at` parts
 pub record IsExchanged (at : ℕ) (numbers : List ℕ) (start blocks : ChunksView) (was octets : List ℕ) : Type 0 where
-  pub blocks_are : blocks ≡ record { blocks = put_back start.blocks (take at numbers) (take at (parts_in (length numbers) was)); made = start.made }
+  pub blocks_are : blocks
+      ≡ record { blocks = put_back start.blocks (take at numbers) (take at (parts_in (length numbers) was)); made = start.made }
   pub size : length octets ≡ length was
   pub done : (i : ℕ) → i < at → i < length numbers → part (256 * i) 256 octets ≡ part_of start.blocks (get_or numbers i 0)
   pub rest : (i : ℕ) → at ≤ i → i < length numbers → part (256 * i) 256 octets ≡ part (256 * i) 256 was

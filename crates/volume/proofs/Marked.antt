@@ -54,7 +54,8 @@ module _ (at : ℕ) (blocks : List (List ℕ)) (numbers octets : List ℕ) (old 
   block_there = omega (
     arith,
     there at 0 within,
-    length-put_back blocks (take at numbers) (take at (parts_in (length numbers) octets)) (front_fits at blocks numbers octets whole there size),
+    length-put_back blocks (take at numbers) (take at (parts_in (length numbers) octets))
+        (front_fits at blocks numbers octets whole there size),
   )
 
   -- the part has what it has now

@@ -1,5 +1,6 @@
 -- The flags of the parts that are members of a set.
-use Rattle.std.proofs.Common.{◌≡◌, ◌⊎◌, inl, inr, ◌<◌, ℕ, ◌+◌, ◌-◌, ◌*◌, ◌/◌, ◌%◌, ◌^◌, Bool, true, false, IsTrue, List, [], ◌∷◌, ◌++◌, length}
+use Rattle.std.proofs.Common.{◌≡◌, ◌⊎◌, inl, inr, ◌<◌, ℕ, ◌+◌, ◌-◌, ◌*◌, ◌/◌, ◌%◌, ◌^◌, Bool, true, false, IsTrue, List, [], ◌∷◌, ◌++◌}
+use Rattle.std.proofs.Common.{length}
 use Rattle.std.proofs.Common.{get_or, set, replicate, refl, sym, ◌∙◌, ap, subst, arith, length-set, length-append}
 use Rattle.std.specs.List.{Contains}
 use Rattle.std.proofs.lemmas.Bool.{cases_eq, cases_lt, false≢true}
@@ -80,7 +81,8 @@ module _ (blocks : Numbers) (flags : List Bool) (members : List ℕ) (v : IsPart
     few = omega (arith, v.few, ap (λ (s : Numbers). s.bound) is);
     blocks_numbers = valid;
     size = omega (arith, many, v.size, length-append flags (replicate 16 false), length-replicate {A = Bool} 16 false);
-    numbers = subst (λ (b : ℕ). IsNumbers (record { bound = 16 * b; members = members })) (sym (ap (λ (s : Numbers). s.bound) is)) v.numbers;
+    numbers = subst (λ (b : ℕ). IsNumbers (record { bound = 16 * b; members = members })) (sym (ap (λ (s : Numbers). s.bound) is))
+        v.numbers;
     forth = λ p c.
         let f = v.forth p c in
         record {

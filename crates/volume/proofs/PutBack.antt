@@ -42,7 +42,8 @@ module _ (xs : List (List ℕ)) (p : ℕ) (ps : List ℕ) (octets : List ℕ) (p
     sizes = All-tail (λ o. length o ≡ 256) octets parts fit.sizes;
   }
 
-pub length-put_back : (xs : List (List ℕ)) (ps : List ℕ) (parts : List (List ℕ)) → Fit xs ps parts → length (put_back xs ps parts) ≡ length xs
+pub length-put_back : (xs : List (List ℕ)) (ps : List ℕ) (parts : List (List ℕ)) → Fit xs ps parts
+    → length (put_back xs ps parts) ≡ length xs
 length-put_back xs [] parts fit = refl
 length-put_back xs (p ∷ ps) [] fit = refl
 length-put_back xs (p ∷ ps) (octets ∷ parts) fit =

@@ -81,7 +81,8 @@ pub with_part_same : (xs : List (List ℕ)) (p : ℕ) (octets : List ℕ) → Al
     → part_of xs p ≡ octets → with_part xs p octets ≡ xs
 with_part_same xs p octets whole there is =
     let size : length octets ≡ 256 = sym (ap length is) ∙ length-part_of xs p whole there in
-    ext_parts (with_part xs p octets) xs (with_part_whole xs p octets whole there size) whole (length-with_part xs p octets whole there size)
+    ext_parts (with_part xs p octets) xs (with_part_whole xs p octets whole there size) whole
+    (length-with_part xs p octets whole there size)
     (λ q low. elim (cases_eq q p) [
       | inl same ↦ ap (λ (j : ℕ). part_of (with_part xs p octets) j) same ∙ part_with xs p octets whole there size
           ∙ sym is ∙ ap (λ (j : ℕ). part_of xs j) (sym same)

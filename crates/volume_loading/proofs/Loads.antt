@@ -1,5 +1,6 @@
 -- Loads one after the other.
-use Rattle.std.proofs.Common.{◌≡◌, inl, inr, ◌<◌, ◌≤◌, ℕ, ◌+◌, ◌-◌, ◌*◌, [], get_or, set, false, IsTrue, List, length, refl, sym, ◌∙◌, ap, subst}
+use Rattle.std.proofs.Common.{◌≡◌, inl, inr, ◌<◌, ◌≤◌, ℕ, ◌+◌, ◌-◌, ◌*◌, [], get_or, set, false, IsTrue, List, length, refl, sym, ◌∙◌, ap}
+use Rattle.std.proofs.Common.{subst}
 use Rattle.std.proofs.Common.{arith}
 use Rattle.disk.specs.Device.{Device}
 use Rattle.journal.specs.Inside.{IsAdmitted}
@@ -77,8 +78,8 @@ module _ {D : Type 0} (device : D → Device) where
     pub blocks : IsTrue (device old.disk).tells → (k : ℕ) → k < number → k < length start → get_or cache k [] ≡ get_or old.blocks k []
 
   -- a piece after them
-  pub loaded_more : (number octets : ℕ) (start cache cache' : List (List ℕ)) (old now new : JournalView D) → AreLoaded number start cache old now
-      → length cache' ≡ length cache
+  pub loaded_more : (number octets : ℕ) (start cache cache' : List (List ℕ)) (old now new : JournalView D)
+      → AreLoaded number start cache old now → length cache' ≡ length cache
       → (IsTrue (device now.disk).tells → ArePut number octets (λ k. get_or now.blocks (number + k) []) cache cache') → Loads device now new
       → new.halted ≡ false → (device new.disk).failures ≡ (device now.disk).failures
       → (next : ℕ) → ((k : ℕ) → k < next → k < length start → 4096 * k + 4096 ≤ 4096 * number + octets)

@@ -67,7 +67,8 @@ fn look_at_front(alloc: Global, superblock: &Block) -> Result<ReadSizes, ReadSto
 fn look_at_label(alloc: Global, superblock: &Block, sizes: ReadSizes) -> Result<(), ReadStop> {
     let inodes = u64::from(sizes.inodes);
     wrong_unless!(alloc; FEWEST_INODES <= inodes && inodes <= MOST_INODES && inodes % INODES_IN_A_BLOCK == 0,
-        "the label says {} inodes, where a volume has a multiple of {INODES_IN_A_BLOCK} from {FEWEST_INODES} to {}", Grouped(inodes), Grouped(MOST_INODES));
+        "the label says {} inodes, where a volume has a multiple of {INODES_IN_A_BLOCK} from {FEWEST_INODES} to {}",
+        Grouped(inodes), Grouped(MOST_INODES));
     let (first, blocks) = (
         u64::from(first_data(sizes.blocks, sizes.inodes)),
         u64::from(sizes.blocks),

@@ -6,7 +6,8 @@ use Rattle.std.proofs.lemmas.List.{take_all}
 use Rattle.std.proofs.lemmas.Str.{digit_value_digit}
 use Rattle.networks.proofs.Numeral.{shape, digit_of_decimal, value_of_decimal, front_below, decimal_of_digits}
 use Rattle.networks.proofs.numerals.read_number.Goals as goal
-use Rattle.networks.proofs.numerals.read_number.Goals.{then-is_empty-via-then-is_empty, then-is_empty-via-else-is_empty+then-numeral-gt-MOST_DIGITS}
+use Rattle.networks.proofs.numerals.read_number.Goals.{then-is_empty-via-then-is_empty}
+use Rattle.networks.proofs.numerals.read_number.Goals.{then-is_empty-via-else-is_empty+then-numeral-gt-MOST_DIGITS}
 use Rattle.networks.proofs.numerals.read_number.Goals.{else-numeral-eq48-via-then-numeral-eq48+else-numeral-gt1}
 use Rattle.networks.proofs.numerals.read_number.Goals.{else-numeral-eq48-via-else-numeral-eq48}
 
@@ -94,4 +95,5 @@ returns-else-number-limit-clause-found c =
     ]
     in
     let value : c.loop-digit.number ≡ digits_value 10 text = c.loop-digit.invariant.value ∙ ap (digits_value 10) whole in
-    (decimal_of_digits text all (omega (arith, nonempty)) c.if-numeral-gt-MOST_DIGITS.false lone ∙ ap decimal (sym value), c.if-number-limit.false)
+    (decimal_of_digits text all (omega (arith, nonempty)) c.if-numeral-gt-MOST_DIGITS.false lone ∙ ap decimal (sym value),
+    c.if-number-limit.false)

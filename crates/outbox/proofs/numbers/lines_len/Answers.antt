@@ -18,8 +18,8 @@ loop-digits-preserved c =
           let octets : l.octets + (w.min-end.result - l.counted) * (k + 3) ≡ c.if-counted-upper.octets =
           ap (λ n. l.octets + (w.min-end.result - l.counted) * n) size ∙ sym w.octets-is in
           transport (λ i. Counted first count (sym w.counted-is i) (l.lower * 10) (octets i) (next i))
-          (some_more first count l.counted l.lower l.octets k w.min-end.result c.requires.last (omega arith) l.invariant w.if-counted-upper.true
-          (w.min-end.ensures ∙ (λ i. min (c.from.ensures i + c.from-2.ensures i) (l.lower * 10))))
+          (some_more first count l.counted l.lower l.octets k w.min-end.result c.requires.last (omega arith) l.invariant
+          w.if-counted-upper.true (w.min-end.ensures ∙ (λ i. min (c.from.ensures i + c.from-2.ensures i) (l.lower * 10))))
       | else-counted-upper w ↦
           transport (λ i. Counted first count (sym w.counted-is i) (l.lower * 10) (sym w.octets-is i) (next i))
           (none_more first count l.counted l.lower l.octets k l.invariant w.if-counted-upper.false)

@@ -12,8 +12,8 @@ swap_part-requires-clause-there c =
     omega (
       arith,
       c.requires.there l.place 0 c.loop-place-test.true,
-      same_count l.place c.args.numbers.now c.args.blocks.now l.blocks c.args.octets.now l.octets l.invariant c.requires.whole c.requires.there
-          c.requires.size c.requires.distinct,
+      same_count l.place c.args.numbers.now c.args.blocks.now l.blocks c.args.octets.now l.octets l.invariant c.requires.whole
+          c.requires.there c.requires.size c.requires.distinct,
     )
 
 pub loop-place-preserved : goal.loop-place-preserved

@@ -31,9 +31,11 @@ loop-number-preserved c =
           w.in_ok-keep_part.ensures.kept w.in_ok-keep_part.ensures.octets w.keep_part.ensures.valid c.loop-number.auto.number
           c.loop-number-test.true in
           subst (λ (s : Numbers). IsKeeping first end (at + 1) blocks was had s c.if-not-has.octets.items) (sym w.kept-is)
-          (subst (λ (l : List ℕ). IsKeeping first end (at + 1) blocks was had w.keep_part.new.kept l) (sym (ap (λ (v : Vec ℕ Global). v.items) w.octets-is)) more)
+          (subst (λ (l : List ℕ). IsKeeping first end (at + 1) blocks was had w.keep_part.new.kept l)
+          (sym (ap (λ (v : Vec ℕ Global). v.items) w.octets-is)) more)
       | else-not-has w ↦
           let more = keeping_same first end at blocks was had kept octets so_far (c.has.ensures.0 w.if-not-has.false) in
           subst (λ (s : Numbers). IsKeeping first end (at + 1) blocks was had s c.if-not-has.octets.items) (sym w.kept-is)
-          (subst (λ (l : List ℕ). IsKeeping first end (at + 1) blocks was had kept l) (sym (ap (λ (v : Vec ℕ Global). v.items) w.octets-is)) more)
+          (subst (λ (l : List ℕ). IsKeeping first end (at + 1) blocks was had kept l)
+          (sym (ap (λ (v : Vec ℕ Global). v.items) w.octets-is)) more)
     ]

@@ -19,7 +19,8 @@ loop-number-preserved g c =
     c.args.cache.now.blocks c.loop-number.cache.blocks c.load_piece.new.cache.blocks c.args.journal.now c.loop-number.journal
     c.load_piece.new.journal c.loop-number.invariant done.count done.cache done.loads done.ok.0 done.ok.1
     ((c.loop-number.number + 1) * 256)
-    (λ k below there. omega (arith, below, there, size, c.min-some.ensures, c.len-count.ensures.count, c.loop-number.auto.piece, c.requires.room))
+    (λ k below there. omega
+    (arith, below, there, size, c.min-some.ensures, c.len-count.ensures.count, c.loop-number.auto.piece, c.requires.room))
 
 pub returns-clause-loaded : goal.returns-clause-loaded
 returns-clause-loaded g c =

@@ -33,4 +33,5 @@ returns-clause-made c =
     let are = at_end lines.new.octets some lines.result lines.array_long lines.ensures.written in
     ap (λ os. os ++ (later ++ last_line)) (c.append.ensures.items ∙ ap (λ os. before ++ os) are)
     ∙ append_assoc before some (later ++ last_line)
-    ∙ ap (λ os. before ++ os) (sym (append_assoc some later last_line) ∙ ap (λ os. os ++ last_line) (sym (lines_split next count left (omega arith))))
+    ∙ ap (λ os. before ++ os)
+        (sym (append_assoc some later last_line) ∙ ap (λ os. os ++ last_line) (sym (lines_split next count left (omega arith))))
