@@ -29,9 +29,9 @@ run_begins S g since last is = record { from = omega (arith, is); old = λ n fro
 pub run_grows : (S : Spool) (g : Octets) (since last : ℕ) → IsRun S g since last → is_old S g since (last + 1) ≡ true
     → IsRun S g since (last + 1)
 run_grows S g since last run next = record {
-    from = omega (arith, run.from);
-    old = λ n low high. by_last n low high (eqb_tells n (last + 1))
-  }
+  from = omega (arith, run.from);
+  old = λ n low high. by_last n low high (eqb_tells n (last + 1));
+}
   where
     by_last : (n : ℕ) → low S g ≤ n → n ≤ last + 1
         → ((nat_eq n (last + 1) ≡ true) × (n ≡ last + 1)) ⊎ ((nat_eq n (last + 1) ≡ false) × (n ≢ last + 1)) → is_old S g since n ≡ true

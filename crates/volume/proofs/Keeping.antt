@@ -62,7 +62,7 @@ module _ (first end at : ℕ) (blocks : List (List ℕ)) (was : Numbers) (had : 
         let fit = all_fit blocks kept.members octets whole (there_of kept blocks so_far.valid bound) so_far.size in
         let parts = parts_in (length kept.members) octets in
         let in_range : at / 16 < length (put_back blocks kept.members parts) =
-            omega (arith, length-put_back blocks kept.members parts fit) in
+        omega (arith, length-put_back blocks kept.members parts fit) in
         ap (λ (n : ℕ). put_back blocks (kept.members ++ at ∷ []) (parts_in n (octets ++ part))) (length_push kept.members at)
         ∙ ap (λ (l : List (List ℕ)). put_back blocks (kept.members ++ at ∷ []) l)
         (parts_in-push (length kept.members) octets part so_far.size part_size)

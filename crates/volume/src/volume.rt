@@ -211,9 +211,7 @@ fn keep_parts(
     ensures bound { kept.new.bound ≡ kept.old.bound }
     ensures valid { IsNumbers kept.new }
     ensures size { length octets.new.items ≡ 256 * length kept.new.members }
-    ensures before {
-        before blocks.now.blocks kept.new.members octets.new.items ≡ before blocks.now.blocks kept.old.members octets.old.items
-    }
+    ensures before { before blocks.now.blocks kept.new.members octets.new.items ≡ before blocks.now.blocks kept.old.members octets.old.items }
     ensures these { (p : ℕ) → Contains kept.new.members p → Contains kept.old.members p ⊎ ((first ≤ p) × (p < end)) }
     ensures all { OnOk result ((p : ℕ) → first ≤ p → p < end → Contains kept.new.members p) }
 {

@@ -94,6 +94,7 @@ returns-else-number-limit-clause-found c =
       | else-numeral-eq48-via-else-numeral-eq48 w ↦ absurd (w.if-numeral-eq48.false zero)
     ]
     in
-    let value : c.loop-digit.number ≡ digits_value 10 text = c.loop-digit.invariant.value ∙ ap (digits_value 10) whole in
-    (decimal_of_digits text all (omega (arith, nonempty)) c.if-numeral-gt-MOST_DIGITS.false lone ∙ ap decimal (sym value),
-    c.if-number-limit.false)
+    let value : c.loop-digit.number ≡ digits_value 10 text = c.loop-digit.invariant.value ∙ ap (digits_value 10) whole in (
+      decimal_of_digits text all (omega (arith, nonempty)) c.if-numeral-gt-MOST_DIGITS.false lone ∙ ap decimal (sym value),
+      c.if-number-limit.false,
+    )

@@ -34,4 +34,4 @@ returns-clause-made c =
     ap (λ os. os ++ (later ++ last_line)) (c.append.ensures.items ∙ ap (λ os. before ++ os) are)
     ∙ append_assoc before some (later ++ last_line)
     ∙ ap (λ os. before ++ os)
-        (sym (append_assoc some later last_line) ∙ ap (λ os. os ++ last_line) (sym (lines_split next count left (omega arith))))
+    (sym (append_assoc some later last_line) ∙ ap (λ os. os ++ last_line) (sym (lines_split next count left (omega arith))))
