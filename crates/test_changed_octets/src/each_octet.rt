@@ -81,134 +81,213 @@ fn first_wrong_of(alloc: Global, rows: &[Octets]) -> Result<(Option<u64>, bool),
     Ok((None, is_whole))
 }
 
-/// Fails where one of these octets is wrong. A test has 60 seconds, beside whatever else a machine does, so each has few
-/// more than a thousand changes.
-fn are_right(rt: HostRuntime, rows: &[Octets]) -> Result<(), Fail> {
-    assert_eq!(rt; first_wrong_of(rt.alloc(), rows)?, (None, true));
+/// No octet is wrong, and the device is opened whole at last. A test has 60 seconds, beside whatever else a machine does,
+/// so each has few more than a thousand changes.
+const RIGHT: (Option<u64>, bool) = (None, true);
+
+#[test]
+fn each_octet_of_the_superblock_in_use(rt: HostRuntime) -> Result<(), Fail> {
+    assert_eq!(rt; first_wrong_of(rt.alloc(), &[(0, 0, 160, WAYS)])?, RIGHT);
     Ok(())
 }
 
 #[test]
-fn each_octet_of_the_superblock_in_use(rt: HostRuntime) -> Result<(), Fail> {
-    are_right(rt, &[(0, 0, 160, WAYS)])
-}
-
-#[test]
 fn each_octet_of_the_superblocks_first_zeros(rt: HostRuntime) -> Result<(), Fail> {
-    are_right(rt, &[(0, 160, 1184, 1)])
+    assert_eq!(rt; first_wrong_of(rt.alloc(), &[(0, 160, 1184, 1)])?, RIGHT);
+    Ok(())
 }
 
 #[test]
 fn each_octet_of_the_superblocks_second_zeros(rt: HostRuntime) -> Result<(), Fail> {
-    are_right(rt, &[(0, 1184, 2208, 1)])
+    assert_eq!(rt; first_wrong_of(rt.alloc(), &[(0, 1184, 2208, 1)])?, RIGHT);
+    Ok(())
 }
 
 #[test]
 fn each_octet_of_the_superblocks_third_zeros(rt: HostRuntime) -> Result<(), Fail> {
-    are_right(rt, &[(0, 2208, 3232, 1)])
+    assert_eq!(rt; first_wrong_of(rt.alloc(), &[(0, 2208, 3232, 1)])?, RIGHT);
+    Ok(())
 }
 
 #[test]
 fn each_octet_of_the_superblocks_last_zeros(rt: HostRuntime) -> Result<(), Fail> {
-    are_right(rt, &[(0, 3232, 4096, 1)])
+    assert_eq!(rt; first_wrong_of(rt.alloc(), &[(0, 3232, 4096, 1)])?, RIGHT);
+    Ok(())
 }
 
 #[test]
 fn each_octet_of_the_bitmap_in_use(rt: HostRuntime) -> Result<(), Fail> {
-    are_right(rt, &[(HOME, 0, 32, WAYS), (HOME, 32, 928, 1)])
+    assert_eq!(rt;
+        first_wrong_of(rt.alloc(), &[(HOME, 0, 32, WAYS), (HOME, 32, 928, 1)])?,
+        RIGHT
+    );
+    Ok(())
 }
 
 #[test]
 fn each_octet_of_the_bitmaps_second_part(rt: HostRuntime) -> Result<(), Fail> {
-    are_right(rt, &[(HOME, 928, 1952, 1)])
+    assert_eq!(rt; first_wrong_of(rt.alloc(), &[(HOME, 928, 1952, 1)])?, RIGHT);
+    Ok(())
 }
 
 #[test]
 fn each_octet_of_the_bitmaps_third_part(rt: HostRuntime) -> Result<(), Fail> {
-    are_right(rt, &[(HOME, 1952, 2976, 1)])
+    assert_eq!(rt;
+        first_wrong_of(rt.alloc(), &[(HOME, 1952, 2976, 1)])?,
+        RIGHT
+    );
+    Ok(())
 }
 
 #[test]
 fn each_octet_of_the_bitmaps_last_part(rt: HostRuntime) -> Result<(), Fail> {
-    are_right(rt, &[(HOME, 2976, 4096, 1)])
+    assert_eq!(rt;
+        first_wrong_of(rt.alloc(), &[(HOME, 2976, 4096, 1)])?,
+        RIGHT
+    );
+    Ok(())
 }
 
 #[test]
 fn each_octet_of_the_bitmaps_second_block_in_its_first_part(rt: HostRuntime) -> Result<(), Fail> {
-    are_right(rt, &[(HOME + 1, 0, 1024, 1)])
+    assert_eq!(rt;
+        first_wrong_of(rt.alloc(), &[(HOME + 1, 0, 1024, 1)])?,
+        RIGHT
+    );
+    Ok(())
 }
 
 #[test]
 fn each_octet_of_the_bitmaps_second_block_in_its_second_part(rt: HostRuntime) -> Result<(), Fail> {
-    are_right(rt, &[(HOME + 1, 1024, 2048, 1)])
+    assert_eq!(rt;
+        first_wrong_of(rt.alloc(), &[(HOME + 1, 1024, 2048, 1)])?,
+        RIGHT
+    );
+    Ok(())
 }
 
 #[test]
 fn each_octet_of_the_bitmaps_second_block_in_its_third_part(rt: HostRuntime) -> Result<(), Fail> {
-    are_right(rt, &[(HOME + 1, 2048, 3072, 1)])
+    assert_eq!(rt;
+        first_wrong_of(rt.alloc(), &[(HOME + 1, 2048, 3072, 1)])?,
+        RIGHT
+    );
+    Ok(())
 }
 
 #[test]
 fn each_octet_of_the_bitmaps_second_block_in_its_last_part(rt: HostRuntime) -> Result<(), Fail> {
-    are_right(rt, &[(HOME + 1, 3072, 4096, 1)])
+    assert_eq!(rt;
+        first_wrong_of(rt.alloc(), &[(HOME + 1, 3072, 4096, 1)])?,
+        RIGHT
+    );
+    Ok(())
 }
 
 #[test]
 fn each_octet_of_the_first_inodes(rt: HostRuntime) -> Result<(), Fail> {
-    are_right(rt, &[(HOME + 2, 0, 256, WAYS)])
+    assert_eq!(rt;
+        first_wrong_of(rt.alloc(), &[(HOME + 2, 0, 256, WAYS)])?,
+        RIGHT
+    );
+    Ok(())
 }
 
 #[test]
 fn each_octet_of_the_inodes_after_them(rt: HostRuntime) -> Result<(), Fail> {
-    are_right(rt, &[(HOME + 2, 256, 512, WAYS)])
+    assert_eq!(rt;
+        first_wrong_of(rt.alloc(), &[(HOME + 2, 256, 512, WAYS)])?,
+        RIGHT
+    );
+    Ok(())
 }
 
 #[test]
 fn each_octet_of_the_last_inodes_in_use(rt: HostRuntime) -> Result<(), Fail> {
-    are_right(rt, &[(HOME + 2, 512, 768, WAYS)])
+    assert_eq!(rt;
+        first_wrong_of(rt.alloc(), &[(HOME + 2, 512, 768, WAYS)])?,
+        RIGHT
+    );
+    Ok(())
 }
 
 #[test]
 fn each_octet_of_the_first_free_inodes(rt: HostRuntime) -> Result<(), Fail> {
-    are_right(rt, &[(HOME + 2, 768, 1792, 1)])
+    assert_eq!(rt;
+        first_wrong_of(rt.alloc(), &[(HOME + 2, 768, 1792, 1)])?,
+        RIGHT
+    );
+    Ok(())
 }
 
 #[test]
 fn each_octet_of_the_free_inodes_after_them(rt: HostRuntime) -> Result<(), Fail> {
-    are_right(rt, &[(HOME + 2, 1792, 2816, 1)])
+    assert_eq!(rt;
+        first_wrong_of(rt.alloc(), &[(HOME + 2, 1792, 2816, 1)])?,
+        RIGHT
+    );
+    Ok(())
 }
 
 #[test]
 fn each_octet_of_the_last_free_inodes(rt: HostRuntime) -> Result<(), Fail> {
-    are_right(rt, &[(HOME + 2, 2816, 4096, 1)])
+    assert_eq!(rt;
+        first_wrong_of(rt.alloc(), &[(HOME + 2, 2816, 4096, 1)])?,
+        RIGHT
+    );
+    Ok(())
 }
 
 #[test]
 fn each_octet_of_the_first_slots(rt: HostRuntime) -> Result<(), Fail> {
-    are_right(rt, &[(HOME + 3, 0, 256, WAYS)])
+    assert_eq!(rt;
+        first_wrong_of(rt.alloc(), &[(HOME + 3, 0, 256, WAYS)])?,
+        RIGHT
+    );
+    Ok(())
 }
 
 #[test]
 fn each_octet_of_the_slots_after_them(rt: HostRuntime) -> Result<(), Fail> {
-    are_right(rt, &[(HOME + 3, 256, 512, WAYS)])
+    assert_eq!(rt;
+        first_wrong_of(rt.alloc(), &[(HOME + 3, 256, 512, WAYS)])?,
+        RIGHT
+    );
+    Ok(())
 }
 
 #[test]
 fn each_octet_of_the_last_slots_in_use(rt: HostRuntime) -> Result<(), Fail> {
-    are_right(rt, &[(HOME + 3, 512, 768, WAYS)])
+    assert_eq!(rt;
+        first_wrong_of(rt.alloc(), &[(HOME + 3, 512, 768, WAYS)])?,
+        RIGHT
+    );
+    Ok(())
 }
 
 #[test]
 fn each_octet_of_the_first_free_slots(rt: HostRuntime) -> Result<(), Fail> {
-    are_right(rt, &[(HOME + 3, 768, 1792, 1)])
+    assert_eq!(rt;
+        first_wrong_of(rt.alloc(), &[(HOME + 3, 768, 1792, 1)])?,
+        RIGHT
+    );
+    Ok(())
 }
 
 #[test]
 fn each_octet_of_the_free_slots_after_them(rt: HostRuntime) -> Result<(), Fail> {
-    are_right(rt, &[(HOME + 3, 1792, 2816, 1)])
+    assert_eq!(rt;
+        first_wrong_of(rt.alloc(), &[(HOME + 3, 1792, 2816, 1)])?,
+        RIGHT
+    );
+    Ok(())
 }
 
 #[test]
 fn each_octet_of_the_last_free_slots(rt: HostRuntime) -> Result<(), Fail> {
-    are_right(rt, &[(HOME + 3, 2816, 4096, 1)])
+    assert_eq!(rt;
+        first_wrong_of(rt.alloc(), &[(HOME + 3, 2816, 4096, 1)])?,
+        RIGHT
+    );
+    Ok(())
 }
