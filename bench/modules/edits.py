@@ -22,13 +22,14 @@ class Bad(Exception):
 
 
 class Function:
-    """A function of a crate: the lines of its file from its name to its end, and the lines of its body."""
+    """A function of a crate: the lines of its file from its name to its end, and the lines of its body, if it isn't only declared."""
 
     def __init__(self, path, lines, first, owner):
         self.path, self.first, self.owner = path, first, owner
         self.indent, self.name = FN.match(lines[first]).groups()
         self.body = next(at for at in range(first, len(lines)) if self.begins_or_ends(lines, at))
         is_short = not lines[self.body].endswith("{")
+        self.is_declared = lines[self.body].endswith(";")
         self.last = self.body if is_short else lines.index(self.indent + "}", self.body)
         self.code = "\n".join(lines[self.body : self.last + 1])
         self.is_method = bool(SELF.search(" ".join(lines[first : first + 3])))
@@ -161,7 +162,8 @@ class Crate:
         """A function that a run over these changed ones has to call proved: a short one, if there is one, that rests on none of them."""
         resting, endings = self.resting, [it.ending() for it in self.functions]
         edited = {it for edit in self.edits for it in edit.changed or ()}
-        may_be = [it for it in self.functions if it not in changed and not resting[it] & changed and endings.count(it.ending()) == 1]
+        proved = [it for it in self.functions if not it.is_declared and endings.count(it.ending()) == 1]
+        may_be = [it for it in proved if it not in changed and not resting[it] & changed]
         return sorted(may_be, key=lambda it: (it not in edited, len(it.code)))[:1]
 
     @functools.cached_property
