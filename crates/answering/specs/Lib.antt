@@ -1,1 +1,2 @@
 pub mod Http
+pub mod NextMessage
