@@ -1,8 +1,8 @@
 -- An import goes on: what was read, tried and counted, and what comes then.
-use Rattle.std.proofs.Common.{◌≡◌, ◌≢◌, ◌⊎◌, inl, inr, ℕ, ◌+◌, ◌-◌, ◌^◌, Bool, true, false, true≢false, List, [], ◌∷◌, ◌++◌}
+use Rattle.std.proofs.Common.{◌≡◌, ◌≢◌, inl, inr, ℕ, ◌+◌, ◌-◌, ◌^◌, Bool, true, false, true≢false, List, [], ◌∷◌, ◌++◌}
 use Rattle.std.proofs.Common.{map, refl, sym, ◌∙◌, ap, subst}
 use Rattle.std.proofs.Common.{Result, IfOk, append_assoc, append-nil, arith, drop, length, take}
-use Rattle.std.specs.Prelude.{Option, Some, None, Ok, Err, if◌then◌else◌, is_some, min}
+use Rattle.std.specs.Prelude.{Option, Some, None, Ok, Err, if◌then◌else◌, OnErr, is_err, is_some, min}
 use Rattle.std.specs.Io.KnownBytes.{Consumes, IsAtEnd}
 use Rattle.std.proofs.KnownBytes.{Consumes-nil, Consumes-trans}
 use Rattle.std.proofs.lemmas.List.{length-append, length-drop, length-take, map-append}
@@ -182,10 +182,22 @@ read_committed old now new before after held left counts more read same = record
       (imports_nothing now new left more same);
 }
 
+-- ---- what is answered
+
+pub if_err : {T E P : Type 0} (r : Result T E) → P → OnErr r P
+if_err (Ok x) is = tt
+if_err (Err e) is = is
+
+pub refused : {E : Type 0} (r : Result (Option ImportStop) E) → is_err r ≡ true → r ≢ Ok None
+refused (Ok stop) is same = true≢false (sym is)
+refused (Err error) is same = absurd (cc)
+
+pub never_ends : {E : Type 0} (r : Result (Option ImportStop) E) → IfOk r (λ stop. stop ≢ None) → r ≢ Ok None
+never_ends (Ok stop) is same = is (cc)
+never_ends (Err error) is same = absurd (cc)
+
 -- an import that came to a stop
 pub stopped : {E : Type 0} (r : Result (Option ImportStop) E) (old new : SpoolView) (before after : Option (List ℕ)) (held left : Octets)
-    (counts more : ImportCounts) → IfOk r (λ stop. stop ≢ None) → HasRead old new before after held left counts more →
-    IfOk r (λ stop. (rest : Octets) × HasRead old new before after held rest counts more
-    × (stop ≡ None → (rest ≡ []) × IsAtEnd after))
-stopped (Ok stop) old new before after held left counts more is read = (left, read, λ none. absurd (is none))
-stopped (Err error) old new before after held left counts more is read = tt
+    (counts more : ImportCounts) → r ≢ Ok None → HasRead old new before after held left counts more →
+    (rest : Octets) × HasRead old new before after held rest counts more × (r ≡ Ok None → (rest ≡ []) × IsAtEnd after)
+stopped r old new before after held left counts more never read = (left, read, λ same. absurd (never same))

@@ -105,3 +105,7 @@ pub record HasImported (old new : SpoolView) (before now : Option (List ℕ)) (c
   pub left : Octets
   pub reads : HasRead old new before now [] left none_counted counts
   pub ended : stop ≡ None → (left ≡ []) × IsAtEnd now
+
+-- an import from such an input that failed: what it read, tried and filed until then
+abbrev pub HasTried : SpoolView → SpoolView → Option (List ℕ) → Option (List ℕ) → Type 0
+HasTried old new before now = (left : Octets) × (counts : ImportCounts) × HasRead old new before now [] left none_counted counts

@@ -1,9 +1,9 @@
 //! Files the texts of a batch, in order.
 
-ghost use Rattle.std.specs.Prelude.{◌≡◌, ◌≢◌, ◌∷◌, ◌++◌, ◌<◌, [], IfOk, List, None, OnErr, OnOk, false, length, true, ℕ};
+ghost use Rattle.std.specs.Prelude.{◌≡◌, ◌≢◌, ◌∷◌, ◌++◌, ◌<◌, [], IfOk, List, None, Ok, OnErr, OnOk, false, length, true, ℕ};
 ghost use Rattle.std.specs.Io.KnownBytes.{Consumes, IsAtEnd};
-ghost use Rattle.importing.specs.Imported.{AreCounted, HasImported, HasRead, Imports, IsNoted, IsSame, is_refused};
-ghost use Rattle.volume_store.specs.Saved.{IsSaved};
+ghost use Rattle.importing.specs.Imported.{AreCounted, HasImported, HasRead, HasTried, Imports, IsNoted, IsSame, is_refused};
+ghost use Rattle.volume_store.specs.Saved.{GoesOn, IsSaved};
 ghost use Rattle.volume_store.specs.declared.outcome.TextOutcome.{TextOutcome};
 
 use disk::Disk;
@@ -190,8 +190,11 @@ impl Batch {
 
 /// Files the texts of a batch, in order, each at the moment at which its last octet was read. It ends with a report at
 /// the end of the batch, and also if the octets stop being a batch, a stream fails, or the volume has no room for a
-/// text; what it filed is durable then. If only one of a text's groups is full, the text is refused. A failure leaves
-/// the first texts: a crash at any moment would leave the same.
+/// text; what it filed is durable then. If only one of a text's groups is full, the text is refused.
+///
+/// `Memory` (E2) if an allocation was refused, and `Device` if the device failed or had failed before; then the changes
+/// are those of the first texts, after the ones that were there. A crash at any moment, also within a call of the device,
+/// leaves the first of the changes, at least those that were durable when the import began.
 pub fn import<D: Disk, I: Read, W: Watcher>(
     alloc: Global,
     store: &mut Store<D>,
@@ -201,6 +204,8 @@ pub fn import<D: Disk, I: Read, W: Watcher>(
     ensures saved { OnOk result (IsSaved D.device store.new) }
     ensures imported { IfOk result (λ report. HasImported store.old.spool store.new.spool
         (I.remaining input.old) (I.remaining input.new) report.counts report.stop) }
+    ensures failed { OnErr result (HasTried store.old.spool store.new.spool (I.remaining input.old) (I.remaining input.new)) }
+    ensures goes_on { GoesOn D.device store.old store.new }
 {
     let mut batch = Batch {
         reader: BatchReader::new(alloc),
@@ -222,9 +227,10 @@ fn file_all<D: Disk, I: Read, W: Watcher>(
     input: &mut I,
     watcher: &mut W,
 ) -> Result<Option<ImportStop>, ImportError>
-    ensures { IfOk result (λ stop. (left : List ℕ) × HasRead store.old.spool store.new.spool (I.remaining input.old)
+    ensures read { (left : List ℕ) × HasRead store.old.spool store.new.spool (I.remaining input.old)
         (I.remaining input.new) batch.old.reader.rest left batch.old.counts batch.new.counts
-        × (stop ≡ None → (left ≡ []) × IsAtEnd (I.remaining input.new))) }
+        × (result ≡ Ok None → (left ≡ []) × IsAtEnd (I.remaining input.new)) }
+    ensures goes_on { GoesOn D.device store.old store.new }
 {
     let mut piece = vec![in alloc; 0; PIECE]?;
     let mut octets: u64 = 0;
@@ -284,8 +290,9 @@ fn file_ready<D: Disk, W: Watcher>(
 ) -> Result<Option<ImportStop>, ImportError>
     ensures going { IfOk result (λ stop. stop ≡ None → Imports store.old.spool store.new.spool
         batch.old.reader.rest batch.new.reader.rest batch.old.counts batch.new.counts) }
-    ensures stopped { IfOk result (λ stop. (left : List ℕ) × Imports store.old.spool store.new.spool
-        batch.old.reader.rest left batch.old.counts batch.new.counts) }
+    ensures tried { (left : List ℕ) × Imports store.old.spool store.new.spool
+        batch.old.reader.rest left batch.old.counts batch.new.counts }
+    ensures goes_on { GoesOn D.device store.old store.new }
 {
     let moment = watcher.moment();
     'texts: for _ in 0..u64::MAX {
@@ -315,8 +322,9 @@ fn note<D: Disk, W: Watcher>(
     outcome: TextOutcome,
 ) -> Result<Option<ImportStop>, ImportError>
     ensures spool { IsSame store.old.spool store.new.spool }
-    ensures noted { OnOk result (IsNoted counts.old outcome counts.new) }
+    ensures noted { IsNoted counts.old outcome counts.new }
     ensures going { IfOk result (λ stop. stop ≡ None → AreCounted counts.old (outcome ∷ []) counts.new) }
+    ensures goes_on { GoesOn D.device store.old store.new }
 {
     let cause = match outcome {
         TextOutcome::Refused(why) => why.place(),
@@ -338,7 +346,8 @@ fn note<D: Disk, W: Watcher>(
 
 /// What the volume has too little of for any text, once all that was filed is durable.
 fn lack<D: Disk>(store: &mut Store<D>) -> Result<Option<Lack>, JournalError>
-    ensures { IsSame store.old.spool store.new.spool }
+    ensures spool { IsSame store.old.spool store.new.spool }
+    ensures goes_on { GoesOn D.device store.old store.new }
 {
     match store.commit() {
         Ok(()) => store.lack(),

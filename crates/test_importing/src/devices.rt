@@ -1,10 +1,11 @@
-//! A device that fails at each of its calls in turn: the import is made again, and each article is there once.
+//! A device that fails at a call of an import: a crash leaves the first changes, the import is made again, and each article is
+//! there once.
 
 use crate::volumes::{articles, device, opened};
 use crate::watching::Log;
 use disk::{DiskCall, Faults};
 use importing::{ImportError, import};
-use memdisk::MemDisk;
+use memdisk::{MemDisk, Pick};
 use std::alloc::Global;
 use std::rt::HostRuntime;
 use std::test::Fail;
@@ -22,28 +23,88 @@ fn imported(alloc: Global, disk: MemDisk, octets: &[u8]) -> Result<(MemDisk, boo
     Ok((store.into_disk(), failed))
 }
 
-/// The calls that fail, each in a batch of its own: a write or a sync of this number. The opening makes one sync and
-/// writes nothing. With them the numbers of the articles of the batch, and the changes of the volume then, two groups among them.
-const FAULTS: [(DiskCall, u64, u64, u64, u64); 4] = [
-    (DiskCall::Write, 1, 0, 10, 12),
-    (DiskCall::Write, 5, 10, 20, 22),
-    (DiskCall::Sync, 2, 20, 30, 32),
-    (DiskCall::Sync, 3, 30, 40, 42),
+/// A call that fails within an import of its own, and what is left of that.
+#[derive(Clone, Copy)]
+struct Fault {
+    kind: DiskCall,
+    /// Its number among the import's calls of this kind. The opening makes one sync and writes nothing.
+    call: u64,
+    /// The numbers of the articles, from this one to the one before that.
+    from: u64,
+    to: u64,
+    /// What a crash then makes of the octets that no sync covers, and the changes that it leaves, two groups among them.
+    pick: Pick,
+    left: u64,
+    /// The changes after the import was made again.
+    all: u64,
+}
+
+/// The last two fail at the sync that commits.
+const FAULTS: [Fault; 5] = [
+    Fault {
+        kind: DiskCall::Write,
+        call: 1,
+        from: 0,
+        to: 10,
+        pick: Pick::New,
+        left: 2,
+        all: 12,
+    },
+    Fault {
+        kind: DiskCall::Write,
+        call: 5,
+        from: 10,
+        to: 20,
+        pick: Pick::New,
+        left: 12,
+        all: 22,
+    },
+    Fault {
+        kind: DiskCall::Sync,
+        call: 2,
+        from: 20,
+        to: 30,
+        pick: Pick::New,
+        left: 22,
+        all: 32,
+    },
+    Fault {
+        kind: DiskCall::Sync,
+        call: 3,
+        from: 30,
+        to: 40,
+        pick: Pick::Old,
+        left: 32,
+        all: 42,
+    },
+    Fault {
+        kind: DiskCall::Sync,
+        call: 3,
+        from: 40,
+        to: 50,
+        pick: Pick::New,
+        left: 52,
+        all: 52,
+    },
 ];
 
 #[test]
 fn an_import_is_made_again_after_a_fault(rt: HostRuntime) -> Result<(), Fail> {
     let alloc = rt.alloc();
     let mut disk = device(&rt, alloc, 1024, 64).ok_or("no volume")?;
-    for (kind, call, from, to, changes) in FAULTS {
-        let octets = articles(alloc, from, to)?;
+    for fault in FAULTS {
+        let Fault { kind, call, .. } = fault;
+        let octets = articles(alloc, fault.from, fault.to)?;
         disk.fail_kind(kind, call);
-        let (failed, was_failed) = imported(alloc, disk, &octets)?;
+        let (mut failed, was_failed) = imported(alloc, disk, &octets)?;
         assert!(rt; was_failed, "{kind:?} {call}");
-        let (again, was_failed) = imported(alloc, failed, &octets)?;
+        failed.crash(&[fault.pick]);
+        let store = opened(alloc, failed)?;
+        assert_eq!(rt; store.len(), (fault.left, fault.left), "{kind:?} {call}");
+        let (again, was_failed) = imported(alloc, store.into_disk(), &octets)?;
         assert!(rt; !was_failed, "{kind:?} {call}");
         let store = opened(alloc, again)?;
-        assert_eq!(rt; store.len(), (changes, changes), "{kind:?} {call}");
+        assert_eq!(rt; store.len(), (fault.all, fault.all), "{kind:?} {call}");
         disk = store.into_disk();
     }
     Ok(())

@@ -6,3 +6,4 @@ pub mod Tied
 pub mod Batches
 pub mod Opened
 pub mod Rooms
+pub mod GoingOn

@@ -1,13 +1,13 @@
 -- The calls of a batch, from the first to the last.
-use Rattle.std.proofs.Common.{◌≡◌, ◌≢◌, ◌⊎◌, inl, inr, ◌<◌, ◌≤◌, ◌+◌, ◌-◌, ℕ, Bool, true, false, eqb, if◌then◌else◌, IsTrue, List, [], ◌∷◌}
-use Rattle.std.proofs.Common.{length, set, refl, sym, ◌∙◌, ap, subst, arith, Ok, Err}
+use Rattle.std.proofs.Common.{◌≡◌, ◌≢◌, ◌⊎◌, inl, inr, ◌<◌, ◌+◌, ◌-◌, ℕ, Bool, true, false, eqb, if◌then◌else◌, IsTrue, List}
+use Rattle.std.proofs.Common.{length, refl, sym, ◌∙◌, ap, subst, arith, Ok, Err}
 use Rattle.std.proofs.lemmas.Bool.{cond_both}
 use Rattle.disk.specs.Device.{Device, Elapses, LeavesOnly}
 use Rattle.disk.proofs.Devices.{elapses_then}
 use Rattle.segment_laws.specs.Held.{HeldBatch}
 use Rattle.journal.specs.Calls.{Call, Does, IsRetried, MakesCall, OnMade, OnRetried, Syncs, blocks_after, call_at}
 use Rattle.journal.specs.Calls.Call.{Sync}
-use Rattle.journal.specs.Journal.{HasWholeBlocks, IsCaused, IsReady, IsSameBatch, JournalView, LeavesAdmitted}
+use Rattle.journal.specs.Journal.{IsCaused, IsSameBatch, JournalView}
 use Rattle.journal.specs.Journal.{all_held, calls, sizes, with_batch}
 use Rattle.journal.specs.Order.{all_calls, answer, following, is_sync, is_to_commit}
 use Rattle.journal.specs.declared.Next.{Next}
@@ -18,7 +18,7 @@ use Rattle.journal.specs.declared.JournalError.{JournalError}
 use Rattle.journal.specs.declared.JournalError.TheVariants.{Fault, Memory}
 use Rattle.journal.proofs.During.{same_itself, same_sizes, same_then}
 use Rattle.journal.proofs.Flights.{after_commit, after_gate, after_home, after_image}
-use Rattle.model.specs.Volume.{StandsFor, block, blocks_from, descriptor_of, format_number, laid_over}
+use Rattle.model.specs.Volume.{descriptor_of, laid_over}
 
 no_time : (a : Device) → Elapses a a
 no_time a = record { size = refl; tells = refl; later = omega arith }

@@ -95,6 +95,24 @@ module _ {D : Type 0} (device : D → Device) (journal : JournalView D) (old new
   files text moment (Ok outcome) ok err = becomes text moment outcome ok
   files text moment (Err error) ok err = stays err
 
+-- ---- an image of the journal's blocks
+
+-- an image with the journal's blocks stands for the durable changes
+pub first_stand : {D : Type 0} (device : D → Device) (journal : JournalView D) (spool : SpoolView) (durable : ℕ)
+    → IsTied device journal spool durable → IsReady journal → IsTrue (device journal.disk).tells → (image : Octets)
+    → IsVolume journal.format journal.label journal.blocks image → Stands spool.host image (take durable spool.changes)
+first_stand device journal spool durable tied ready tells image volume =
+    let behind = tied.behind ready tells in
+    record {
+      label = journal.label;
+      inodes = spool.inodes;
+      blocks = journal.blocks;
+      volume = volume.0;
+      labelled = subst (λ (n : ℕ). IsLabel journal.label n spool.inodes spool.host) (sym (behind.agrees.count ∙ tied.size)) tied.labelled;
+      held = held_in journal.format spool.host image spool.inodes journal.blocks (take durable spool.changes) tied.format volume.1
+          behind.holds;
+    }
+
 -- ---- a batch is written
 
 module _ {D : Type 0} (device : D → Device) (old new : JournalView D) (spool : SpoolView) (durable : ℕ)
@@ -173,19 +191,12 @@ module _ {D : Type 0} (device : D → Device) (old new : JournalView D) (spool :
   pub prefix : IsReady old → LeavesOneOf device old spool.blocks new → IsSpool spool → (after : StoreView D) → after.journal ≡ new
       → LeavesPrefix device (record { journal = old; spool = spool; durable = durable }) after
   prefix ready since sound after is tells t image before left =
-      let behind = tied.behind ready tells in
       let left_new = subst (λ (j : JournalView D). (device j.disk).left_since t image) is left in
       ⊎_elim
       (λ (was : (device old.disk).left_since t image). inl was)
       (λ (one : IsVolume old.format old.label old.blocks image ⊎ IsVolume old.format old.label spool.blocks image). inr (⊎_elim
-      (λ (first : IsVolume old.format old.label old.blocks image). inl (record {
-        label = old.label;
-        inodes = spool.inodes;
-        blocks = old.blocks;
-        volume = first.0;
-        labelled = subst (λ (n : ℕ). IsLabel old.label n spool.inodes spool.host) (sym (behind.agrees.count ∙ tied.size)) tied.labelled;
-        held = held_in old.format spool.host image spool.inodes old.blocks (take durable spool.changes) tied.format first.1 behind.holds;
-      }))
+      (λ (first : IsVolume old.format old.label old.blocks image).
+      inl (first_stand device old spool durable tied ready tells image first))
       (λ (both : IsVolume old.format old.label spool.blocks image). inr (all_stand sound image both))
       one))
       (since tells t image before left_new)

@@ -1,9 +1,10 @@
 -- A volume to which texts are added, and what its device leaves of them.
-use Rattle.std.specs.Prelude.{◌≡◌, ◌⊎◌, ◌≤◌, ℕ, IsTrue, List, [], length, take}
-use Rattle.disk.specs.Device.{Device}
+use Rattle.std.specs.Prelude.{◌≡◌, ◌⊎◌, ◌≤◌, ℕ, IsTrue, List, [], ◌++◌, length, take}
+use Rattle.disk.specs.Device.{Device, Elapses}
 use Rattle.journal.specs.Inside.{IsVolume}
 use Rattle.journal.specs.Journal.{IsReady, JournalView}
 use Rattle.model.specs.Layout.{Holds, IsLabel, Stands}
+use Rattle.model.specs.Spool.{Spool}
 use Rattle.model.specs.Stream.{Octets}
 use Rattle.model.specs.Volume.{blocks_from, laid_over}
 use Rattle.spool.specs.View.{SpoolView}
@@ -45,6 +46,25 @@ LeavesPrefix device old new =
     → (device new.journal.disk).left_since t image
     → (device old.journal.disk).left_since t image
     ⊎ (Stands old.spool.host image (take old.durable old.spool.changes) ⊎ Stands old.spool.host image old.spool.changes)
+
+-- ---- a store goes on
+
+-- a crash at a moment since the earlier one might have left what it might have left before, or an image that stands for
+-- the first changes of the later spool, at least those that were durable
+abbrev pub LeavesFirst : {D : Type 0} → (D → Device) → StoreView D → StoreView D → Type 0
+LeavesFirst device old new =
+    IsTrue (device old.journal.disk).tells → (t : ℕ) (image : Octets) → t ≤ (device old.journal.disk).clock
+    → (device new.journal.disk).left_since t image
+    → (device old.journal.disk).left_since t image
+    ⊎ ((n : ℕ) × (old.durable ≤ n) × (n ≤ length new.spool.changes) × Stands old.spool.host image (take n new.spool.changes))
+
+-- from one moment to a later one the changes stay the first ones, those that were durable stay durable, and a crash leaves no less
+pub record GoesOn {D : Type 0} (device : D → Device) (old new : StoreView D) : Type 0 where
+  pub host : new.spool.host ≡ old.spool.host
+  pub changes : (more : Spool) × (new.spool.changes ≡ old.spool.changes ++ more)
+  pub durable : old.durable ≤ new.durable
+  pub time : Elapses (device old.journal.disk) (device new.journal.disk)
+  pub leaves : LeavesFirst device old new
 
 -- ---- a batch
 

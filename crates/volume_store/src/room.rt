@@ -1,6 +1,8 @@
 //! What a volume has too little of for a change.
 
 ghost use Rattle.std.specs.Prelude.{◌≡◌, ◌+◌, IfOk, IsTrue, length};
+ghost use Rattle.disk.specs.Device.{Elapses};
+ghost use Rattle.journal.specs.Inside.{LeftAs};
 ghost use Rattle.journal.specs.Journal.{IsReady};
 ghost use Rattle.model.specs.Files.{free_blocks};
 ghost use Rattle.model.specs.SpoolFiles.{files_of};
@@ -44,7 +46,7 @@ pub(crate) fn inodes_of(spool: &Spool) -> u64
 }
 
 /// The number of used blocks, by the bitmap on the device (docs/FORMATS.md). The only refusal is `Fault`, which halts the
-/// journal for good.
+/// journal for good. A crash meanwhile leaves what it would have left before, or the same volume.
 pub(crate) fn blocks_used<D: Disk>(journal: &mut Journal<D>) -> Result<u64, JournalError>
     requires { IsReady journal.old }
     ensures label { journal.new.label ≡ journal.old.label }
@@ -53,6 +55,9 @@ pub(crate) fn blocks_used<D: Disk>(journal: &mut Journal<D>) -> Result<u64, Jour
     ensures tells { (D.device journal.new.disk).tells ≡ (D.device journal.old.disk).tells }
     ensures blocks { IsTrue (D.device journal.old.disk).tells → journal.new.blocks ≡ journal.old.blocks }
     ensures value { IsTrue (D.device journal.old.disk).tells → IfOk result (λ used. used ≡ all_marked journal.old.blocks) }
+    ensures time { Elapses (D.device journal.old.disk) (D.device journal.new.disk) }
+    ensures since { LeftAs (D.device journal.old.disk) (D.device journal.new.disk) journal.old.format journal.old.label
+        journal.old.blocks }
 {
     Ok(BitmapMarks::read(journal)?.all())
 }

@@ -137,7 +137,7 @@ impl<D: Disk> Store<D> {
 }
 
 impl<D: Disk> Store<D> {
-    ghost use Rattle.volume_store.specs.Saved.{IsSaved, LeavesPrefix};
+    ghost use Rattle.volume_store.specs.Saved.{GoesOn, IsSaved, LeavesPrefix};
 
     /// The number of changes, and of those that are durable.
     pub fn len(&self) -> (u64, u64)
@@ -160,6 +160,7 @@ impl<D: Disk> Store<D> {
         ensures room { OnOk result (length self.new.spool.dirty ≤ most_dirty (length self.new.spool.blocks)) }
         ensures spool { self.new.spool ≡ record self.old.spool { dirty = self.new.spool.dirty } }
         ensures prefix { LeavesPrefix D.device self.old self.new }
+        ensures goes_on { GoesOn D.device self.old self.new }
         ensures ready { OnOk result (IsReady self.old.journal → IsReady self.new.journal) }
         ensures time { Elapses (D.device self.old.journal.disk) (D.device self.new.journal.disk) }
         ensures still { OnOk result ((D.device self.new.journal.disk).failures ≡ (D.device self.old.journal.disk).failures) }
@@ -200,6 +201,7 @@ impl<D: Disk> Store<D> {
     ) -> Result<TextOutcome, AllocError>
         requires { length self.old.spool.dirty ≤ most_dirty (length self.old.spool.blocks) }
         ensures ok { IfOk result (Becomes self.old.spool self.new.spool (ends.with_crlf text.now) moment) }
+        ensures goes_on { GoesOn D.device self.old self.new }
         ensures journal { self.new.journal ≡ self.old.journal }
         ensures durable { self.new.durable ≡ self.old.durable }
         ensures err { OnErr result (self.new ≡ self.old) }
@@ -218,6 +220,7 @@ impl<D: Disk> Store<D> {
         ensures ok { OnOk result (IsSaved D.device self.new) }
         ensures spool { self.new.spool ≡ record self.old.spool { dirty = self.new.spool.dirty } }
         ensures prefix { LeavesPrefix D.device self.old self.new }
+        ensures goes_on { GoesOn D.device self.old self.new }
         ensures fault { IfErr result
             (λ error. error ≡ JournalError.Fault → (D.device self.new.journal.disk).failures ≢ (D.device self.old.journal.disk).failures) }
         ensures halted { IfErr result (λ error. error ≡ JournalError.Halted → (IsReady self.old.journal → ⊥) × (self.new ≡ self.old)) }
@@ -246,6 +249,7 @@ impl<D: Disk> Store<D> {
         ensures value { IsTrue (D.device self.new.journal.disk).tells → IfOk result (λ lack. lack ≡ lack_of self.new.spool) }
         ensures spool { self.new.spool ≡ self.old.spool }
         ensures durable { self.new.durable ≡ self.old.durable }
+        ensures goes_on { GoesOn D.device self.old self.new }
     {
         self.lack_for(1)
     }
@@ -258,6 +262,7 @@ impl<D: Disk> Store<D> {
             → IfOk result (λ lack. lack ≡ lack_for self.new.spool files) }
         ensures spool { self.new.spool ≡ self.old.spool }
         ensures durable { self.new.durable ≡ self.old.durable }
+        ensures goes_on { GoesOn D.device self.old self.new }
     {
         let used = self.blocks_used()?;
         Ok(lack_by(&self.spool, used, files))
@@ -269,6 +274,7 @@ impl<D: Disk> Store<D> {
             → IfOk result (λ used. used + free_blocks self.new.spool.blocks ≡ length self.new.spool.blocks) }
         ensures spool { self.new.spool ≡ self.old.spool }
         ensures durable { self.new.durable ≡ self.old.durable }
+        ensures goes_on { GoesOn D.device self.old self.new }
     {
         if !self.journal.is_idle() {
             return Err(JournalError::Halted);

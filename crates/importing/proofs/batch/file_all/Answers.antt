@@ -1,17 +1,30 @@
-use Rattle.std.proofs.Common.{rules, ◌≡◌, ◌<◌, ◌++◌, List, ℕ, length, refl, sym, ◌∙◌, ap, subst, arith}
+use Rattle.std.proofs.Common.{rules, ◌≡◌, ◌<◌, ◌++◌, List, None, ℕ, length, refl, sym, ◌∙◌, ap, subst, arith}
 use Rattle.model.specs.Stream.{Octets}
 use Rattle.importing.specs.Imported.{Imports}
-use Rattle.importing.proofs.Importing.{imports_nothing, long_as_before, none_of, read_more, read_nothing, some_of, stopped}
+use Rattle.importing.proofs.Importing.{imports_nothing, long_as_before, never_ends, none_of, read_more, read_nothing, refused}
+use Rattle.importing.proofs.Importing.{some_of, stopped}
+use Rattle.volume_store.proofs.GoingOn.{goes_then, stays}
 use Rattle.importing.proofs.batch.file_all.Goals as goal
 
 pub pieces-init : goal.pieces-init
 pieces-init g c = (
   omega (arith, c.in_ok-piece.ensures.len, c.in_ok-piece.piece.ok.0),
   read_nothing c.args.store.now.spool (g.I.Read.remaining c.args.input.now) c.args.batch.now.reader.rest c.args.batch.now.counts,
+  stays g.D.Disk.device c.args.store.now c.args.store.now refl refl refl,
 )
 
-pub returns-in-Ok-eq0 : goal.returns-in-Ok-eq0
-returns-in-Ok-eq0 g c =
+pub returns-in_err-piece-clause-read : goal.returns-in_err-piece-clause-read
+returns-in_err-piece-clause-read g c = (
+  c.args.batch.now.reader.rest,
+  read_nothing c.args.store.now.spool (g.I.Read.remaining c.args.input.now) c.args.batch.now.reader.rest c.args.batch.now.counts,
+  λ is. absurd (refused c.from_residual.result c.from_residual.ensures.0 is),
+)
+
+pub returns-in_err-piece-clause-goes_on : goal.returns-in_err-piece-clause-goes_on
+returns-in_err-piece-clause-goes_on g c = stays g.D.Disk.device c.args.store.now c.args.store.now refl refl refl
+
+pub returns-in-Ok-eq0-clause-read : goal.returns-in-Ok-eq0-clause-read
+returns-in-Ok-eq0-clause-read g c =
     let read = c.in-Ok-eq0.ensures.read in
     let s = c.pieces.store.spool in
     let counts = c.pieces.batch.counts in
@@ -23,37 +36,65 @@ returns-in-Ok-eq0 g c =
       read_more c.args.store.now.spool s s _ _ _ c.args.batch.now.reader.rest c.pieces.batch.reader.rest left read.0
           c.args.batch.now.counts counts counts c.pieces.invariant.1 read.1
           (subst (λ (o : Octets). Imports s s o left counts counts) read.2 (imports_nothing s s left counts refl)),
-      λ is. (c.end.ensures is, read.3 none room),
+      λ is. (c.end.ensures (let same : c.end.result ≡ None = cc in same), read.3 none room),
     )
 
-pub returns-in-Err : goal.returns-in-Err
-returns-in-Err g c =
+pub returns-in-Err-clause-read : goal.returns-in-Err-clause-read
+returns-in-Err-clause-read g c =
     let failed = c.in-Err.ensures.failed in
     let s = c.pieces.store.spool in
     let counts = c.pieces.batch.counts in
     let left = c.pieces.batch.reader.rest ++ failed.0 in
     stopped c.stream_stop.result c.args.store.now.spool s _ _ c.args.batch.now.reader.rest left c.args.batch.now.counts counts
-    c.stream_stop.ensures
+    (never_ends c.stream_stop.result c.stream_stop.ensures)
     (read_more c.args.store.now.spool s s _ _ _ c.args.batch.now.reader.rest c.pieces.batch.reader.rest left failed.0
     c.args.batch.now.counts counts counts c.pieces.invariant.1 failed.1 (imports_nothing s s left counts refl))
 
-pub returns-then-is_some : goal.returns-then-is_some
-returns-then-is_some g c =
+pub returns-then-is_some-clause-read : goal.returns-then-is_some-clause-read
+returns-then-is_some-clause-read g c =
     let read = c.in-Ok.ensures.read in
     let s = c.pieces.store.spool in
     let new = c.file_ready.new.store.spool in
     let counts = c.pieces.batch.counts in
     let after = c.file_ready.new.batch.counts in
-    let filed = c.in_ok-stop.ensures.stopped in (
+    let filed = c.file_ready.ensures.tried in (
       filed.0,
       read_more c.args.store.now.spool s new _ _ _ c.args.batch.now.reader.rest c.pieces.batch.reader.rest filed.0 read.0
           c.args.batch.now.counts counts after c.pieces.invariant.1 read.1
           (subst (λ (o : Octets). Imports s new o filed.0 counts after) read.2 filed.1),
-      λ none. absurd (some_of c.in_ok-stop.stop (sym c.is_some.ensures ∙ c.if-is_some.true) none),
+      λ same. absurd (let none : c.in_ok-stop.stop ≡ None = cc in
+          some_of c.in_ok-stop.stop (sym c.is_some.ensures ∙ c.if-is_some.true) none),
     )
 
-pub returns-in-Err-progress : goal.returns-in-Err-progress
-returns-in-Err-progress g c =
+pub returns-then-is_some-clause-goes_on : goal.returns-then-is_some-clause-goes_on
+returns-then-is_some-clause-goes_on g c =
+    goes_then g.D.Disk.device c.args.store.now c.pieces.store c.file_ready.new.store c.pieces.invariant.2 c.file_ready.ensures.goes_on
+
+pub returns-in_err-stop-clause-read : goal.returns-in_err-stop-clause-read
+returns-in_err-stop-clause-read g c =
+    let read = c.in-Ok.ensures.read in
+    let s = c.pieces.store.spool in
+    let new = c.file_ready.new.store.spool in
+    let counts = c.pieces.batch.counts in
+    let after = c.file_ready.new.batch.counts in
+    let filed = c.file_ready.ensures.tried in (
+      filed.0,
+      read_more c.args.store.now.spool s new _ _ _ c.args.batch.now.reader.rest c.pieces.batch.reader.rest filed.0 read.0
+          c.args.batch.now.counts counts after c.pieces.invariant.1 read.1
+          (subst (λ (o : Octets). Imports s new o filed.0 counts after) read.2 filed.1),
+      λ is. absurd (refused c.from_residual-in_err-stop.result c.from_residual-in_err-stop.ensures.0 is),
+    )
+
+pub returns-in_err-stop-clause-goes_on : goal.returns-in_err-stop-clause-goes_on
+returns-in_err-stop-clause-goes_on g c =
+    goes_then g.D.Disk.device c.args.store.now c.pieces.store c.file_ready.new.store c.pieces.invariant.2 c.file_ready.ensures.goes_on
+
+pub returns-in-Err-progress-clause-goes_on : goal.returns-in-Err-progress-clause-goes_on
+returns-in-Err-progress-clause-goes_on g c =
+    goes_then g.D.Disk.device c.args.store.now c.pieces.store c.file_ready.new.store c.pieces.invariant.2 c.file_ready.ensures.goes_on
+
+pub returns-in-Err-progress-clause-read : goal.returns-in-Err-progress-clause-read
+returns-in-Err-progress-clause-read g c =
     let read = c.in-Ok.ensures.read in
     let s = c.pieces.store.spool in
     let new = c.file_ready.new.store.spool in
@@ -62,7 +103,7 @@ returns-in-Err-progress g c =
     let left = c.file_ready.new.batch.reader.rest in
     let going = none_of c.in_ok-stop.stop (sym c.is_some.ensures ∙ c.if-is_some.false) in
     stopped c.stream_stop-in-Err-progress.result c.args.store.now.spool new _ _ c.args.batch.now.reader.rest left
-    c.args.batch.now.counts after c.stream_stop-in-Err-progress.ensures
+    c.args.batch.now.counts after (never_ends c.stream_stop-in-Err-progress.result c.stream_stop-in-Err-progress.ensures)
     (read_more c.args.store.now.spool s new _ _ _ c.args.batch.now.reader.rest c.pieces.batch.reader.rest left read.0
     c.args.batch.now.counts counts after c.pieces.invariant.1 read.1
     (subst (λ (o : Octets). Imports s new o left counts after) read.2 (c.in_ok-stop.ensures.going going)))
@@ -83,9 +124,11 @@ pieces-preserved g c =
       read_more c.args.store.now.spool s new _ _ _ c.args.batch.now.reader.rest c.pieces.batch.reader.rest left read.0
           c.args.batch.now.counts counts after c.pieces.invariant.1 read.1
           (subst (λ (o : Octets). Imports s new o left counts after) read.2 (c.in_ok-stop.ensures.going going)),
+      goes_then g.D.Disk.device c.args.store.now c.pieces.store c.file_ready.new.store c.pieces.invariant.2 c.file_ready.ensures.goes_on,
     )
 
-pub returns : goal.returns
-returns g c =
+pub returns-clause-read : goal.returns-clause-read
+returns-clause-read g c =
     stopped c.stream_stop-2.result c.args.store.now.spool c.pieces.store.spool _ _ c.args.batch.now.reader.rest
-    c.pieces.batch.reader.rest c.args.batch.now.counts c.pieces.batch.counts c.stream_stop-2.ensures c.pieces.invariant.1
+    c.pieces.batch.reader.rest c.args.batch.now.counts c.pieces.batch.counts
+    (never_ends c.stream_stop-2.result c.stream_stop-2.ensures) c.pieces.invariant.1

@@ -1,6 +1,7 @@
-use Rattle.std.proofs.Common.{Bool, IsTrue, sym, subst}
+use Rattle.std.proofs.Common.{Bool, IsTrue, refl, sym, subst}
 use Rattle.std.proofs.lemmas.Result.{IfOk-weaker}
-use Rattle.volume_store.specs.Saved.{IsSaved, StoreView}
+use Rattle.volume_store.specs.Saved.{GoesOn, IsSaved, StoreView}
+use Rattle.volume_store.proofs.GoingOn.{reads}
 use Rattle.volume_store.proofs.Rooms.{used_are}
 use Rattle.volume_store.proofs.Tied.{read}
 use Rattle.volume_store.proofs.store.Store.blocks_used.Goals as goal
@@ -24,3 +25,13 @@ invariant_of-self g c =
       size = c.blocks_used.ensures.size;
     }) (c.is_idle.ensures.idle.0 c.if-not-is_idle.false) c.blocks_used.ensures.tells
     c.blocks_used.ensures.blocks
+
+pub returns-clause-goes_on : goal.returns-clause-goes_on
+returns-clause-goes_on g c =
+    let before : StoreView g.row.D.Denot =
+    record { journal = c.self.inside.journal; spool = c.self.inside.spool; durable = c.self.inside.durable } in
+    let after : StoreView g.row.D.Denot =
+    record { journal = c.blocks_used.new.journal; spool = c.self.inside.spool; durable = c.self.inside.durable } in
+    subst (λ (was : StoreView g.row.D.Denot). GoesOn g.D.Disk.device was after) c.self.view_is
+    (reads g.D.Disk.device before after c.self.invariant (c.is_idle.ensures.idle.0 c.if-not-is_idle.false) refl refl
+    c.blocks_used.ensures.time c.blocks_used.ensures.since)

@@ -1,5 +1,6 @@
-use Rattle.std.proofs.Common.{◌≤◌, length, sym, subst}
-use Rattle.volume_store.specs.Saved.{StoreView}
+use Rattle.std.proofs.Common.{◌≤◌, length, refl, sym, subst}
+use Rattle.volume_store.specs.Saved.{GoesOn, StoreView}
+use Rattle.volume_store.proofs.GoingOn as going
 use Rattle.kernel.specs.Kernel.{most_dirty}
 use Rattle.volume_store.proofs.Tied.{files}
 use Rattle.volume_store.proofs.store.Store.file.Goals as goal
@@ -11,3 +12,12 @@ invariant_of-self g c =
     files g.D.Disk.device c.self.inside.journal c.self.inside.spool c.file_text.new.spool c.self.inside.durable c.self.invariant
     c.kept.ensures.room.count_few room
     _ _ c.file_text.result c.file_text.ensures.ok c.file_text.ensures.err
+
+pub returns-clause-goes_on : goal.returns-clause-goes_on
+returns-clause-goes_on g c =
+    let before : StoreView g.row.D.Denot =
+    record { journal = c.self.inside.journal; spool = c.self.inside.spool; durable = c.self.inside.durable } in
+    let after : StoreView g.row.D.Denot =
+    record { journal = c.self.inside.journal; spool = c.file_text.new.spool; durable = c.self.inside.durable } in
+    subst (λ (was : StoreView g.row.D.Denot). GoesOn g.D.Disk.device was after) c.self.view_is
+    (going.files g.D.Disk.device before after _ _ c.file_text.result refl refl c.file_text.ensures.ok c.file_text.ensures.err)
