@@ -36,7 +36,8 @@ pub fn give_short_writes(stream: &TcpStream) -> io::Result<()> {
 }
 
 /// Writes the octets from the place `written` on to a socket whose writes hardly wait, and advances that place. What the socket
-/// does not take at once is left, or, with a time `stall`, written until the socket has taken nothing for so long.
+/// does not take in one call is left, so that a caller who takes an octet at a time holds nobody. With a time `stall` it is written
+/// until the socket has taken nothing for so long.
 pub fn deliver<R: Wait>(
     rt: &R,
     stream: &TcpStream,
@@ -45,10 +46,13 @@ pub fn deliver<R: Wait>(
     stall: Option<Duration>,
 ) -> Written {
     let mut socket = stream;
-    let at_once = write_on(rt, &mut socket, octets, written);
-    let (Written::Part, Some(stall)) = (at_once, stall) else {
-        return at_once;
+    let Some(stall) = stall else {
+        return write_piece(rt, &mut socket, octets, written);
     };
+    let at_once = write_on(rt, &mut socket, octets, written);
+    if at_once != Written::Part {
+        return at_once;
+    }
     if stream.set_write_timeout(Some(stall / WAITS)).is_err() {
         return Written::Failed;
     }
@@ -98,16 +102,30 @@ fn write_on<R: Wait, W: Write>(
     ensures { Wrote octets.now written.old written.new (W.contents stream.old) (W.contents stream.new) }
 {
     'pieces: for _ in rt.forever() {
-        if *written > octets.len() {
-            return Written::Failed;
-        }
-        let (step, count) = write_once(rt, stream, &octets[*written..]);
-        *written += count;
-        if step != Written::Part || count == 0 {
+        let before = *written;
+        let step = write_piece(rt, stream, octets, written);
+        if step != Written::Part || *written == before {
             return step;
         }
     }
     unreachable!()
+}
+
+/// Writes of the octets from the place `written` on what the writer takes in one call, and advances that place.
+fn write_piece<R: Wait, W: Write>(
+    rt: &R,
+    stream: &mut W,
+    octets: &[u8],
+    written: &mut usize,
+) -> Written
+    ensures { Wrote octets.now written.old written.new (W.contents stream.old) (W.contents stream.new) }
+{
+    if *written > octets.len() {
+        return Written::Failed;
+    }
+    let (step, count) = write_once(rt, stream, &octets[*written..]);
+    *written += count;
+    step
 }
 
 /// Writes what a writer takes in one call, and answers how many octets that was: all of them with `All`, none with

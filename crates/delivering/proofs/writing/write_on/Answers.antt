@@ -1,5 +1,4 @@
-use Rattle.std.proofs.Common.{◌+◌}
-use Rattle.delivering.proofs.Delivery.{further, nothing, piece}
+use Rattle.delivering.proofs.Delivery.{further, nothing}
 use Rattle.delivering.proofs.writing.write_on.Goals as goal
 
 -- src/writing.rt:99:5
@@ -9,17 +8,13 @@ pieces-init g c = nothing c.args.octets.now c.args.written.now (g.W.Write.conten
 -- src/writing.rt:106:13
 pub returns-then-ne : goal.returns-then-ne
 returns-then-ne g c =
-    further c.args.octets.now c.args.written.now c.pieces.written (c.pieces.written + c.write_once-step.result.1)
-    (g.W.Write.contents c.args.stream.now) (g.W.Write.contents c.pieces.stream) (g.W.Write.contents c.write_once-step.new.stream)
-    c.pieces.invariant
-    (piece c.args.octets.now c.pieces.written c.write_once-step.result.1 (g.W.Write.contents c.pieces.stream)
-    (g.W.Write.contents c.write_once-step.new.stream) c.write_once-step.ensures.bytes)
+    further c.args.octets.now c.args.written.now c.pieces.written c.write_piece-step.new.written
+    (g.W.Write.contents c.args.stream.now) (g.W.Write.contents c.pieces.stream) (g.W.Write.contents c.write_piece-step.new.stream)
+    c.pieces.invariant c.write_piece-step.ensures
 
 -- src/writing.rt:99:5
 pub pieces-preserved : goal.pieces-preserved
 pieces-preserved g c =
-    further c.args.octets.now c.args.written.now c.pieces.written (c.pieces.written + c.write_once-step.result.1)
-    (g.W.Write.contents c.args.stream.now) (g.W.Write.contents c.pieces.stream) (g.W.Write.contents c.write_once-step.new.stream)
-    c.pieces.invariant
-    (piece c.args.octets.now c.pieces.written c.write_once-step.result.1 (g.W.Write.contents c.pieces.stream)
-    (g.W.Write.contents c.write_once-step.new.stream) c.write_once-step.ensures.bytes)
+    further c.args.octets.now c.args.written.now c.pieces.written c.write_piece-step.new.written
+    (g.W.Write.contents c.args.stream.now) (g.W.Write.contents c.pieces.stream) (g.W.Write.contents c.write_piece-step.new.stream)
+    c.pieces.invariant c.write_piece-step.ensures
