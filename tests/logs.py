@@ -20,6 +20,8 @@ from playing import Skipped, main
 from refusals import compile_library
 
 LINE = re.compile(r"time=(\d{4}-\d\d-\d\dT\d\d:\d\d:\d\dZ) event=([a-z]+)((?: [a-z]+=[^ ]+)*)")
+# what comes as often as callers like
+OF_SESSIONS = ("begin", "post", "cause")
 SHORT_SESSIONS = 10000
 # that of its beginning, and that of its end
 LINES_OF_A_SESSION = 2
@@ -53,9 +55,9 @@ class Log:
 
     def events(self, name=None):
         """The events of this name as pairs of their name and fields, once each line was looked at; without a name, all but the beginnings
-        of sessions."""
+        of sessions and what became of their posts. A refused post has the name `cause` here, and a refused caller `refused`."""
         found = [self.event(line) for line in list(self.lines) if not line.startswith("newsd: ")]
-        return [it for it in found if (it[0] == name if name else it[0] != "begin")]
+        return [it for it in found if (it[0] == name if name else it[0] not in OF_SESSIONS)]
 
     @staticmethod
     def event(line):
@@ -63,7 +65,8 @@ class Log:
         assert found and line.endswith("\n"), line
         moment = calendar.timegm(time.strptime(found.group(1), "%Y-%m-%dT%H:%M:%SZ"))
         assert abs(moment - time.time()) < 300, line
-        return found.group(2), dict(field.split("=", 1) for field in found.group(3).split())
+        fields = dict(field.split("=", 1) for field in found.group(3).split())
+        return "cause" if "cause" in fields else found.group(2), fields
 
     def wait(self, name, count):
         """The first so many events of this name."""
@@ -71,8 +74,8 @@ class Log:
         return self.events(name)
 
     def line(self, at):
-        """A line, with the numbers masked that no test knows. Those of the beginnings of sessions don't count."""
-        line = [it for it in self.lines if " event=begin " not in it][at]
+        """A line, with the numbers masked that no test knows. Those of the beginnings of sessions and of posts don't count."""
+        line = [it for it in self.lines if self.event(it)[0] not in OF_SESSIONS][at]
         return re.sub(r"time=\S+", "time=T", re.sub(r"peer=127\.0\.0\.1:\d+", "peer=P", line.rstrip("\n")))
 
 
@@ -156,6 +159,133 @@ def each_end_of_a_session_is_logged(volume):
         assert log.line(0) == ("time=T event=end peer=P session=1 messages=11 taken=2 refused=2 in=%d out=%d why=quit"
                                % (one.sent, one.got)), log.lines
         assert [fields["session"] for _, fields in log.events("begin")] == ["1", "2", "3", "4", "5"], log.lines
+        posts = [(fields["session"], fields["id"], fields["serial"]) for _, fields in log.events("post")]
+        assert posts == [("1", message_id(1), "2"), ("1", message_id(2), "3")], log.lines
+        causes = [(fields["session"], fields["cause"]) for _, fields in log.events("cause")]
+        assert causes == [("1", "repeat"), ("1", "nogroup")], log.lines
+        refused = [line for line in log.lines if "cause=repeat" in line]
+        assert [re.sub(r"time=\S+", "time=T", line) for line in refused] == ["time=T event=refused session=1 cause=repeat\n"], refused
+
+
+def texts_by_cause():
+    """A text for each cause of a refusal that a text has by itself, in an empty spool with an open and a closed group."""
+    good = article(1)
+    fields = b"".join(b"X-%d: %s\r\n" % (number, b"x" * 900) for number in range(10))
+    groups = b",".join(b"x.g%d" % number for number in range(17))
+    return [
+        ("octets", good.replace(b"hi\r\n", b"h\ri\r\n")),
+        ("noend", b"Subject: one\r\n.\r\n"),
+        ("field", good.replace(b"Subject: one", b"Subject one")),
+        ("twice", good.replace(b"Subject: one", b"Subject: one\r\nSubject: two")),
+        ("missing", good.replace(b"From: a@example.org\r\n", b"")),
+        ("missing", good.replace(b"Subject: one", b"Subject:  ")),
+        ("id", good.replace(b"<1@a.example>", b"1@a.example")),
+        ("groups", good.replace(b"Newsgroups: x.a", b"Newsgroups: " + groups)),
+        ("long", good.replace(b"Subject: one\r\n", b"Subject: one\r\n" + fields)),
+        ("long", article(1, body="\r\n".join(["x" * 70] * 5000))),
+        ("nogroup", good.replace(b"Newsgroups: x.a", b"Newsgroups: x.none")),
+    ]
+
+
+def each_refused_post_has_its_cause(volume):
+    """Posts and transfers, each by a session's own thread and left to the thread that flushes."""
+    volume.make_group()
+    causes = texts_by_cause()
+    shut = article(1).replace(b"Newsgroups: x.a", b"Newsgroups: x.shut,x.a")
+    with volume.serve() as server:
+        log = Log(server.process.stderr)
+        server.order("group x.shut n 1000000000 test")
+        with server.call() as caller:
+            expected = []
+            for cause, text in [*causes, ("closed", shut), ("id", article(1).replace(b"@a.example", b"@news.example"))]:
+                assert caller.post(text) == "441 Article not accepted", cause
+                # the command after it goes with it, so it is not left to the thread that flushes
+                caller.send(b"POST\r\n")
+                assert caller.line().startswith("340"), cause
+                caller.send(text + b"DATE\r\n")
+                assert (caller.line(), caller.line()[:3]) == ("441 Article not accepted", "111"), cause
+                expected += [cause, cause]
+            for cause, text in [*causes, ("otherid", article(2))]:
+                assert caller.ask("IHAVE " + message_id(1)).startswith("335 "), cause
+                caller.send(text)
+                assert caller.line() == "437 Article rejected", cause
+                expected.append(cause)
+            assert caller.ask("IHAVE " + message_id(1)).startswith("335 ")
+            caller.send(shut)
+            assert caller.line() == "235 Article transferred"
+            assert caller.post(article(1)) == "441 Article not accepted"
+            expected.append("repeat")
+        log.wait("end", 1)
+        wait_until(lambda: len(log.events("cause")) >= len(expected))
+        assert [fields for _, fields in log.events("cause")] == [{"session": "1", "cause": cause} for cause in expected], log.lines
+        assert [fields["id"] for _, fields in log.wait("post", 1)] == [message_id(1)], log.lines
+
+
+def a_refusal_of_the_volume_has_its_cause(volume):
+    """`full`: the volume has no room. `reserve`: what is free of a larger one is left to the operator. `stopped`: its device has failed."""
+    small = volume.another("small", blocks=1024, inodes=64)
+    small.make_group()
+    with small.serve() as server, server.call() as caller:
+        log = Log(server.process.stderr)
+        replies = [caller.post(article(number)) for number in range(70)]
+        full = replies.count("441 Article not accepted")
+        log.wait("cause", full)
+        assert full and [fields["cause"] for _, fields in log.events("cause")] == ["full"] * full, log.lines
+        log.wait("post", 70 - full)
+    large = volume.another("large", blocks=16384, inodes=2048)
+    large.make_group()
+    with large.serve() as server, server.call() as caller:
+        log = Log(server.process.stderr)
+        for number in range(2048):
+            if caller.post(article(number)) != "240 Article received":
+                break
+        assert log.wait("cause", 1)[-1][1] == {"session": "1", "cause": "reserve"}, log.lines[-3:]
+    with volume.another("failing").serve() as server, server.call() as caller, server.call() as late:
+        log = Log(server.process.stderr)
+        server.order("group x.a y 1000000000 test")
+        assert late.ask("POST").startswith("340")
+        server.have_writes_fail()
+        caller.send(b"POST\r\n" + article(1))
+        log.wait("fault", 1)
+        late.send(article(2))
+        assert late.line() == "400 Service ends", log.lines
+        assert log.wait("cause", 1)[-1][1] == {"session": "2", "cause": "stopped"}, log.lines
+        assert not log.events("post"), log.lines
+
+
+def each_post_is_logged_once_it_is_durable(volume):
+    """By many callers at once, some of whom send one post after another. No line is doubled or comes without its post."""
+    volume.make_group()
+    with volume.serve() as server:
+        log = Log(server.process.stderr)
+
+        def post(own):
+            with server.call() as caller:
+                for number in range(own, own + 40):
+                    assert caller.post(article(number)) == "240 Article received"
+                # without an id: it gets one of the host
+                made = article(0).replace(b"Message-ID: <0@a.example>\r\n", b"")
+                assert caller.ask("POST").startswith("340")
+                caller.send(made + b"QUIT\r\n")
+                assert (caller.line(), caller.line()) == ("240 Article received", "205 Bye")
+
+        threads = [threading.Thread(target=post, args=(own * 1000,)) for own in range(1, 9)]
+        for thread in threads:
+            thread.start()
+        for thread in threads:
+            thread.join(60)
+        found = [fields for _, fields in log.wait("post", 8 * 41)]
+        assert server.order("stop") == "stopped"
+        assert server.process.wait(10) == 0
+        log.reading.join(10)
+        assert len(log.events("post")) == len(found) == 8 * 41, len(found)
+        serials = [int(fields["serial"]) for fields in found]
+        assert sorted(serials) == list(range(2, 2 + 8 * 41)), serials
+        own = {message_id(number) for at in range(1, 9) for number in range(at * 1000, at * 1000 + 40)}
+        made = {"<%s@news.example>" % fields["serial"] for fields in found} & {fields["id"] for fields in found}
+        assert {fields["id"] for fields in found} == own | made and len(made) == 8, made
+    dumped = "\n".join(volume.dump())
+    assert all(fields["id"] in dumped for fields in found), dumped[:300]
 
 
 def each_refused_caller_is_logged(volume):
@@ -347,7 +477,8 @@ def a_quiet_log_has_no_ends(volume):
         assert server.order("stop") == "stopped"
         assert server.process.wait(10) == 0
         log.reading.join(10)
-        assert {name for name, _ in log.events()} == {"refused"} and not log.events("begin"), log.lines
+        assert {name for name, _ in log.events()} == {"refused"}, log.lines
+        assert not any(log.events(name) for name in OF_SESSIONS), log.lines
 
 
 def a_log_that_nobody_reads_holds_nobody(volume):
@@ -386,7 +517,8 @@ def a_log_that_nobody_reads_holds_nobody(volume):
             assert caller.post(article(1)) == "240 Article received"
         assert server.order("group x.b y 1000000000 test") == "3"
         log = Log(server.process.stderr)
-        lines = LINES_OF_A_SESSION * (SHORT_SESSIONS + 1) + refused[0]
+        # that of the post is one of them
+        lines = LINES_OF_A_SESSION * (SHORT_SESSIONS + 1) + 1 + refused[0]
         wait_until(lambda: told(log) >= lines, 20)
         with server.call() as caller:
             assert caller.ask("QUIT") == "205 Bye"
@@ -436,9 +568,11 @@ def call_and_quit(port):
 
 
 def told(log):
-    """The beginnings and ends of sessions that have a line, the refused callers that are counted by one, and the lines without room."""
+    """The beginnings, posts and ends of sessions that have a line, the refused callers that are counted by one, and the lines without
+    room."""
     counted = sum(int(fields["times"]) for _, fields in log.events("refused"))
-    return len(log.events("begin")) + len(log.events("end")) + counted + sum(int(fields["lines"]) for _, fields in log.events("lost"))
+    own = sum(len(log.events(name)) for name in ("begin", "post", "end"))
+    return own + counted + sum(int(fields["lines"]) for _, fields in log.events("lost"))
 
 
 def a_server_whose_log_nobody_reads_stops(volume):
@@ -454,7 +588,7 @@ def a_server_whose_log_nobody_reads_stops(volume):
 
 
 def no_line_has_what_a_caller_sent(volume):
-    """Whatever octets come, a line has its form and none of them."""
+    """Whatever octets come, a line has its form and none of them but the message-ids of articles that were taken."""
     volume.make_group()
     secret = b"s3cr3t"
     with volume.serve() as server:
@@ -463,7 +597,8 @@ def no_line_has_what_a_caller_sent(volume):
             secret + b"\r\n", secret + b"=x event=fault\r\n", b"\x00\xff\x1b[31m" + secret + b"\r\n", secret + b"\ntime=x event=fault\n\r\n",
             b"\"" + secret + b"\"\r\n", b"GROUP " + secret + b"\r\n", b"ARTICLE <" + secret + b"@x.example>\r\n", secret * 200 + b"\r\n",
             b"\r\n", b"\r\r\n\n" + secret + b"\r\n", b"IHAVE <" + secret + b"@x.example>\r\n" + article(secret.decode(), subject=secret.decode()),
-            b"POST\r\n" + article(secret.decode() + "1", body=secret.decode()), bytes(range(256)) + b"\r\n", "\u2028\u0085".encode() + b"\r\n",
+            b"POST\r\n" + article(1, subject=secret.decode(), body=secret.decode()), b"POST\r\n" + article(1, body=secret.decode()),
+            b"POST\r\n" + article(secret.decode()).replace(b"x.a", secret), bytes(range(256)) + b"\r\n", "\u2028\u0085".encode() + b"\r\n",
         ]
         for sending in sendings:
             with server.call() as caller:
@@ -549,6 +684,9 @@ def who_takes_nothing_is_logged_as_stalled(volume):
 
 TESTS = [
     each_end_of_a_session_is_logged,
+    each_refused_post_has_its_cause,
+    a_refusal_of_the_volume_has_its_cause,
+    each_post_is_logged_once_it_is_durable,
     each_refused_caller_is_logged,
     refused_callers_are_summed_up,
     a_caller_from_elsewhere_that_is_refused_is_logged,

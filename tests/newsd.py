@@ -25,7 +25,7 @@ SET_PARENT_DEATH_SIGNAL = 1
 LINE_OCTETS = 72
 LOGGED = "time="
 # lines of the log that come beside those that a test asks for
-UNCOUNTED = re.compile(rb" event=(begin|opening) ")
+UNCOUNTED = re.compile(rb" event=(begin|opening|post) | event=refused session=")
 
 
 def article(number, subject="one", body="hi"):
@@ -181,7 +181,7 @@ class Server:
         return status, "".join(line for line in said if not line.startswith(LOGGED))
 
     def log(self):
-        """The next line of its log. Those of the beginnings of sessions and of a slow opening don't count."""
+        """The next line of its log. Those of the beginnings of sessions, of their posts and of a slow opening don't count."""
         return next(line for line in self.process.stderr if not UNCOUNTED.search(line)).decode().rstrip("\n")
 
     def order(self, line):

@@ -50,7 +50,7 @@ impl Counted {
 fn served(awaited: Mode, answered: ExecOutcome) -> CountedMessage {
     match awaited {
         Mode::Line => CountedMessage::Line,
-        Mode::Block if answered.has_accepted => CountedMessage::Taken,
+        Mode::Block if answered.accepted.is_some() => CountedMessage::Taken,
         Mode::Block => CountedMessage::Refused,
     }
 }

@@ -2,39 +2,43 @@
 
 use crate::answering::{SessionThread, ending_of};
 use crate::counts::Counted;
-use crate::farewells::transfers;
+use crate::farewells::asked_by;
 use crate::http::is_http;
-use logging::Ending;
+use attending::Offered;
+use logging::{Ending, PostRefusal};
 use model::{Message, Mode};
 use releasing::TakenBack;
-use shared_kernel::{ExecOutcome, Gate, Kern};
+use shared_kernel::{Asked, ExecOutcome, Gate, Kern};
 use std::sync::Wait;
 use std::time::Clock;
 
 /// What a session awaits.
 #[derive(Clone, Copy)]
 pub(crate) struct Awaited {
+    /// The number of the session.
+    session: u64,
     /// What its caller sends next. `None` if it was closed.
     pub(crate) mode: Option<Mode>,
-    /// The line before it, or before the block that was left, transfers an article.
-    pub(crate) is_transfer: bool,
+    /// The command of the line before it, or before the block that was left.
+    pub(crate) asked: Asked,
     /// A block was left, and its thread has not asked what became of it.
     has_left: bool,
 }
 
 impl Awaited {
     /// No message was read yet.
-    pub(crate) fn at_start(mode: Option<Mode>) -> Awaited {
+    pub(crate) fn at_start(session: u64, mode: Option<Mode>) -> Awaited {
         Awaited {
+            session,
             mode,
-            is_transfer: false,
+            asked: Asked::Post,
             has_left: false,
         }
     }
 
     /// A block was answered.
-    fn after_block(answered: ExecOutcome) -> Awaited {
-        Awaited::at_start(answered.next)
+    fn after_block(self, answered: ExecOutcome) -> Awaited {
+        Awaited::at_start(self.session, answered.next)
     }
 }
 
@@ -49,40 +53,64 @@ impl<'a, 'b, R: Wait + Clock, K: Kern, G: Gate> SessionThread<'a, 'b, R, K, G> {
         counts: &mut Counted,
     ) -> Result<Awaited, Ending> {
         let settled = settled?;
-        let Some(mode) = settled.mode else {
+        if settled.mode.is_none() {
             return Err(Ending::Quit);
-        };
+        }
         if is_http(&message) {
             return Err(Ending::Http);
         }
         match message {
-            Message::Block(_) if is_last => match self.leave(message, settled.is_transfer) {
+            Message::Block(_) if is_last => match self.leave(message, settled) {
                 Ok(left) => Ok(left),
-                Err(block) => self.serve_message(mode, block, counts),
+                Err(block) => self.serve_message(settled, block, counts),
             },
-            _ => self.serve_message(mode, message, counts),
+            _ => self.serve_message(settled, message, counts),
         }
     }
 
     /// Has a message answered.
     fn serve_message(
         &self,
-        awaited: Mode,
+        settled: Awaited,
         message: Message,
         counts: &mut Counted,
     ) -> Result<Awaited, Ending> {
-        let answered = self.have_answered(&message)?;
-        counts.note(awaited, answered);
+        let answered = match settled.mode {
+            Some(Mode::Block) => self.have_judged(&message, settled)?,
+            Some(Mode::Line) | None => self.have_answered(&message)?,
+        };
+        counts.note(settled.mode.unwrap_or(Mode::Line), answered);
         Ok(Awaited {
+            session: settled.session,
             mode: answered.next,
-            is_transfer: transfers(&message),
+            asked: asked_by(&message),
             has_left: false,
         })
     }
 
+    /// Has a post or a transfer answered that is awaited, and tells the log of it.
+    fn have_judged(&self, message: &Message, awaited: Awaited) -> Result<ExecOutcome, Ending> {
+        let Awaited { session, asked, .. } = awaited;
+        let offered = Offered {
+            session,
+            asked,
+            message,
+        };
+        let answered = self.have_answered(message);
+        match answered {
+            Ok(answered) => self.verdicts.tell(self.shared, offered, answered),
+            Err(ending) => {
+                if let Some(cause) = refusal_of(ending) {
+                    self.verdicts.tell_refused(self.shared, session, cause);
+                }
+            }
+        }
+        answered
+    }
+
     /// Leaves a block, unless the session holds an output or has something to write, or there may be no room but the
     /// operator's. The block is given back then.
-    fn leave(&self, block: Message, is_transfer: bool) -> Result<Awaited, Message> {
+    fn leave(&self, block: Message, settled: Awaited) -> Result<Awaited, Message> {
         if self
             .reserve
             .is_near(self.shared.rt, self.shared.kern, &block)
@@ -90,12 +118,14 @@ impl<'a, 'b, R: Wait + Clock, K: Kern, G: Gate> SessionThread<'a, 'b, R, K, G> {
             return Err(block);
         }
         let moment = self.moments.now(self.shared.rt, self.log);
-        let untold = self.writer.leave(self.shared.rt, block, moment)?;
+        let untold = self
+            .writer
+            .leave(self.shared.rt, block, settled.asked, moment)?;
         untold.tell(self.shared.bells);
         Ok(Awaited {
             mode: Some(Mode::Line),
-            is_transfer,
             has_left: true,
+            ..settled
         })
     }
 
@@ -111,12 +141,21 @@ impl<'a, 'b, R: Wait + Clock, K: Kern, G: Gate> SessionThread<'a, 'b, R, K, G> {
         }
         let answered = match self.writer.take_back(self.shared.rt) {
             None => return Err(Ending::Failed),
-            Some(TakenBack::Block(block)) => self.have_answered(&block)?,
+            Some(TakenBack::Block(block)) => self.have_judged(&block, awaited)?,
             Some(TakenBack::Filed(Ok(answered))) => answered,
             Some(TakenBack::Filed(Err(error))) => return Err(ending_of(error)),
         };
         counts.note(Mode::Block, answered);
-        Ok(Awaited::after_block(answered))
+        Ok(awaited.after_block(answered))
+    }
+}
+
+/// Why a post or a transfer was refused with which its session ended so, if it was.
+fn refusal_of(ending: Ending) -> Option<PostRefusal> {
+    match ending {
+        Ending::Full => Some(PostRefusal::Reserve),
+        Ending::Memory => Some(PostRefusal::Memory),
+        _ => None,
     }
 }
 

@@ -1,6 +1,6 @@
 -- The part of a volume that callers leave to its operator.
 use Rattle.std.specs.Prelude.{ℕ, ◌-◌, Bool, ◌||◌, nat_lt, if◌then◌else◌}
-use Rattle.logging.specs.declared.events.UsedPart.{UsedPart}
+use Rattle.log_lines.specs.declared.events.UsedPart.{UsedPart}
 
 -- 576 blocks, where there are 8,192 or more
 abbrev pub spare_blocks : ℕ → ℕ

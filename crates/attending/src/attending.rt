@@ -1,9 +1,11 @@
 //! The turn of the thread that flushes, as the sessions see it.
 
 use crate::pace::Pace;
+use crate::verdicts::{Offered, Verdicts};
 use flusher::Filing;
+use logging::PostRefusal;
 use releasing::{Shared, release_committed};
-use shared_kernel::{Gate, Kern};
+use shared_kernel::{ExecError, Gate, Kern};
 use std::sync::Wait;
 use std::time::Clock;
 
@@ -11,6 +13,7 @@ use std::time::Clock;
 pub struct Attending<'a, R, K, G, W> {
     shared: &'a Shared<'a, R, K, G>,
     gate: &'a W,
+    verdicts: Verdicts<'a>,
     pace: Pace,
 }
 
@@ -19,6 +22,7 @@ impl<'a, R, K, G, W> Drop for Attending<'a, R, K, G, W> {
         let Attending {
             shared: _,
             gate: _,
+            verdicts: _,
             pace: _,
         } = self;
     }
@@ -26,10 +30,15 @@ impl<'a, R, K, G, W> Drop for Attending<'a, R, K, G, W> {
 
 impl<'a, R, K, G, W> Attending<'a, R, K, G, W> {
     /// No commit was made yet: the first ones are taken to be slow, and the callers to come at once.
-    pub fn new(shared: &'a Shared<'a, R, K, G>, gate: &'a W) -> Attending<'a, R, K, G, W> {
+    pub fn new(
+        shared: &'a Shared<'a, R, K, G>,
+        gate: &'a W,
+        verdicts: Verdicts<'a>,
+    ) -> Attending<'a, R, K, G, W> {
         Attending {
             shared,
             gate,
+            verdicts,
             pace: Pace::new(),
         }
     }
@@ -65,7 +74,7 @@ impl<'a, R: Wait + Clock, K: Kern, G: Gate, W: Gate> Gate for Attending<'a, R, K
 
 impl<'a, R: Wait + Clock, K: Kern, G: Gate, W> Filing for Attending<'a, R, K, G, W> {
     fn file_left(&self) -> u64 {
-        file_left(self.shared)
+        file_left(self.shared, self.verdicts)
     }
 
     fn is_wait_worth(&self) -> bool {
@@ -77,14 +86,32 @@ impl<'a, R: Wait + Clock, K: Kern, G: Gate, W> Filing for Attending<'a, R, K, G,
     }
 }
 
-/// Files the blocks that sessions have left, and answers how many the kernel answered. Between two of them the kernel is
-/// given away where others wait for it.
-pub fn file_left<R: Wait, K: Kern, G: Gate>(shared: &Shared<'_, R, K, G>) -> u64 {
+/// Files the blocks that sessions have left, tells the log of them, and answers how many the kernel answered. Between two of
+/// them the kernel is given away where others wait for it.
+pub fn file_left<R: Wait + Clock, K: Kern, G: Gate>(
+    shared: &Shared<'_, R, K, G>,
+    verdicts: Verdicts<'_>,
+) -> u64 {
     let mut filed = 0u64;
     for writer in shared.writers {
-        if writer.file_left(shared) {
-            filed = filed.saturating_add(1);
-            shared.asking.make_room();
+        let Some(left) = writer.file_left(shared) else {
+            continue;
+        };
+        let offered = Offered {
+            session: left.session,
+            asked: left.asked,
+            message: &left.block,
+        };
+        match left.answer {
+            Ok(answered) => {
+                filed = filed.saturating_add(1);
+                shared.asking.make_room();
+                verdicts.tell(shared, offered, answered);
+            }
+            Err(ExecError::Memory) => {
+                verdicts.tell_refused(shared, left.session, PostRefusal::Memory);
+            }
+            Err(_) => {}
         }
     }
     filed

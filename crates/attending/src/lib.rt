@@ -6,8 +6,10 @@
 mod attending;
 mod pace;
 mod reserve;
+mod verdicts;
 mod watching;
 
 pub use attending::{Attending, file_left};
 pub use reserve::{Reserve, await_durable, settle};
+pub use verdicts::{Offered, Verdicts};
 pub use watching::Watching;

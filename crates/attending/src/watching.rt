@@ -13,8 +13,8 @@ use std::sync::atomic::{AtomicBool, Ordering};
 use std::time::Clock;
 use usage::{Tally, VolumeFacts};
 
-/// A gate that looks at a volume after each batch, and then calls the other gate. It tells the log once when the blocks
-/// are nearly used up, and once when nine tenths of the inodes are used.
+/// A gate that looks at a volume after each batch, and then calls the other gate. It tells the log how many changes are
+/// durable, once when the blocks are nearly used up, and once when nine tenths of the inodes are used.
 pub struct Watching<'a, R, K, G> {
     shared: &'a Shared<'a, R, K, G>,
     log: &'a Log,
@@ -65,6 +65,7 @@ impl<'a, R: Wait + Clock, K: Kern, G> Watching<'a, R, K, G> {
     pub fn look(&self) {
         let Shared { rt, kern, .. } = self.shared;
         let counts = kern.counts(*rt);
+        self.log.note_durable(*rt, counts.durable);
         self.reserve.note_inodes(counts.inodes);
         let blocks = UsedPart {
             used: self.tally.read().used_blocks,

@@ -1,5 +1,5 @@
 -- What a call does to the kernel under the lock, and to the caller's buffer.
-use Rattle.std.specs.Prelude.{◌≡◌, ◌<◌, ◌↔◌, ℕ, Bool, IsTrue, List, ◌++◌, length}
+use Rattle.std.specs.Prelude.{◌≡◌, ℕ, Bool, Some, None, List, ◌++◌, if◌then◌else◌, length, nat_lt}
 use Rattle.shared_kernel.specs.declared.kern.ExecOutcome.{ExecOutcome}
 use Rattle.shared_kernel.specs.declared.kern.KernelCounts.{KernelCounts}
 use Rattle.kernel.specs.Kernel.{Execs, KernelView, released_of, seat_of}
@@ -19,7 +19,7 @@ pub record Answers (old new : KernelView) (number : ℕ) (m : Message) (t : ℕ)
     (answered : ExecOutcome) : Type 0 where
   pub served : KernelView
   pub executed : Execs old served number m t (answered.next, answered.mark)
-  pub accepted : IsTrue answered.has_accepted ↔ (length old.spool < length served.spool)
+  pub accepted : answered.accepted ≡ if nat_lt (length old.spool) (length served.spool) then Some (length served.spool) else None
   pub given : Gives served new number before after answered.is_held
 
 -- what a kernel holds

@@ -2,5 +2,6 @@
 #![tactic(auto)]
 
 mod locked;
+mod obstacles;
 
 pub use locked::Locked;

@@ -1,4 +1,1 @@
 pub mod Clock
-pub mod Counting
-pub mod Events
-pub mod Line

@@ -3,7 +3,7 @@
 ghost use Rattle.std.specs.Prelude.{◌≡◌};
 ghost use Rattle.logging.specs.Clock.{given_after};
 
-use crate::events::LogEvent;
+use crate::LogEvent;
 use crate::writing::Log;
 use model::Moment;
 use std::sync::Wait;

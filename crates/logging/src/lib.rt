@@ -1,17 +1,16 @@
-//! The log of a server: its events, the line of each, and a thread that writes the lines. Noting an event never waits
-//! for the reader of the log. The lines are described in docs/newsd.1, their definition is `specs/Line.antt`.
+//! The log of a server, and a thread that writes its lines, which `log_lines` defines. Noting an event never waits for the
+//! reader of the log.
 #![tactic(auto)]
 
 mod clock;
-mod events;
-mod lines;
 mod refusals;
+mod waiting;
 mod writing;
 
 pub use clock::{Moments, beginning_of_1970, moment};
-pub use events::{
-    BegunSession, CountedMessage, EndedSession, Ending, LogEvent, OpeningStep, RefusedCallers,
-    SessionCounts, SessionRefusal, UsedPart,
+pub use log_lines::{
+    BegunSession, CountedMessage, EndedSession, Ending, LogEntry, LogEvent, OpeningStep,
+    PostRefusal, RefusedCallers, RefusedPost, SessionCounts, SessionRefusal, TakenPost, UsedPart,
+    line,
 };
-pub use lines::{LogEntry, line};
 pub use writing::{Log, Verbosity};

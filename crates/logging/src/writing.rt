@@ -3,13 +3,14 @@
 //! That thread may wait forever for the reader of the log, so it is not joined. No other thread waits for it: a line
 //! that finds no room is counted, as is one that cannot be written, and the count is written before the next line.
 //!
-//! Refused callers are summed up by address and cause, for a second.
+//! Refused callers are summed up by address and cause, for a second. Posts that were taken wait until they are durable.
 //!
 //! Events that come once have a channel of their own, so that no caller can take the room of their lines. The thread
 //! waits for the other channel alone, and is woken through it.
 
 use crate::refusals::Refusals;
-use crate::{LogEntry, LogEvent, SessionRefusal, beginning_of_1970, line, moment};
+use crate::waiting::{Durable, Waiting, WaitingPost};
+use crate::{LogEntry, LogEvent, SessionRefusal, TakenPost, beginning_of_1970, line, moment};
 use crossbeam_channel::{Receiver, RecvTimeoutError, Sender, bounded};
 use model::Moment;
 use std::alloc::{AllocError, Global};
@@ -38,7 +39,7 @@ const ENDING_SECS: u64 = 1;
 #[derive(Clone, Copy, Debug, PartialEq, Eq)]
 pub enum Verbosity {
     All,
-    /// All but the beginnings and the ends of sessions.
+    /// All but what sessions do: their beginnings, their posts and transfers, and their ends.
     Quiet,
 }
 
@@ -60,6 +61,7 @@ struct Untold {
     refused: Arc<Mutex<Refusals>, Global>,
     /// The lines that found no room or could not be written.
     lost: Arc<AtomicU64, Global>,
+    durable: Arc<Durable, Global>,
 }
 
 impl Untold {
@@ -67,6 +69,7 @@ impl Untold {
         Ok(Untold {
             refused: Arc::new(alloc, Mutex::new(Refusals::new(alloc)?))?,
             lost: Arc::new(alloc, AtomicU64::new(0))?,
+            durable: Arc::new(alloc, Durable::new())?,
         })
     }
 
@@ -75,19 +78,24 @@ impl Untold {
         Ok(Untold {
             refused: Arc::try_clone(&self.refused)?,
             lost: Arc::try_clone(&self.lost)?,
+            durable: Arc::try_clone(&self.durable)?,
         })
     }
 }
 
 /// What the thread that writes waits for.
-#[derive(Clone, Copy)]
+#[derive(Drop)]
 enum Due {
     /// A line to be written.
     Line(LogEntry),
+    /// A post that was taken. Its line waits until it is durable.
+    Post(WaitingPost),
     /// An event that comes once, in the channel of those.
     Once,
     /// The first of the refused callers that are counted.
     Refused,
+    /// More changes are durable.
+    Durable,
 }
 
 /// The thread that writes the lines.
@@ -111,6 +119,7 @@ impl Log {
         let telling = Telling {
             refused: Refusals::new(alloc)?,
             due_at: None,
+            posts: Waiting::new(alloc),
         };
         let own = *rt;
         let _writer = thread::spawn(rt, move || writing.write_all(&own, faults, telling))?;
@@ -143,19 +152,44 @@ impl Log {
     /// Notes an event, now. It does not wait for the thread that writes: if the reader of the log has left no room for
     /// another line, the line is counted as lost. That does not happen to an event that comes once.
     pub fn note<R: Wait + Clock>(&self, rt: &R, event: LogEvent) {
-        if self.verbosity == Verbosity::Quiet
-            && matches!(event, LogEvent::Begin(_) | LogEvent::End(_))
-        {
+        if self.verbosity == Verbosity::Quiet && is_of_session(&event) {
             return;
         }
+        let comes_once = event.comes_once();
         let entry = entry(moment(rt), event);
-        let has_room = if event.comes_once() {
+        let has_room = if comes_once {
             self.note_once(rt, entry)
         } else {
             self.due.try_send(rt, Due::Line(entry)).is_ok()
         };
         if !has_room {
-            self.untold.lost.fetch_add(1, Ordering::SeqCst);
+            self.note_lost();
+        }
+    }
+
+    /// Notes a post or a transfer that was taken, now. Its line is written once its change is durable, and never if that does not
+    /// come. It does not wait for the thread that writes: if there is no room for it, its line is counted as lost.
+    pub fn note_taken<R: Wait + Clock>(&self, rt: &R, post: TakenPost) {
+        if self.verbosity == Verbosity::Quiet {
+            return;
+        }
+        let moment = moment(rt).unwrap_or(beginning_of_1970());
+        let due = Due::Post(WaitingPost { moment, post });
+        if self.due.try_send(rt, due).is_err() {
+            self.note_lost();
+        }
+    }
+
+    /// Counts a line that could not be made as lost.
+    pub fn note_lost(&self) {
+        self.untold.lost.fetch_add(1, Ordering::SeqCst);
+    }
+
+    /// Notes that so many changes are durable. Where there is no room to wake the thread that writes, it is awake, and looks
+    /// for posts that wait after each line.
+    pub fn note_durable<R: Wait>(&self, rt: &R, changes: u64) {
+        if self.untold.durable.note(changes) {
+            let _ = self.due.try_send(rt, Due::Durable);
         }
     }
 
@@ -169,7 +203,7 @@ impl Log {
         let is_counted = refused.count(now, peer, why);
         drop(refused);
         if !is_counted {
-            self.untold.lost.fetch_add(1, Ordering::SeqCst);
+            self.note_lost();
         }
         if is_first {
             // Where there is no room to wake the thread, it is awake, and looks for refused callers after each line.
@@ -196,6 +230,14 @@ impl Log {
     }
 }
 
+/// Whether an event is of a session.
+fn is_of_session(event: &LogEvent) -> bool {
+    matches!(
+        event,
+        LogEvent::Begin(_) | LogEvent::Post(_) | LogEvent::NotPosted(_) | LogEvent::End(_)
+    )
+}
+
 /// An event and the time. Without a time it is the beginning of 1970.
 fn entry(moment: Option<Moment>, event: LogEvent) -> LogEntry {
     LogEntry {
@@ -212,13 +254,14 @@ struct Output<F> {
     is_cut: bool,
 }
 
-/// The refused callers that the log tells of next.
+/// The refused callers that the log tells of next, and the posts.
 #[derive(Drop)]
 struct Telling {
     /// They are put here while their lines are written. It is empty between.
     refused: Refusals,
     /// When they are due. `None` if none are counted.
     due_at: Option<Instant>,
+    posts: Waiting,
 }
 
 impl Writing {
@@ -232,13 +275,16 @@ impl Writing {
         for _ in rt.forever() {
             match self.next_due(rt, telling.due_at) {
                 Ok(Due::Line(entry)) => self.write_next(&mut output, &entry),
-                Ok(Due::Once | Due::Refused) | Err(RecvTimeoutError::Timeout) => {}
+                Ok(Due::Post(post)) => self.keep(&mut telling.posts, post),
+                Ok(Due::Once | Due::Refused | Due::Durable) | Err(RecvTimeoutError::Timeout) => {}
                 Err(RecvTimeoutError::Disconnected) => break,
             }
             self.write_once(rt, &mut output);
+            self.tell_of_posts(rt, &mut output, &mut telling.posts);
             self.tell_if_due(rt, &mut output, &mut telling);
         }
         self.write_once(rt, &mut output);
+        self.tell_of_last_posts(rt, &mut output, &mut telling.posts);
         self.tell_of_refused(rt, &mut output, &mut telling.refused);
         self.write_lost(&mut output, &entry(moment(rt), LogEvent::Lost(0)));
     }
@@ -294,6 +340,48 @@ impl Writing {
             }
         }
         refused.clear();
+    }
+
+    /// Keeps a post until it is durable.
+    fn keep(&self, posts: &mut Waiting, post: WaitingPost) {
+        if !posts.push(post) {
+            self.untold.lost.fetch_add(1, Ordering::SeqCst);
+        }
+    }
+
+    /// Writes the lines of the posts that are durable. Where others wait, this thread is woken once more changes are durable.
+    fn tell_of_posts<R: Wait, F: Write + Drop>(
+        &self,
+        rt: &R,
+        output: &mut Output<F>,
+        posts: &mut Waiting,
+    ) {
+        let durable = &self.untold.durable;
+        for _ in rt.forever() {
+            if posts.is_empty() {
+                return;
+            }
+            match posts.take(durable.changes()) {
+                Some(post) => self.write_next(output, &post.into_entry()),
+                None if durable.is_awaited_already() => return,
+                None => {}
+            }
+        }
+    }
+
+    /// Writes the lines of the posts that are durable at the end. The others were not kept.
+    fn tell_of_last_posts<R: Wait, F: Write + Drop>(
+        &self,
+        rt: &R,
+        output: &mut Output<F>,
+        posts: &mut Waiting,
+    ) {
+        for _ in rt.forever() {
+            let Some(post) = posts.take_any(self.untold.durable.changes()) else {
+                return;
+            };
+            self.write_next(output, &post.into_entry());
+        }
     }
 
     /// Writes the lines of the events that come once, as far as they were noted.

@@ -9,7 +9,7 @@ use crate::outgoing::{LeftBlock, Patience};
 use crate::turns::Turn;
 use crate::{ReplyWriter, Shared};
 use model::{Message, Moment};
-use shared_kernel::{Bells, ExecError, ExecOutcome, Gate, Kern};
+use shared_kernel::{Asked, Bells, ExecError, ExecOutcome, Gate, Kern};
 use std::sync::Wait;
 use std::thread;
 
@@ -33,6 +33,16 @@ pub enum TakenBack {
     Filed(Result<ExecOutcome, ExecError>),
 }
 
+/// A block that was left, after the thread that flushes had it answered.
+#[derive(Drop)]
+pub struct FiledBlock {
+    pub session: u64,
+    pub block: Message,
+    /// The command that it follows.
+    pub asked: Asked,
+    pub answer: Result<ExecOutcome, ExecError>,
+}
+
 impl ReplyWriter {
     /// Leaves a block that came at this moment to the thread that flushes, which must be told. The block is given back if
     /// the session holds an output, has something to write, or has a caller that once took less than was written.
@@ -40,6 +50,7 @@ impl ReplyWriter {
         &self,
         rt: &R,
         block: Message,
+        asked: Asked,
         moment: Moment,
     ) -> Result<Untold, Message> {
         let mut turn = self.desk.turn(rt);
@@ -47,12 +58,17 @@ impl ReplyWriter {
             turn.end_before_send();
             return Err(block);
         }
-        let left = turn.outgoing().leave(LeftBlock { block, moment });
+        let left = LeftBlock {
+            block,
+            asked,
+            moment,
+        };
+        let left = turn.outgoing().leave(left);
         turn.note_left(left.is_ok());
         turn.end_before_send();
         match left {
             Ok(()) => Ok(Untold(())),
-            Err(LeftBlock { block, moment: _ }) => Err(block),
+            Err(LeftBlock { block, .. }) => Err(block),
         }
     }
 
@@ -61,7 +77,7 @@ impl ReplyWriter {
     pub fn take_back<R: Wait>(&self, rt: &R) -> Option<TakenBack> {
         let mut turn = self.desk.turn(rt);
         let taken = match turn.outgoing().take_left() {
-            Some(LeftBlock { block, moment: _ }) => {
+            Some(LeftBlock { block, .. }) => {
                 turn.note_left(false);
                 Some(TakenBack::Block(block))
             }
@@ -71,14 +87,17 @@ impl ReplyWriter {
         taken
     }
 
-    /// Files the block that was left, if there is one, and writes the reply if that need not wait for a commit. Answers
-    /// whether the kernel answered it. Only the thread that flushes calls this. It waits for no lock: between its look and
-    /// the lock the session's thread may take the block back and begin a long write. As long as a block is left, whoever
-    /// has the lock has it for a short time.
-    pub fn file_left<R: Wait, K: Kern, G: Gate>(&self, shared: &Shared<'_, R, K, G>) -> bool {
+    /// Files the block that was left, if there is one, and writes the reply if that need not wait for a commit. Answers what
+    /// became of it. Only the thread that flushes calls this. It waits for no lock: between its look and the lock the
+    /// session's thread may take the block back and begin a long write. As long as a block is left, whoever has the lock
+    /// has it for a short time.
+    pub fn file_left<R: Wait, K: Kern, G: Gate>(
+        &self,
+        shared: &Shared<'_, R, K, G>,
+    ) -> Option<FiledBlock> {
         for _ in shared.rt.forever() {
             if !self.desk.has_left() {
-                return false;
+                return None;
             }
             match self.desk.try_turn() {
                 Some(turn) => return self.file_in(shared, turn),
@@ -92,12 +111,12 @@ impl ReplyWriter {
         &self,
         shared: &Shared<'_, R, K, G>,
         mut turn: Turn<'_>,
-    ) -> bool {
-        let is_filed = self.file(shared, &mut turn);
+    ) -> Option<FiledBlock> {
+        let filed = self.file(shared, &mut turn);
         if self.end_written(turn) {
             self.catch_up(shared);
         }
-        is_filed
+        filed
     }
 
     /// Has the kernel answer the block that was left, and writes what is ready at once. A block that is refused because too
@@ -106,20 +125,24 @@ impl ReplyWriter {
         &self,
         shared: &Shared<'_, R, K, G>,
         turn: &mut Turn<'_>,
-    ) -> bool {
-        let Some(left) = turn.outgoing().take_left() else {
-            return false;
-        };
+    ) -> Option<FiledBlock> {
+        let left = turn.outgoing().take_left()?;
         let answer = self.answer_into(shared, turn, &left.block, left.moment);
         if let Err(ExecError::LaterDirty | ExecError::LaterOut) = answer {
             self.desk.note_waiting(false);
             let _ = turn.outgoing().leave(left);
-            return false;
+            return None;
         }
         turn.note_left(false);
         let outgoing = turn.outgoing();
         outgoing.note_filed(answer);
         outgoing.write(shared, Patience::None);
-        answer.is_ok()
+        let LeftBlock { block, asked, .. } = left;
+        Some(FiledBlock {
+            session: outgoing.sid,
+            block,
+            asked,
+            answer,
+        })
     }
 }

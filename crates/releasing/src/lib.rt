@@ -10,8 +10,8 @@ mod turns;
 mod writer;
 
 pub use delivering::{Limits, give_short_writes};
-pub use leaving::{TakenBack, Untold};
+pub use leaving::{FiledBlock, TakenBack, Untold};
 pub use outgoing::{Cut, Delivery};
 pub use releaser::{release_all, release_committed};
-pub use shared::{Asking, Closing, Shared};
+pub use shared::Shared;
 pub use writer::{Released, ReplyWriter};

@@ -4,7 +4,7 @@ use crate::Shared;
 use delivering::{Written, deliver};
 use model::{Message, Moment};
 use outbox::{RELEASE_ENTRIES, RELEASE_OCTETS, ReadyBuf};
-use shared_kernel::{ExecError, ExecOutcome, Gate, Kern};
+use shared_kernel::{Asked, ExecError, ExecOutcome, Gate, Kern};
 use std::alloc::{AllocError, Global};
 use std::net::{Shutdown, TcpStream};
 use std::sync::{Arc, Wait};
@@ -38,10 +38,11 @@ pub struct Delivery {
     pub cut: Option<Cut>,
 }
 
-/// A block that a session's thread has left to the thread that flushes, and when it came.
+/// A block that a session's thread has left to the thread that flushes, the command that it follows, and when it came.
 #[derive(Drop)]
 pub(crate) struct LeftBlock {
     pub(crate) block: Message,
+    pub(crate) asked: Asked,
     pub(crate) moment: Moment,
 }
 

@@ -4,12 +4,11 @@
 
 use crate::Shared;
 use crate::outgoing::{Cut, Delivery, Outgoing, Patience};
-use crate::shared::Look;
 use crate::turns::{Desk, Turn};
 use model::{Message, Moment};
 use outbox::RELEASE_ENTRIES;
 use roster::{Chosen, Guest, ListedSession, Place};
-use shared_kernel::{ExecError, ExecOutcome, Gate, Kern};
+use shared_kernel::{ExecError, ExecOutcome, Gate, Kern, Look};
 use std::alloc::{AllocError, Global};
 use std::net::{Shutdown, TcpStream};
 use std::sync::{Arc, Wait};

@@ -6,7 +6,7 @@ ghost use Rattle.journal.specs.Journal.{IsIdle};
 use crate::{ServeError, Server};
 use accepting::{Acceptor, Caller, Doors, FAREWELLS, Parting, Way, linger_all};
 use answering::SessionThread;
-use attending::{Attending, Reserve, Watching, file_left};
+use attending::{Attending, Reserve, Verdicts, Watching, file_left};
 use crossbeam_channel::{Receiver, Sender, bounded};
 use disk::Disk;
 use flusher::{FlushError, Flusher, FlusherEnd, flush_all};
@@ -14,8 +14,8 @@ use logging::{Log, LogEvent, Moments};
 use mark::{Mark, Seat};
 use networks::Guests;
 use operator::Operator;
-use releasing::{Asking, Closing, ReplyWriter, Shared, release_all};
-use shared_kernel::{Bells, Gate, Kern, SESSIONS, halt};
+use releasing::{ReplyWriter, Shared, release_all};
+use shared_kernel::{Asking, Bells, Closing, Gate, Kern, SESSIONS, halt};
 use std::alloc::{AllocError, Global};
 use std::io::{BufRead, Write};
 use std::net::{Net, TcpListener, TcpStream};
@@ -108,12 +108,17 @@ pub fn serve<
         facts,
     };
     let reserve = Reserve::new(tally, facts);
+    let verdicts = Verdicts {
+        log,
+        host: facts.host,
+    };
     let hall = Hall {
         shared: &shared,
         channels: &channels,
         moments: &moments,
         doors: &doors,
         reserve: &reserve,
+        verdicts,
         log,
     };
     run(&hall, flusher, looker, Acceptors { caller, acceptors })
@@ -145,6 +150,7 @@ struct Hall<'a, R, K, G> {
     moments: &'a Moments,
     doors: &'a Doors<'a>,
     reserve: &'a Reserve<'a>,
+    verdicts: Verdicts<'a>,
     log: &'a Log,
 }
 
@@ -156,6 +162,7 @@ impl<'a, R, K, G> Drop for Hall<'a, R, K, G> {
             moments: _,
             doors: _,
             reserve: _,
+            verdicts: _,
             log: _,
         } = self;
     }
@@ -347,6 +354,7 @@ fn start_session<'s, E, R: Wait + Clock + Sync, K: Kern + Sync, G: Gate + Sync>(
             doors: hall.doors,
             partings: &hall.channels.parting,
             reserve: hall.reserve,
+            verdicts: hall.verdicts,
         };
         thread.serve_calls(&hall.channels.calls)
     });
@@ -396,8 +404,11 @@ fn flush<R: Wait + Clock, D: Disk + Drop, K: Kern, G: Gate>(
     } = hall.shared;
     let watching = Watching::new(hall.shared, hall.log, flusher.tally, facts, hall.reserve);
     watching.look();
-    let attending = Attending::new(hall.shared, &watching);
-    match flush_all(*rt, flusher, *kern, &attending, *bells) {
+    let attending = Attending::new(hall.shared, &watching, hall.verdicts);
+    let end = flush_all(*rt, flusher, *kern, &attending, *bells);
+    // a batch may be durable, and fail before it was looked at
+    hall.log.note_durable(*rt, kern.counts(*rt).durable);
+    match end {
         FlusherEnd::Stopped => Ok(()),
         FlusherEnd::Failed(error) => {
             hall.log.note(*rt, event_of(error));
@@ -441,7 +452,7 @@ fn wait_for_caller_or_stop<R: Wait + Clock, K: Kern, G: Gate>(hall: &Hall<'_, R,
         return;
     };
     for _ in rt.forever() {
-        file_left(hall.shared);
+        file_left(hall.shared, hall.verdicts);
         if hall.doors.are_shut() || bells.is_stopping() {
             return;
         }

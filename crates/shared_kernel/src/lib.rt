@@ -3,7 +3,9 @@
 #![tactic(auto)]
 
 mod arrivals;
+mod asking;
 mod bells;
+mod closing;
 mod errors;
 mod gate;
 mod kern;
@@ -11,9 +13,11 @@ mod receipts;
 mod ticket;
 
 pub use arrivals::Arrivals;
+pub use asking::Asking;
 pub use bells::{Bell, Bells, Ringing};
+pub use closing::{Closing, Look};
 pub use errors::{AdminError, ExecError, ExpireError, JoinError, Stale};
 pub use gate::{Gate, NoGate};
-pub use kern::{ExecOutcome, Kern, KernelCounts, SESSIONS};
+pub use kern::{Asked, ExecOutcome, Kern, KernelCounts, Obstacle, SESSIONS};
 pub use receipts::{Halted, Receipt, Told, halt, halt_if_clean, tell};
 pub use ticket::Ticket;

@@ -1,7 +1,8 @@
 //! Logs that are read late, or never.
 
 use logging::{
-    EndedSession, Ending, Log, LogEvent, OpeningStep, SessionCounts, UsedPart, Verbosity,
+    EndedSession, Ending, Log, LogEvent, OpeningStep, SessionCounts, TakenPost, UsedPart,
+    Verbosity,
 };
 use std::alloc::Global;
 use std::io::{self, Write};
@@ -272,6 +273,31 @@ pub(crate) fn lines_of<R: Threads + Wait + Clock + Copy + Send + 'static>(
     };
     log.note(rt, LogEvent::End(ended));
     log.note(rt, LogEvent::Fault);
+    log.end(rt);
+    let text = shared.text.lock(rt);
+    Some(text.iter().filter(|octet| **octet == b'\n').count())
+}
+
+/// How many lines a log has of posts with these serials, where so many changes are durable when it ends.
+pub(crate) fn posts_told<R: Threads + Wait + Clock + Copy + Send + 'static>(
+    rt: &R,
+    alloc: Global,
+    serials: &[u64],
+    durable: u64,
+) -> Option<usize> {
+    let Play { log, shared } = start(rt, alloc, Verbosity::All, true)?;
+    for serial in serials {
+        let id = String::from_str(alloc, "<1@a.example>").ok()?;
+        log.note_taken(
+            rt,
+            TakenPost {
+                session: 1,
+                id,
+                serial: *serial,
+            },
+        );
+    }
+    log.note_durable(rt, durable);
     log.end(rt);
     let text = shared.text.lock(rt);
     Some(text.iter().filter(|octet| **octet == b'\n').count())

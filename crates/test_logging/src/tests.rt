@@ -1,7 +1,8 @@
 //! The tests of the log.
 
 use crate::logs::{
-    lines_of, never_read, once_of_a_full_log, once_of_an_idle_log, read_late, written_in_part,
+    lines_of, never_read, once_of_a_full_log, once_of_an_idle_log, posts_told, read_late,
+    written_in_part,
 };
 use logging::Verbosity;
 
@@ -30,4 +31,12 @@ fn a_log_that_nobody_reads_holds_nobody(rt: HostRuntime) {
 fn a_quiet_log_has_no_ends(rt: HostRuntime) {
     assert_eq!(rt; lines_of(&rt, rt.alloc(), Verbosity::All), Some(2));
     assert_eq!(rt; lines_of(&rt, rt.alloc(), Verbosity::Quiet), Some(1));
+}
+
+#[test]
+fn a_post_is_told_once_it_is_durable(rt: HostRuntime) {
+    assert_eq!(rt; posts_told(&rt, rt.alloc(), &[1, 2, 3], 0), Some(0));
+    assert_eq!(rt; posts_told(&rt, rt.alloc(), &[1, 2, 3], 2), Some(2));
+    assert_eq!(rt; posts_told(&rt, rt.alloc(), &[3, 1], 1), Some(1));
+    assert_eq!(rt; posts_told(&rt, rt.alloc(), &[3, 1], 3), Some(2));
 }

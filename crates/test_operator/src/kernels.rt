@@ -1,11 +1,11 @@
 //! A kernel that counts the groups that it is asked for, and makes none.
 
-use model::{Message, Mode, Moment};
+use model::{Message, Mode, Moment, Text};
 use names::{GroupName, GroupRequest};
 use outbox::ReadyBuf;
 use shared_kernel::{
-    AdminError, ExecError, ExecOutcome, ExpireError, JoinError, Kern, KernelCounts, Receipt, Stale,
-    Ticket,
+    AdminError, ExecError, ExecOutcome, ExpireError, JoinError, Kern, KernelCounts, Obstacle,
+    Receipt, Stale, Ticket,
 };
 use std::alloc::Global;
 use std::sync::Wait;
@@ -51,6 +51,10 @@ impl Kern for Counting {
         _into: &mut ReadyBuf,
     ) -> Result<ExecOutcome, ExecError> {
         Err(ExecError::NoSession)
+    }
+
+    fn obstacle<R: Wait>(&self, _rt: &R, _id: Option<&[u8]>, _groups: &[Text]) -> Option<Obstacle> {
+        None
     }
 
     fn give_ready<R: Wait>(&self, _rt: &R, _sid: u64, _into: &mut ReadyBuf) -> bool {

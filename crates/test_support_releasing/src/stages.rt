@@ -11,11 +11,9 @@ use memdisk::MemDisk;
 use model::{Message, Moment, Status, Text};
 use names::{Description, GroupName, GroupRequest, is_host};
 use new_volume::{FORMAT_2, VolumePlan, are_sizes, device_octets, format};
-use releasing::{
-    Asking, Closing, Limits, ReplyWriter, Shared, TakenBack, Untold, give_short_writes,
-};
+use releasing::{Limits, ReplyWriter, Shared, TakenBack, Untold, give_short_writes};
 use roster::Guest;
-use shared_kernel::{Bells, Gate, Kern, Receipt, Ticket};
+use shared_kernel::{Asked, Asking, Bells, Closing, Gate, Kern, Receipt, Ticket};
 use std::alloc::{AllocError, Global};
 use std::net::{Net, TcpListener, TcpStream};
 use std::slice::from_ref;
@@ -244,12 +242,17 @@ impl<'a, R: Wait, K: Kern, G: Gate> Session<'a, R, K, G> {
     pub fn leaves_untold(&self, number: u64) -> Option<Untold> {
         let text = text(self.shared.alloc, number).ok()?;
         let block = Message::Block(Text::new(text));
-        self.writer().leave(self.rt(), block, moment()?).ok()
+        self.writer()
+            .leave(self.rt(), block, Asked::Post, moment()?)
+            .ok()
     }
 
     /// Whether an article that was left is filed now.
     pub fn files(&self) -> bool {
-        self.writer().file_left(self.shared)
+        match self.writer().file_left(self.shared) {
+            Some(filed) => filed.answer.is_ok(),
+            None => false,
+        }
     }
 
     /// Takes back an article that was left, and has it answered. Answers false if it was filed before.

@@ -2,12 +2,12 @@
 
 use kernel::Kernel;
 use locked_kernel::Locked;
-use model::{Message, Mode, Moment};
+use model::{Message, Mode, Moment, Text};
 use names::{GroupName, GroupRequest};
 use outbox::ReadyBuf;
 use shared_kernel::{
-    AdminError, ExecError, ExecOutcome, ExpireError, JoinError, Kern, KernelCounts, Receipt, Stale,
-    Ticket,
+    AdminError, ExecError, ExecOutcome, ExpireError, JoinError, Kern, KernelCounts, Obstacle,
+    Receipt, Stale, Ticket,
 };
 use std::alloc::Global;
 use std::sync::Wait;
@@ -64,6 +64,10 @@ impl<H: Hooks> Kern for Hooked<H> {
             Some(error) => Err(error),
             None => self.inner.answer(rt, alloc, sid, message, moment, into),
         }
+    }
+
+    fn obstacle<R: Wait>(&self, rt: &R, id: Option<&[u8]>, groups: &[Text]) -> Option<Obstacle> {
+        self.inner.obstacle(rt, id, groups)
     }
 
     fn give_ready<R: Wait>(&self, rt: &R, sid: u64, into: &mut ReadyBuf) -> bool {

@@ -2,8 +2,8 @@
 
 use crate::moments::moment_at;
 use logging::{
-    EndedSession, Ending, LogEntry, LogEvent, OpeningStep, RefusedCallers, SessionCounts,
-    SessionRefusal, UsedPart, line,
+    EndedSession, Ending, LogEntry, LogEvent, OpeningStep, PostRefusal, RefusedCallers,
+    RefusedPost, SessionCounts, SessionRefusal, TakenPost, UsedPart, line,
 };
 use std::alloc::Global;
 use std::net::SocketAddr;
@@ -13,8 +13,8 @@ use test_support_data::{Answer, Area, Arguments, RowError};
 pub struct LogLines;
 
 impl Area for LogLines {
-    /// `EVENT MOMENT ..`: the line of an event that is noted at this moment. `ending NAME`, `refusal NAME`: the word for a
-    /// cause. `nearly_full USED ALL`.
+    /// `EVENT MOMENT ..`: the line of an event that is noted at this moment. `ending NAME`, `refusal NAME`, `cause NAME`: the word for
+    /// a cause. `nearly_full USED ALL`.
     fn answer(
         &mut self,
         alloc: Global,
@@ -29,6 +29,10 @@ impl Area for LogLines {
             }
             "refusal" => {
                 let word = refusal_of(arguments.word()?)?.to_string(alloc)?;
+                answer.word(word.as_str())?;
+            }
+            "cause" => {
+                let word = cause_of(arguments.word()?)?.to_string(alloc)?;
                 answer.word(word.as_str())?;
             }
             "nearly_full" => answer.is(read_part(arguments)?.is_nearly_full())?,
@@ -53,6 +57,21 @@ fn answer_event(
 fn read_event(call: &str, arguments: &mut Arguments<'_>) -> Result<LogEvent, RowError> {
     match call {
         "end" => Ok(LogEvent::End(read_end(arguments)?)),
+        "post" => {
+            let session = arguments.number()?;
+            let id = arguments.text()?;
+            let serial = arguments.number()?;
+            Ok(LogEvent::Post(TakenPost {
+                session,
+                id,
+                serial,
+            }))
+        }
+        "notposted" => {
+            let session = arguments.number()?;
+            let cause = cause_of(arguments.word()?)?;
+            Ok(LogEvent::NotPosted(RefusedPost { session, cause }))
+        }
         "refused" => {
             let peer = read_address(arguments)?;
             let why = refusal_of(arguments.word()?)?;
@@ -145,6 +164,28 @@ fn refusal_of(word: &str) -> Result<SessionRefusal, RowError> {
         "Failed" => Ok(SessionRefusal::Failed),
         "Proxy" => Ok(SessionRefusal::Proxy),
         "Halted" => Ok(SessionRefusal::Halted),
+        _ => Err(RowError::Unreadable),
+    }
+}
+
+fn cause_of(word: &str) -> Result<PostRefusal, RowError> {
+    match word {
+        "Octets" => Ok(PostRefusal::Octets),
+        "NoEnd" => Ok(PostRefusal::NoEnd),
+        "Field" => Ok(PostRefusal::Field),
+        "Twice" => Ok(PostRefusal::Twice),
+        "Missing" => Ok(PostRefusal::Missing),
+        "Id" => Ok(PostRefusal::Id),
+        "Groups" => Ok(PostRefusal::Groups),
+        "Long" => Ok(PostRefusal::Long),
+        "Repeat" => Ok(PostRefusal::Repeat),
+        "NoGroup" => Ok(PostRefusal::NoGroup),
+        "Closed" => Ok(PostRefusal::Closed),
+        "OtherId" => Ok(PostRefusal::OtherId),
+        "Full" => Ok(PostRefusal::Full),
+        "Reserve" => Ok(PostRefusal::Reserve),
+        "Memory" => Ok(PostRefusal::Memory),
+        "Stopped" => Ok(PostRefusal::Stopped),
         _ => Err(RowError::Unreadable),
     }
 }

@@ -1,21 +1,26 @@
 -- The lines of the log, in the form that is called logfmt: fields `name=value` with a space between them.
 use Rattle.std.specs.Prelude.{◌≡◌, ℕ, ◌≤◌, ◌&&◌, nat_le, if◌then◌else◌, [], ◌∷◌, ◌++◌, map, take, slice_range, drop, codes, decimal, All}
 use Rattle.std.specs.Net.Text.{socket_text}
+use Rattle.std.specs.String.{string_bytes}
 use Rattle.model.specs.Stream.{Octets}
 use Rattle.model.specs.Calendar.{date_reply}
-use Rattle.logging.specs.declared.events.SessionCounts.{SessionCounts}
-use Rattle.logging.specs.declared.events.BegunSession.{BegunSession}
-use Rattle.logging.specs.declared.events.EndedSession.{EndedSession}
-use Rattle.logging.specs.declared.events.Ending.{Ending}
-use Rattle.logging.specs.declared.events.Ending.TheVariants as ending
-use Rattle.logging.specs.declared.events.LogEvent.{LogEvent}
-use Rattle.logging.specs.declared.events.LogEvent.TheVariants as event
-use Rattle.logging.specs.declared.events.OpeningStep.{OpeningStep}
-use Rattle.logging.specs.declared.events.OpeningStep.TheVariants as step
-use Rattle.logging.specs.declared.events.UsedPart.{UsedPart}
-use Rattle.logging.specs.declared.events.RefusedCallers.{RefusedCallers}
-use Rattle.logging.specs.declared.events.SessionRefusal.{SessionRefusal}
-use Rattle.logging.specs.declared.events.SessionRefusal.TheVariants as refusal
+use Rattle.log_lines.specs.declared.events.SessionCounts.{SessionCounts}
+use Rattle.log_lines.specs.declared.events.BegunSession.{BegunSession}
+use Rattle.log_lines.specs.declared.events.EndedSession.{EndedSession}
+use Rattle.log_lines.specs.declared.events.Ending.{Ending}
+use Rattle.log_lines.specs.declared.events.Ending.TheVariants as ending
+use Rattle.log_lines.specs.declared.events.LogEvent.{LogEvent}
+use Rattle.log_lines.specs.declared.events.LogEvent.TheVariants as event
+use Rattle.log_lines.specs.declared.events.OpeningStep.{OpeningStep}
+use Rattle.log_lines.specs.declared.events.OpeningStep.TheVariants as step
+use Rattle.log_lines.specs.declared.events.UsedPart.{UsedPart}
+use Rattle.log_lines.specs.declared.events.RefusedCallers.{RefusedCallers}
+use Rattle.log_lines.specs.declared.posts.PostRefusal.{PostRefusal}
+use Rattle.log_lines.specs.declared.posts.PostRefusal.TheVariants as post_refusal
+use Rattle.log_lines.specs.declared.posts.RefusedPost.{RefusedPost}
+use Rattle.log_lines.specs.declared.posts.TakenPost.{TakenPost}
+use Rattle.log_lines.specs.declared.events.SessionRefusal.{SessionRefusal}
+use Rattle.log_lines.specs.declared.events.SessionRefusal.TheVariants as refusal
 
 -- the fourteen digits yyyymmddhhmmss as yyyy-mm-ddThh:mm:ssZ (RFC 3339, section 5.6)
 abbrev pub marked : Octets → Octets
@@ -66,6 +71,31 @@ abbrev pub refused_text : RefusedCallers → Octets
 refused_text refused =
     codes "peer=" ++ socket_text refused.peer ++ codes " why=" ++ refusal_text refused.why ++ codes " times=" ++ decimal refused.times
 
+abbrev pub post_refusal_text : PostRefusal → Octets
+post_refusal_text post_refusal.Octets = codes "octets"
+post_refusal_text post_refusal.NoEnd = codes "noend"
+post_refusal_text post_refusal.Field = codes "field"
+post_refusal_text post_refusal.Twice = codes "twice"
+post_refusal_text post_refusal.Missing = codes "missing"
+post_refusal_text post_refusal.Id = codes "id"
+post_refusal_text post_refusal.Groups = codes "groups"
+post_refusal_text post_refusal.Long = codes "long"
+post_refusal_text post_refusal.Repeat = codes "repeat"
+post_refusal_text post_refusal.NoGroup = codes "nogroup"
+post_refusal_text post_refusal.Closed = codes "closed"
+post_refusal_text post_refusal.OtherId = codes "otherid"
+post_refusal_text post_refusal.Full = codes "full"
+post_refusal_text post_refusal.Reserve = codes "reserve"
+post_refusal_text post_refusal.Memory = codes "memory"
+post_refusal_text post_refusal.Stopped = codes "stopped"
+
+abbrev pub taken_text : TakenPost → Octets
+taken_text taken =
+    codes "session=" ++ decimal taken.session ++ codes " id=" ++ string_bytes taken.id ++ codes " serial=" ++ decimal taken.serial
+
+abbrev pub refused_post_text : RefusedPost → Octets
+refused_post_text refused = codes "session=" ++ decimal refused.session ++ codes " cause=" ++ post_refusal_text refused.cause
+
 -- used/all
 abbrev pub part_text : UsedPart → Octets
 part_text part = decimal part.used ++ codes "/" ++ decimal part.all
@@ -78,6 +108,8 @@ step_text step.Checking = codes "step=checking"
 abbrev pub event_text : LogEvent → Octets
 event_text (event.Begin begun) = codes "event=begin " ++ begun_text begun
 event_text (event.End ended) = codes "event=end " ++ ended_text ended
+event_text (event.Post taken) = codes "event=post " ++ taken_text taken
+event_text (event.NotPosted refused) = codes "event=refused " ++ refused_post_text refused
 event_text (event.Refused refused) = codes "event=refused " ++ refused_text refused
 event_text event.Fault = codes "event=fault"
 event_text event.Halted = codes "event=halted"

@@ -1,6 +1,6 @@
 use Rattle.std.proofs.Common.{◌≡◌, map, take}
-use Rattle.logging.specs.Line.{shown}
-use Rattle.logging.proofs.lines.shown_text.Given as goal
+use Rattle.log_lines.specs.Line.{shown}
+use Rattle.log_lines.proofs.lines.shown_text.Given as goal
 
 -- the octets so far are shown
 abbrev pub invariant-loop-octet : goal.invariant-loop-octet

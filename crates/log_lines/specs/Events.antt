@@ -1,12 +1,14 @@
 -- Which events a server notes once.
 use Rattle.std.specs.Prelude.{Bool, true, false}
-use Rattle.logging.specs.declared.events.LogEvent.{LogEvent}
-use Rattle.logging.specs.declared.events.LogEvent.TheVariants as event
+use Rattle.log_lines.specs.declared.events.LogEvent.{LogEvent}
+use Rattle.log_lines.specs.declared.events.LogEvent.TheVariants as event
 
 -- callers have no part in how often these come
 abbrev pub comes_once : LogEvent → Bool
 comes_once (event.Begin _) = false
 comes_once (event.End _) = false
+comes_once (event.Post _) = false
+comes_once (event.NotPosted _) = false
 comes_once (event.Refused _) = false
 comes_once event.Fault = true
 comes_once event.Halted = true

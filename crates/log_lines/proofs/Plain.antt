@@ -2,7 +2,7 @@
 use Rattle.std.proofs.Common.{◌≡◌, ℕ, ◌≤◌, List, [], ◌∷◌, ◌++◌, map, All, arith}
 use Rattle.std.proofs.lemmas.Bool.Decides.{nat_tests}
 use Rattle.std.proofs.lemmas.List.Elements.{All-nil, All-cons}
-use Rattle.logging.specs.Line.{IsPlain, shown}
+use Rattle.log_lines.specs.Line.{IsPlain, shown}
 
 shown_is_plain : (octet : ℕ) → IsPlain (shown octet)
 shown_is_plain octet = (grind (arith, nat_tests), grind (arith, nat_tests))

@@ -1,7 +1,7 @@
 //! The line of an event.
 
 ghost use Rattle.std.specs.Prelude.{◌≡◌, ◌++◌, ◌∷◌, [], OnOk, IfOk, length, map};
-ghost use Rattle.logging.specs.Line.{IsPlainLine, line_of, marked, shown, text_of, time_text};
+ghost use Rattle.log_lines.specs.Line.{IsPlainLine, line_of, marked, shown, text_of, time_text};
 
 use crate::LogEvent;
 use model::Moment;
@@ -9,7 +9,7 @@ use stamp::date_reply;
 use std::alloc::{AllocError, Global};
 
 /// An event, and when it was noted.
-#[derive(Clone, Copy)]
+#[derive(Drop)]
 pub struct LogEntry {
     pub moment: Moment,
     pub event: LogEvent,

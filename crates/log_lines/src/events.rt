@@ -1,10 +1,11 @@
 //! What the log reports.
 
 ghost use Rattle.std.specs.Prelude.{◌≡◌, ◌≤◌, ◌*◌, ◌↔◌, IsTrue, Some};
-ghost use Rattle.logging.specs.Counting.{counted, no_counts, step_after};
-ghost use Rattle.logging.specs.Events.{comes_once};
-ghost use Rattle.logging.specs.Line.{begun_text, counts_text, ended_text, ending_text, event_text, part_text, refusal_text, refused_text, step_text};
+ghost use Rattle.log_lines.specs.Counting.{counted, no_counts, step_after};
+ghost use Rattle.log_lines.specs.Events.{comes_once};
+ghost use Rattle.log_lines.specs.Line.{begun_text, counts_text, ended_text, ending_text, event_text, part_text, refusal_text, refused_text, step_text};
 
+use crate::posts::{RefusedPost, TakenPost};
 use std::fmt::{self, Display};
 use std::net::SocketAddr;
 
@@ -286,12 +287,16 @@ impl Display for OpeningStep {
 }
 
 /// What a line of the log reports.
-#[derive(Clone, Copy)]
+#[derive(Drop)]
 pub enum LogEvent {
     /// A session has begun.
     Begin(BegunSession),
     /// A session has ended.
     End(EndedSession),
+    /// A post or a transfer was taken, and is durable.
+    Post(TakenPost),
+    /// A post or a transfer was refused.
+    NotPosted(RefusedPost),
     /// Callers of an address got no session.
     Refused(RefusedCallers),
     /// The device failed: nothing is written any more, and the server ends.
@@ -315,10 +320,12 @@ impl LogEvent {
     pub fn comes_once(&self) -> bool
         ensures { result ≡ comes_once self.now }
     {
-        match *self {
+        match self {
             LogEvent::Fault | LogEvent::Halted | LogEvent::Clock | LogEvent::Full { .. } => true,
             LogEvent::Begin(_)
             | LogEvent::End(_)
+            | LogEvent::Post(_)
+            | LogEvent::NotPosted(_)
             | LogEvent::Refused(_)
             | LogEvent::Lost(_)
             | LogEvent::Opening(_) => false,
@@ -330,9 +337,11 @@ impl Display for LogEvent {
     ghost output = { λ event. Some (event_text event) };
 
     fn fmt<W: fmt::Write>(&self, f: &mut fmt::Formatter<W>) -> fmt::Result {
-        match *self {
+        match self {
             LogEvent::Begin(begun) => write!(f, "event=begin {begun}"),
             LogEvent::End(ended) => write!(f, "event=end {ended}"),
+            LogEvent::Post(taken) => write!(f, "event=post {taken}"),
+            LogEvent::NotPosted(refused) => write!(f, "event=refused {refused}"),
             LogEvent::Refused(refused) => write!(f, "event=refused {refused}"),
             LogEvent::Fault => write!(f, "event=fault"),
             LogEvent::Halted => write!(f, "event=halted"),

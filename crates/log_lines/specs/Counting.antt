@@ -1,10 +1,10 @@
 -- What a session counts, and how far an opening is by the count of what it has read.
 use Rattle.std.specs.Prelude.{ℕ, ◌+◌, ◌-◌, ◌/◌, ◌^◌, if◌then◌else◌, min, nat_le}
-use Rattle.logging.specs.declared.events.SessionCounts.{SessionCounts}
-use Rattle.logging.specs.declared.events.CountedMessage.{CountedMessage}
-use Rattle.logging.specs.declared.events.CountedMessage.TheVariants as served
-use Rattle.logging.specs.declared.events.OpeningStep.{OpeningStep}
-use Rattle.logging.specs.declared.events.OpeningStep.TheVariants as step
+use Rattle.log_lines.specs.declared.events.SessionCounts.{SessionCounts}
+use Rattle.log_lines.specs.declared.events.CountedMessage.{CountedMessage}
+use Rattle.log_lines.specs.declared.events.CountedMessage.TheVariants as served
+use Rattle.log_lines.specs.declared.events.OpeningStep.{OpeningStep}
+use Rattle.log_lines.specs.declared.events.OpeningStep.TheVariants as step
 
 abbrev pub no_counts : SessionCounts
 no_counts = record { messages = 0; taken = 0; refused = 0; octets_in = 0; octets_out = 0 }

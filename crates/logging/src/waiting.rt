@@ -1,0 +1,111 @@
+//! Posts and transfers that were taken, and that the log doesn't tell of before they are durable.
+
+ghost use Rattle.std.specs.Prelude.{◌≡◌, ◌≤◌, IfSome};
+
+use crate::{LogEntry, LogEvent, TakenPost};
+use model::Moment;
+use std::alloc::Global;
+use std::collections::VecDeque;
+use std::sync::atomic::{AtomicBool, AtomicU64, Ordering};
+
+/// The most of them at a time. Those beyond count as lost lines.
+const POSTS: usize = 4_096;
+
+/// A post or a transfer that was taken at this moment.
+#[derive(Drop)]
+pub(crate) struct WaitingPost {
+    pub(crate) moment: Moment,
+    pub(crate) post: TakenPost,
+}
+
+impl WaitingPost {
+    pub(crate) fn into_entry(self) -> LogEntry {
+        LogEntry {
+            moment: self.moment,
+            event: LogEvent::Post(self.post),
+        }
+    }
+}
+
+/// Those that wait, in the order in which they came.
+#[derive(Drop)]
+pub(crate) struct Waiting {
+    posts: VecDeque<WaitingPost>,
+}
+
+impl Waiting {
+    /// None waits.
+    pub(crate) fn new(alloc: Global) -> Waiting {
+        Waiting {
+            posts: VecDeque::new(alloc),
+        }
+    }
+
+    pub(crate) fn is_empty(&self) -> bool {
+        self.posts.is_empty()
+    }
+
+    /// Has one more wait. Answers false, and forgets it, if there is no room.
+    pub(crate) fn push(&mut self, post: WaitingPost) -> bool {
+        self.posts.len() < POSTS && self.posts.push_back(post).is_ok()
+    }
+
+    /// Takes the first one, if so many changes are durable that it is.
+    pub(crate) fn take(&mut self, durable: u64) -> Option<WaitingPost>
+        ensures { IfSome result (λ waiting. waiting.post.serial ≤ durable) }
+    {
+        let waiting = self.posts.pop_front()?;
+        if waiting.post.serial <= durable {
+            return Some(waiting);
+        }
+        // its place was free a moment ago
+        let _ = self.posts.push_front(waiting);
+        None
+    }
+
+    /// Takes the first one whose change is among so many durable ones, and forgets those before it.
+    pub(crate) fn take_any(&mut self, durable: u64) -> Option<WaitingPost>
+        ensures { IfSome result (λ waiting. waiting.post.serial ≤ durable) }
+    {
+        while let Some(waiting) = self.posts.pop_front() {
+            if waiting.post.serial <= durable {
+                return Some(waiting);
+            }
+        }
+        None
+    }
+}
+
+/// How many changes are durable, and whether the thread that writes waits for more.
+#[derive(Drop)]
+pub(crate) struct Durable {
+    changes: AtomicU64,
+    is_awaited: AtomicBool,
+}
+
+impl Durable {
+    /// No change is known to be durable.
+    pub(crate) fn new() -> Durable {
+        Durable {
+            changes: AtomicU64::new(0),
+            is_awaited: AtomicBool::new(false),
+        }
+    }
+
+    /// How many changes are durable.
+    pub(crate) fn changes(&self) -> u64 {
+        self.changes.load(Ordering::SeqCst)
+    }
+
+    /// Notes that so many changes are durable. Answers whether the thread that writes waits for that.
+    pub(crate) fn note(&self, changes: u64) -> bool {
+        self.changes.store(changes, Ordering::SeqCst);
+        self.is_awaited.swap(false, Ordering::SeqCst)
+    }
+
+    /// Notes that the thread that writes waits for more. Answers whether that was known already: otherwise more may have become
+    /// durable since it looked.
+    pub(crate) fn is_awaited_already(&self) -> bool {
+        self.is_awaited.swap(true, Ordering::SeqCst)
+    }
+}
