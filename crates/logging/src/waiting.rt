@@ -67,7 +67,8 @@ impl Waiting {
     pub(crate) fn take_any(&mut self, durable: u64) -> Option<WaitingPost>
         ensures { IfSome result (λ waiting. waiting.post.serial ≤ durable) }
     {
-        while let Some(waiting) = self.posts.pop_front() {
+        for _ in 0..self.posts.len() {
+            let waiting = self.posts.pop_front()?;
             if waiting.post.serial <= durable {
                 return Some(waiting);
             }
