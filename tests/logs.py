@@ -13,6 +13,7 @@ import tempfile
 import threading
 import time
 
+from fairness import batch
 from large import BEFORE_HOMES, BLOCK
 from listening import CALLER, DENIED, SERVER, Link, serving
 from newsd import ALL_FROM_ONE, GREETING, GROUP, SERVICE_ENDS, Caller, article, end_with_parent, free_port, message_id, wait_until
@@ -234,9 +235,10 @@ def a_refusal_of_the_volume_has_its_cause(volume):
         log.wait("post", 70 - full)
     large = volume.another("large", blocks=16384, inodes=2048)
     large.make_group()
+    assert large.run("import", large.path, given=batch(1900)).returncode == 0
     with large.serve() as server, server.call() as caller:
         log = Log(server.process.stderr)
-        for number in range(2048):
+        for number in range(1900, 2048):
             if caller.post(article(number)) != "240 Article received":
                 break
         assert log.wait("cause", 1)[-1][1] == {"session": "1", "cause": "reserve"}, log.lines[-3:]

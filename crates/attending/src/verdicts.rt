@@ -28,13 +28,17 @@ pub struct Verdicts<'a> {
 
 impl<'a> Verdicts<'a> {
     /// Tells of a post or a transfer that was answered. Of one that was taken the log tells once it is durable. No thread
-    /// holds the kernel meanwhile, but for a look at what keeps an article from being filed.
+    /// holds the kernel meanwhile, but for a look at what keeps an article from being filed. Nothing is read for a log that
+    /// leaves such lines out.
     pub fn tell<R: Wait + Clock, K: Kern, G>(
         &self,
         shared: &Shared<'_, R, K, G>,
         offered: Offered<'_>,
         answered: ExecOutcome,
     ) {
+        if self.log.is_quiet() {
+            return;
+        }
         match answered.accepted {
             Some(serial) => self.tell_taken(shared, offered, serial),
             None => {

@@ -149,10 +149,15 @@ impl Log {
         Ok((log, writing))
     }
 
+    /// Whether the log leaves out what sessions do.
+    pub fn is_quiet(&self) -> bool {
+        self.verbosity == Verbosity::Quiet
+    }
+
     /// Notes an event, now. It does not wait for the thread that writes: if the reader of the log has left no room for
     /// another line, the line is counted as lost. That does not happen to an event that comes once.
     pub fn note<R: Wait + Clock>(&self, rt: &R, event: LogEvent) {
-        if self.verbosity == Verbosity::Quiet && is_of_session(&event) {
+        if self.is_quiet() && is_of_session(&event) {
             return;
         }
         let comes_once = event.comes_once();
@@ -170,7 +175,7 @@ impl Log {
     /// Notes a post or a transfer that was taken, now. Its line is written once its change is durable, and never if that does not
     /// come. It does not wait for the thread that writes: if there is no room for it, its line is counted as lost.
     pub fn note_taken<R: Wait + Clock>(&self, rt: &R, post: TakenPost) {
-        if self.verbosity == Verbosity::Quiet {
+        if self.is_quiet() {
             return;
         }
         let moment = moment(rt).unwrap_or(beginning_of_1970());
