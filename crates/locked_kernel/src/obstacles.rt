@@ -1,6 +1,7 @@
 //! What of the accepted changes keeps an article from being filed.
 
 ghost use Rattle.std.specs.Prelude.{◌≡◌, option_map};
+ghost use Rattle.std.specs.List.{list_any};
 ghost use Rattle.model.specs.Answer.{is_closed};
 ghost use Rattle.model.specs.Spool.{is_here};
 ghost use Rattle.locked_kernel.specs.Obstacles.{is_filed, obstacle_among};
@@ -19,9 +20,9 @@ pub(crate) fn obstacle_in<L: LookUps>(
 {
     if is_filed(spool, id) {
         Some(Obstacle::Repeat)
-    } else if !groups.iter().any(|name| is_here(spool, name)) {
+    } else if !any_here(spool, groups) {
         Some(Obstacle::NoGroup)
-    } else if groups.iter().any(|name| is_closed(spool, name)) {
+    } else if any_closed(spool, groups) {
         Some(Obstacle::Closed)
     } else {
         None
@@ -36,6 +37,20 @@ fn is_filed<L: LookUps>(spool: &L, id: Option<&[u8]>) -> bool
         Some(id) => find_id(spool, id).is_some(),
         None => false,
     }
+}
+
+/// Whether one of the groups exists.
+fn any_here<L: LookUps>(spool: &L, groups: &[Text]) -> bool
+    ensures { result ≡ list_any (is_here (L.changes spool.now)) groups.now }
+{
+    groups.iter().any(|name| is_here(spool, name))
+}
+
+/// Whether one of the groups exists and takes no posts.
+fn any_closed<L: LookUps>(spool: &L, groups: &[Text]) -> bool
+    ensures { result ≡ list_any (is_closed (L.changes spool.now)) groups.now }
+{
+    groups.iter().any(|name| is_closed(spool, name))
 }
 
 /// Whether a group exists.
