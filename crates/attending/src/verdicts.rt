@@ -106,7 +106,10 @@ impl<'a> Verdicts<'a> {
         mark: Mark,
     ) -> Result<PostRefusal, AllocError> {
         let Shared {
-            rt, alloc, kern, ..
+            rt,
+            alloc,
+            kern,
+            ..
         } = shared;
         let Offered { asked, message, .. } = offered;
         match find(*alloc, self.host, asked, message, mark)? {

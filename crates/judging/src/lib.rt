@@ -108,12 +108,7 @@ pub fn by_obstacle(asked: Asked, obstacle: Option<Obstacle>) -> PostRefusal
 
 /// The message-id of an article that this host took under this serial: its own, or the one that the host made. Only its header is
 /// read. Refused only for want of memory.
-pub fn id_of(
-    alloc: Global,
-    host: &[u8],
-    serial: u64,
-    text: &[u8],
-) -> Result<Vec<u8>, AllocError>
+pub fn id_of(alloc: Global, host: &[u8], serial: u64, text: &[u8]) -> Result<Vec<u8>, AllocError>
     ensures { IfOk result (λ id. id.items ≡ id_told host.now serial text.now) }
 {
     match own_id(alloc, text)? {

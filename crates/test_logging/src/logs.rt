@@ -1,8 +1,7 @@
 //! Logs that are read late, or never.
 
 use logging::{
-    EndedSession, Ending, Log, LogEvent, OpeningStep, SessionCounts, TakenPost, UsedPart,
-    Verbosity,
+    EndedSession, Ending, Log, LogEvent, OpeningStep, SessionCounts, TakenPost, UsedPart, Verbosity,
 };
 use std::alloc::Global;
 use std::io::{self, Write};
