@@ -14,7 +14,7 @@ use names::{GroupName, GroupRequest, is_host};
 use networks::{Network, read_endpoint};
 use new_volume::{FORMAT_1, FORMAT_2, SMALL_BLOCKS, SMALL_INODES, VolumePlan, are_sizes};
 use printing::{DONE, Failure, NOT_UNDERSTOOD};
-use script::{ParseError, number};
+use script::{ParseError, escaped, number};
 use std::alloc::{AllocError, Global};
 use std::convert::AsStr;
 use std::io::Write;
@@ -118,21 +118,36 @@ pub fn read_words<'a, S: AsStr, W: Write, F: Write>(
     match command_syntax(alloc)?.try_get_matches_from(words) {
         Ok(matches) => read_request(alloc, &matches),
         Err(error) if error.kind() == ErrorKind::DisplayVersion => Ok(Asked::Version),
-        Err(error) => Ok(Asked::Nothing(tell(&error, output, faults)?)),
+        Err(error) => Ok(Asked::Nothing(tell(alloc, &error, output, faults)?)),
     }
 }
 
 /// Writes the parser's message, and answers the status with which the program ends.
-fn tell<W: Write, F: Write>(error: &Error, output: &mut W, faults: &mut F) -> Result<u8, Failure> {
+fn tell<W: Write, F: Write>(
+    alloc: Global,
+    error: &Error,
+    output: &mut W,
+    faults: &mut F,
+) -> Result<u8, Failure> {
     if error.kind() == ErrorKind::OutOfMemory {
         return Err(Failure::Memory);
     }
     if error.use_stderr() {
-        write!(faults, "{error}")?;
+        let message = format!(in alloc; "{error}")?;
+        write_escaped(alloc, message.as_str(), faults)?;
         return Ok(NOT_UNDERSTOOD);
     }
     write!(output, "{error}")?;
     Ok(DONE)
+}
+
+/// Writes the lines of a message, each in its printed form, since words that were not understood may stand in them.
+fn write_escaped<F: Write>(alloc: Global, message: &str, faults: &mut F) -> Result<(), Failure> {
+    for line in message.lines() {
+        faults.write_all(escaped(alloc, line.as_bytes())?.as_slice())?;
+        faults.write_all(b"\n")?;
+    }
+    Ok(())
 }
 
 /// The request of words that were understood, if each is in its grammar and range.

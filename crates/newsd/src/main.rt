@@ -7,13 +7,16 @@ use closed::{ClosedStreams, NULL_DEVICE};
 use program::{AfterRun, Failure, Streams, fail, import, renew, run, serve};
 use std::alloc::Global;
 use std::fs::File;
-use std::io::{BufReader, BufWriter, IsTerminal, Stderr, StdinLock, Stdout, Write};
+use std::io::{BufReader, BufWriter, ErrorKind, IsTerminal, Stderr, StdinLock, Stdout, Write};
 use std::net::{Net, TcpListener, TcpStream};
 use std::process::ExitCode;
 use std::rt::Files;
 use std::sync::Wait;
 use std::thread::Threads;
 use std::time::Clock;
+
+/// What is said of words of which one isn't UTF-8.
+const NOT_UTF_8: &str = "one of the words, or of the names of files, isn't UTF-8";
 
 /// What the program starts with.
 #[derive(Drop)]
@@ -28,10 +31,21 @@ impl Start {
     fn new(rt: &HostRuntime) -> Result<Start, Failure> {
         let alloc = rt.alloc();
         Ok(Start {
-            words: std::env::args(rt)?.collect(alloc)?,
+            words: words_of(rt, alloc)?,
             input: BufReader::new(alloc, rt.reader())?,
             output: BufWriter::new(alloc, rt.stdout())?,
         })
+    }
+}
+
+/// The words that the program was called with. `BadWord` if one of them isn't UTF-8.
+fn words_of(rt: &HostRuntime, alloc: Global) -> Result<Vec<String>, Failure> {
+    match std::env::args(rt) {
+        Ok(words) => Ok(words.collect(alloc)?),
+        Err(error) if error.kind() == ErrorKind::InvalidData => {
+            Err(Failure::BadWord(String::from_str(alloc, NOT_UTF_8)?))
+        }
+        Err(error) => Err(Failure::from(error)),
     }
 }
 
