@@ -110,7 +110,7 @@ def small_one(volume):
         for sent in (article(1), long_article(2, LONG_OCTETS)):
             assert caller.post(sent) == "240 Article received"
     small.expire(1)
-    small.dump()
+    small.settle()
     image = Image(small.path)
     assert not image.open
     return small, image
@@ -120,7 +120,7 @@ def with_open_segments(volume):
     """A volume with two open segments: of a group, and of an article in it."""
     small = volume.another("open", blocks=1024, inodes=64)
     small.make_group()
-    small.dump()
+    small.settle()
     with small.serve() as server, server.call() as caller:
         for number in range(2):
             assert caller.post(article(number)) == "240 Article received"
@@ -302,7 +302,7 @@ def a_large_file(image, double, tables, first):
 def damaged_large_files_are_told(volume):
     large = volume.another("large", blocks=2048, inodes=64)
     large.make_group()
-    large.dump()
+    large.settle()
     image = Image(large.path)
     double, tables, first, outside = 500, (501, 502), 503, 2048
     base = a_large_file(image, double, tables, first)

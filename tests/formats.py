@@ -154,8 +154,11 @@ def a_new_volume_has_the_format_that_is_asked(volume):
     assert octets(default) == octets(second) == new[:FORMAT_AT] + IS_FORMAT_2 + new[FORMAT_AT + 1:]
     assert new[FORMAT_AT:FORMAT_AT + 1] == IS_FORMAT_1
     for path in (default, first, second):
+        before = octets(path)
         done = volume.run("dump", path)
         assert (done.returncode, done.stdout) == (0, b"spool 0\n"), done
+        assert octets(path) == before
+        volume.run("import", path).check_returncode()
     assert octets(default) == octets(first) == octets(second)
     for word in ("0", "3", "12", "two"):
         done = volume.run("format", first, "--host", HOST, "--format", word)
@@ -193,7 +196,8 @@ def a_format_that_is_cut_short_leaves_no_other_volume(volume):
 
 
 def a_volume_of_format_1_is_upgraded_when_it_is_opened(volume):
-    """By each command that opens one, before it does anything else. It has the changes that it had, and takes further ones."""
+    """By each command that may write to one, before it does anything else. It has the changes that it had, and takes further ones. The
+    commands that only read it leave it as it is."""
     old = format_1(volume, "old")
     assert status_format(old) == 1 and gate_of(old) == IS_FORMAT_1
     # a server has upgraded it before it listens
@@ -204,15 +208,18 @@ def a_volume_of_format_1_is_upgraded_when_it_is_opened(volume):
         assert server.order("stop") == "stopped"
         assert server.end() == (0, "")
     changes = ["spool 2", "1 group %s y" % GROUP, "2 article <1@a.example> %s" % GROUP]
+    old.settle()
     assert old.dump() == changes
     whole = octets(old.path)
     assert whole[FORMAT_AT:FORMAT_AT + 1] == IS_FORMAT_2 and status_format(old) == 2
     for gate in (IS_FORMAT_1, *ODD_GATES):
-        for words in (["dump", old.path], ["export", old.path], ["import", old.path]):
-            put_gate(old, gate)
-            assert status_format(old) == 1 and gate_of(old) == gate, (words, gate)
-            old.run(*words).check_returncode()
-            assert octets(old.path) == whole, (words, gate)
+        put_gate(old, gate)
+        first = octets(old.path)
+        exported = old.export()
+        assert (status_format(old), old.dump(), exported.startswith(b"#! rnews ")) == (1, changes, True), gate
+        assert octets(old.path) == first, gate
+        old.settle()
+        assert octets(old.path) == whole and old.export() == exported, gate
     for number, words in enumerate((["group", old.path, "x.b", "y", "1000000000", "test"], ["expire", old.path, GROUP, "1"]), 3):
         put_gate(old, IS_FORMAT_1)
         done = old.run(*words)
@@ -223,13 +230,13 @@ def a_volume_of_format_1_is_upgraded_when_it_is_opened(volume):
 
 def an_upgrade_is_one_write_and_one_sync(volume):
     old, changes = one_with_an_article(volume)
-    again = count_calls([old.program, "dump", old.path])
+    again = count_calls([old.program, "import", old.path])
     if again is None:
         raise Skipped("the program can't be traced")
     put_gate(old, IS_FORMAT_1)
-    upgraded = count_calls([old.program, "dump", old.path])
+    upgraded = count_calls([old.program, "import", old.path])
     assert (upgraded["pwrite64"], upgraded["fdatasync"]) == (again["pwrite64"] + 1, again["fdatasync"] + 1), (again, upgraded)
-    assert count_calls([old.program, "dump", old.path]) == again
+    assert count_calls([old.program, "import", old.path]) == again
     assert gate_of(old) == IS_FORMAT_2 and old.dump() == changes
 
 
@@ -238,11 +245,12 @@ def a_sync_that_fails_refuses_the_opening(volume):
     old, changes = one_with_an_article(volume)
     for failing, gate in ((1, IS_FORMAT_1), (2, IS_FORMAT_2)):
         put_gate(old, IS_FORMAT_1)
-        status = status_with_failing_sync([old.program, "dump", old.path], failing)
+        status = status_with_failing_sync([old.program, "import", old.path], failing)
         if status is None:
             raise Skipped("the program can't be traced")
         # the file keeps what was written, whatever the program was told of the sync
         assert (status, gate_of(old)) == (1, gate), failing
+        old.settle()
         assert old.dump() == changes and gate_of(old) == IS_FORMAT_2
 
 
@@ -262,19 +270,20 @@ def an_opening_that_is_killed_keeps_the_changes(volume):
     """It is killed at random moments, in one of the two formats each time."""
     old, changes = one_with_an_article(volume)
     start = time.monotonic()
-    old.dump()
+    old.settle()
     seconds = time.monotonic() - start
     found = []
     for _ in range(KILLED_OPENINGS):
         put_gate(old, IS_FORMAT_1)
-        words = [old.program, "dump", old.path]
-        process = subprocess.Popen(words, stdout=subprocess.DEVNULL, stderr=subprocess.DEVNULL, preexec_fn=end_with_parent)
+        words = [old.program, "import", old.path]
+        process = subprocess.Popen(words, stdin=subprocess.DEVNULL, stdout=subprocess.DEVNULL, stderr=subprocess.DEVNULL, preexec_fn=end_with_parent)
         try:
             process.wait(random.uniform(0, seconds))
         except subprocess.TimeoutExpired:
             process.kill()
         assert process.wait(SECONDS) in (0, -signal.SIGKILL)
         found.append(gate_of(old)[0])
+        old.settle()
         assert old.dump() == changes and gate_of(old) == IS_FORMAT_2
     assert set(found) <= {0, 2}, found
     print("  the gate after each kill", found, flush=True)
@@ -296,6 +305,8 @@ def what_is_refused_keeps_its_format(volume):
             assert done.stderr.decode().startswith("newsd: " + refusal), (place, words, done)
             assert octets(old.path) == damaged, (place, words)
     write(old.path, whole)
+    assert old.dump() == changes and octets(old.path) == whole
+    old.settle()
     assert old.dump() == changes and gate_of(old) == IS_FORMAT_2
 
 
@@ -304,6 +315,7 @@ def one_with_an_article(volume):
     old = volume.another("old", blocks=1024, inodes=64)
     old.make_group()
     old.run("import", old.path, given=batch([text_of(1)])).check_returncode()
+    old.settle()
     changes = old.dump()
     assert changes == ["spool 2", "1 group %s y" % GROUP, "2 article %s %s" % (message_id(1), GROUP)], changes
     return old, changes

@@ -57,8 +57,8 @@ def each_block_of_the_bitmap_is_checked(volume):
     at = volume.another("damaged", blocks=blocks, inodes=4096)
     assert tables_of(blocks) == 6
     at.make_group()
-    # an opening carries the blocks of open segments home
-    at.dump()
+    # an opening to write carries the blocks of open segments home
+    at.settle()
     for table in range(6):
         number = BITS * table + 20_000
         place = BLOCK * (BEFORE_HOMES + table) + 20_000 // 8

@@ -109,6 +109,12 @@ class Volume:
         done.check_returncode()
         return done.stdout.decode().splitlines()
 
+    def settle(self):
+        """Opens it to write to it and makes no change: images of open segments are home then, and it has format 2. `dump` and the
+        others that only read a volume leave each octet of it."""
+        done = self.run("import", self.path)
+        assert (done.returncode, done.stderr) == (0, b""), done
+
     def serve(self, by=(), words=()):
         """A server of it, with these further words, which the program of the words `by` runs where there are any."""
         return Server(self, by, words)

@@ -69,6 +69,7 @@ def a_full_volume_has_a_status(volume):
 
 def assert_status(volume):
     """Both forms say what the files of the volume, `dump` and `LIST` say. Answers the status as a value."""
+    volume.settle()
     changes = [line.split() for line in volume.dump()[1:]]
     names = [line[2] for line in changes if line[1] == "group"]
     done = volume.run("status", volume.path, "--json")
@@ -82,6 +83,7 @@ def assert_status(volume):
         "blocks": {"all": used.blocks, "used": used.blocks_used, "free": used.blocks - used.blocks_used},
         "inodes": {"all": used.inodes, "used": used.inodes_used, "free": used.inodes - used.inodes_used},
         "changes": len(changes),
+        "gone": gone_of(changes, used.sizes),
         "groups": [{"name": name, **listed[name], "overview": {"used": used.sizes["o." + name], "room": ROOM}} for name in names],
     }
     assert seen == wanted, (seen, wanted)
@@ -90,6 +92,26 @@ def assert_status(volume):
     shown = volume.run("status", volume.path)
     assert (shown.returncode, shown.stderr, shown.stdout.decode()) == (0, b"", form_of(wanted)), (shown, form_of(wanted))
     return seen
+
+
+def gone_of(changes, sizes):
+    """What is gone, by the lines of `dump` and the sizes of the files of articles (docs/FORMATS.md)."""
+    filed, lows, gone = {}, {}, {"articles": 0, "texts": 0, "blocks": 0}
+    for words in changes:
+        if words[1] == "article":
+            for name in words[3].split(","):
+                filed[name] = filed.get(name, 0) + 1
+                words.append((name, filed[name]))
+        if words[1] == "expire":
+            lows[words[2]] = int(words[3]) + 1
+    for serial, _, own_id, names, *places in (words for words in changes if words[1] == "article"):
+        if all(number < lows.get(name, 1) for name, number in places):
+            size = sizes["a.%010d" % int(serial)] - 21 - sum(1 + len(name) for name in names.split(","))
+            husk = len("Path: -Date: -From: -Subject: -Message-ID: Newsgroups: ") + len(own_id) + len(names) + 14
+            gone["articles"] += 1
+            gone["texts"] += husk < size
+            gone["blocks"] += (size - 1) // BLOCK
+    return gone
 
 
 class Counted:
@@ -124,7 +146,7 @@ def listing(volume):
             count = int(caller.ask("GROUP " + name).split()[1])
             found[name] = dict(known, count=count)
     # opened again, so that no segment is open
-    volume.dump()
+    volume.settle()
     return found
 
 
@@ -134,7 +156,8 @@ def form_of(status):
         return "%(all)d: %(used)d used, %(free)d free" % of + ", %d %% used" % (100 * of["used"] // of["all"])
 
     facts = [("host", status["host"]), ("format", status["format"]), ("blocks", share(status["blocks"])),
-             ("inodes", share(status["inodes"])), ("changes", status["changes"])]
+             ("inodes", share(status["inodes"])), ("changes", status["changes"]),
+             ("gone", "%(articles)d articles; of %(texts)d a renewal gives back %(blocks)d blocks or more" % status["gone"])]
     lines = ["%-10s%s" % fact for fact in facts]
     if status["groups"]:
         rows = [("group", "low", "high", "count", "status", "overview")]

@@ -73,6 +73,9 @@ def what_is_gone_gives_its_blocks_back(volume):
     assert (said["groups"], said["kept"], said["husks"], said["expiries"]) == (1, 10, 90, 1), said
     # 90 articles of four blocks have one each now, and the overview has one of two
     assert before["blocks"]["used"] - after["blocks"]["used"] == 271, (before, after)
+    # which the status said, but for the overview
+    assert before["gone"] == {"articles": 90, "texts": 90, "blocks": 270}, before
+    assert after["gone"] == {"articles": 90, "texts": 0, "blocks": 0}, after
     assert before["inodes"] == after["inodes"], (before, after)
 
 

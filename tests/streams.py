@@ -63,7 +63,7 @@ class Done:
 
 def settle(volume):
     """The octets of a volume that the next opening leaves as they are."""
-    volume.dump()
+    volume.settle()
     return octets(volume.path)
 
 

@@ -1,5 +1,6 @@
 #!/usr/bin/env python3
 """System tests of the commands over a volume in a file, and of its largest sizes. volumes.py NEWSD [NAME..]"""
+import fcntl
 import os
 import struct
 import subprocess
@@ -10,6 +11,9 @@ from playing import Skipped, main
 from syncs import count_calls
 
 MOMENT = 1000000000
+# a user without rights
+NOBODY = 65534
+NOT_UTF_8 = b"newsd: E14 Bad: one of the words, or of the names of files, isn't UTF-8\n"
 IRREGULAR = "E1 Fault: it is no regular file"
 
 
@@ -78,7 +82,7 @@ def a_damaged_volume_is_not_opened(volume):
     volume.make_group()
     with volume.serve() as server, server.call() as caller:
         assert caller.post(article(1)) == "240 Article received"
-    volume.dump()
+    volume.settle()
     good = octets(volume.path)
     blocks, segments, files = struct.unpack_from("<III", good, 12)
     home = (1 + 514 * segments) * 4096
@@ -109,16 +113,63 @@ def a_damaged_volume_is_not_opened(volume):
 
 def a_commit_syncs_the_device(volume):
     """An opening syncs once, and where a segment is open twice more, as it carries that home. In a new volume none is. Adding a
-    group then syncs at the seal and at the gate of its batch. The next opening carries that home, and the one after it writes the
-    gate of the format and the eight gates of segments back, and nothing else."""
+    group then syncs at the seal and at the gate of its batch. What only reads a volume writes nothing. The next opening to write carries
+    that home, and the one after it writes the gate of the format and the eight gates of segments back, and nothing else."""
     counted = count_calls([volume.program, "group", volume.path, GROUP, "y", "1000000000", "test"])
     if counted is None:
         raise Skipped("the program can't be traced")
     assert counted["fdatasync"] == 3, counted
-    opened = count_calls([volume.program, "dump", volume.path])
+    for word in ("dump", "status", "export"):
+        read = count_calls([volume.program, word, volume.path])
+        assert read["fdatasync"] == read["pwrite64"] == 0, (word, read)
+    opened = count_calls([volume.program, "import", volume.path])
     assert opened["fdatasync"] == 3 and opened["pwrite64"] > 0, opened
-    again = count_calls([volume.program, "dump", volume.path])
+    again = count_calls([volume.program, "import", volume.path])
     assert again["fdatasync"] == 1 and again["pwrite64"] == 9, again
+
+
+def what_only_reads_needs_no_right_to_write(volume):
+    """Octets and format stay, also where a segment is open. Several may read a volume at a time; nobody may who can't read it."""
+    old = volume.another("old", blocks=1024, inodes=64)
+    volume.run("format", old.path, "--host", HOST, "--blocks", "1024", "--inodes", "64", "--format", "1").check_returncode()
+    open_one = volume.another("open", blocks=1024, inodes=64)
+    open_one.make_group()
+    with open_one.serve() as server, server.call() as caller:
+        assert caller.post(article(1)) == "240 Article received"
+        server.kill()
+    if os.getuid() == 0:
+        os.chmod(os.path.dirname(os.path.dirname(old.path)), 0o755)
+    for at, spool in ((old, b"spool 0\n"), (open_one, b"spool 2\n1 group x.a y\n2 article <1@a.example> x.a\n")):
+        whole = octets(at.path)
+        os.chmod(at.path, 0o444)
+        with open(at.path, "rb") as reader:
+            fcntl.flock(reader, fcntl.LOCK_SH)
+            for words in (["dump", at.path], ["status", at.path], ["status", at.path, "--json"], ["export", at.path]):
+                done = at.run(*words, user=NOBODY if os.getuid() == 0 else None)
+                assert (done.returncode, done.stderr) == (0, b""), (words, done)
+                assert words[0] != "dump" or done.stdout == spool, done
+                assert octets(at.path) == whole, words
+        os.chmod(at.path, 0)
+        if os.getuid() == 0:
+            done = at.run("dump", at.path, user=NOBODY)
+            assert done.stderr == b"newsd: E1 Fault: the file can't be opened: permission denied\n", done
+        os.chmod(at.path, 0o600)
+
+
+def words_are_shown_in_their_printed_form(volume):
+    """Also those that are no words of the program, and a path; one that isn't UTF-8 is refused."""
+    odd = "a\x1b[31mb"
+    for words, status, said in (
+        (["--" + odd], 2, b"'--a\\x1b[31mb'"),
+        (["dump", volume.path, odd], 2, b"a\\x1b[31mb"),
+        ([odd], 2, b"a\\x1b[31mb"),
+        (["group", volume.path, odd, "y", "1", "test"], 1, b"E14 Bad: NAME 'a\\x1b[31mb' is no name of a group"),
+    ):
+        done = volume.run(*words)
+        assert (done.returncode, done.stdout) == (status, b"") and said in done.stderr and b"\x1b" not in done.stderr, (words, done)
+    for words in ([b"dump", b"/\xff"], [b"\xff"]):
+        done = subprocess.run([volume.program.encode(), *words], capture_output=True, timeout=SECONDS)
+        assert (done.returncode, done.stdout, done.stderr) == (1, b"", NOT_UTF_8), (words, done)
 
 
 def the_largest_volume_is_made_in_little_memory(volume):
@@ -201,6 +252,8 @@ TESTS = [
     what_can_not_be_served_is_refused,
     a_damaged_volume_is_not_opened,
     a_commit_syncs_the_device,
+    what_only_reads_needs_no_right_to_write,
+    words_are_shown_in_their_printed_form,
     a_volume_is_not_made_by_a_slip,
     what_is_replaced_is_told,
     the_largest_volume_is_made_in_little_memory,

@@ -51,8 +51,19 @@ impl FileDisk {
         ensures calls { IfOk result (λ f. ((file_device f).reads ≡ 0) × ((file_device f).writes ≡ 0) × ((file_device f).syncs ≡ 0)) }
         ensures failures { IfOk result (λ f. (file_device f).failures ≡ 0) }
     {
-        let (file, len) = find_file(rt, path)?;
+        let (file, len) = find_file(rt, path, Access::Whole)?;
         Ok(FileDisk::over(file, len))
+    }
+
+    /// Opens the existing file at `path` as a device of the file's own length that is only read: it needs no right to write,
+    /// and the system refuses each write to it. The file is locked until the device is dropped, as in `open_existing`, but
+    /// others may read it at the same time. Refused as `open_existing` is; `Refused` if the file cannot be opened for reading.
+    pub fn open_to_read<R: Files<File = File>>(rt: &R, path: &str) -> Result<FileDisk, FileError>
+        ensures calls { IfOk result (λ f. ((file_device f).reads ≡ 0) × ((file_device f).writes ≡ 0) × ((file_device f).syncs ≡ 0)) }
+        ensures failures { IfOk result (λ f. (file_device f).failures ≡ 0) }
+    {
+        let (opened, octets) = find_file(rt, path, Access::Reads)?;
+        Ok(FileDisk::over(opened, octets))
     }
 
     // A device of `len` octets over an open file, with no call asked yet.
@@ -72,6 +83,15 @@ impl FileDisk {
     }
 }
 
+// What a device does with its file.
+#[derive(Clone, Copy, PartialEq, Eq)]
+enum Access {
+    // It reads and writes it, and nobody else has it.
+    Whole,
+    // It reads it, as others may at the same time.
+    Reads,
+}
+
 // The lock comes before the length, so that a file that another process holds stays as it was.
 fn make_file<R: Files<File = File>>(rt: &R, path: &str, len: u64) -> Result<File, FileError> {
     let mut options = OpenOptions::new();
@@ -79,7 +99,7 @@ fn make_file<R: Files<File = File>>(rt: &R, path: &str, len: u64) -> Result<File
         Ok(file) => file,
         Err(error) => return Err(FileError::of(error.kind())),
     };
-    lock(rt, path, &file)?;
+    lock(rt, path, &file, Access::Whole)?;
     match make_durable(rt, path, &file, len) {
         Ok(()) => Ok(file),
         Err(_) => Err(FileError::Failed),
@@ -99,28 +119,53 @@ fn make_durable<R: Files<File = File>>(
 }
 
 // The length is read under the lock, after which no other server changes the file.
-fn find_file<R: Files<File = File>>(rt: &R, path: &str) -> Result<(File, u64), FileError> {
+fn find_file<R: Files<File = File>>(
+    rt: &R,
+    path: &str,
+    access: Access,
+) -> Result<(File, u64), FileError> {
+    if access == Access::Reads && is_irregular(rt, path) {
+        return Err(FileError::Irregular);
+    }
     let mut options = OpenOptions::new();
-    let file = match options.read(true).write(true).open(rt, path) {
+    let writes = access == Access::Whole;
+    let file = match options.read(true).write(writes).open(rt, path) {
         Ok(file) => file,
         Err(error) => return Err(FileError::of(error.kind())),
     };
-    lock(rt, path, &file)?;
+    lock(rt, path, &file, access)?;
     match file.metadata() {
         Ok(metadata) => Ok((file, metadata.len())),
         Err(_) => Err(FileError::Failed),
     }
 }
 
+// Whether something else than a regular file is at this path. To open a pipe for reading would wait for who writes to it.
+fn is_irregular<R: Files<File = File>>(rt: &R, path: &str) -> bool {
+    match fs::metadata(rt, path) {
+        Ok(metadata) => !metadata.is_file(),
+        Err(_) => false,
+    }
+}
+
 // Locks a regular file until it is closed. `Held` also where another file has its path by then: a renewal has just replaced it, and
 // what is written to it would be lost.
-fn lock<R: Files<File = File>>(rt: &R, path: &str, file: &File) -> Result<(), FileError> {
+fn lock<R: Files<File = File>>(
+    rt: &R,
+    path: &str,
+    file: &File,
+    access: Access,
+) -> Result<(), FileError> {
     match file.metadata() {
         Ok(metadata) if metadata.is_file() => {}
         Ok(_) => return Err(FileError::Irregular),
         Err(_) => return Err(FileError::Failed),
     }
-    match file.try_lock() {
+    let locked = match access {
+        Access::Whole => file.try_lock(),
+        Access::Reads => file.try_lock_shared(),
+    };
+    match locked {
         Ok(()) if is_at(rt, path, file).unwrap_or(false) => Ok(()),
         Ok(()) | Err(TryLockError::WouldBlock) => Err(FileError::Held),
         Err(TryLockError::Error(_)) => Err(FileError::Failed),

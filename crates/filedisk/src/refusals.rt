@@ -12,7 +12,7 @@ pub enum FileError {
     /// There is no such file, or no directory for it.
     #[error("the file isn't there")]
     Missing,
-    /// The system doesn't open the file for reading and writing.
+    /// The system doesn't open the file, for reading or for writing.
     #[error("the file can't be opened: {0}")]
     Refused(ErrorKind),
     /// It is a directory, a device, a pipe or something else that isn't a regular file.

@@ -14,6 +14,7 @@ use filedisk::{FileDisk, FileError, holder};
 use gates::write_gates_back;
 use new_volume::{VolumePlan, device_octets, format as format_device};
 use opening::{Opened, Refused};
+use overlay::Overlay;
 use printing::CommandError;
 use std::alloc::{AllocError, Global};
 use std::fs::File;
@@ -24,6 +25,9 @@ use wcache::WCache;
 
 /// The device of a volume in a file: it collects writes until a sync. The syncs and the octets that are read are counted.
 pub type VolumeDisk = WCache<CountedDisk<FileDisk>>;
+
+/// The device of a volume in a file that is only read. What an opening writes to it stays in memory.
+pub type ReadDisk = Overlay<FileDisk>;
 
 /// How many octets stand in the file with this path, where a volume is to be made; 0 if there is no file. Refused as
 /// `format` is if the file can't be opened for reading and writing, or a server or another command has it. The file stays
@@ -103,6 +107,37 @@ pub fn open_counted<R: Files<File = File>>(
 {
     let disk = CountedDisk::new(disk, counts);
     match opening::open(alloc, WCache::new(alloc, disk)) {
+        Ok(opened) => Ok(opened),
+        Err(refused) => {
+            let Refused { disk, error } = refused;
+            // so that the file is no longer locked
+            drop(disk);
+            Err(refusal_of(rt, alloc, path, error))
+        }
+    }
+}
+
+/// The file of a volume as a device that is only read. It needs no right to write, and the file keeps each octet.
+pub fn find_to_read<R: Files<File = File>>(
+    rt: &R,
+    alloc: Global,
+    path: &str,
+) -> Result<ReadDisk, CommandError> {
+    match FileDisk::open_to_read(rt, path) {
+        Ok(disk) => Ok(Overlay::new(alloc, disk)),
+        Err(error) => Err(no_device(rt, alloc, path, error)),
+    }
+}
+
+/// Opens the volume in a file that is only read. So a volume of format 1 is one of format 2 in memory alone, and images that
+/// an opening carries home are there in memory alone.
+pub fn open_to_read<R: Files<File = File>>(
+    rt: &R,
+    alloc: Global,
+    path: &str,
+) -> Result<Opened<ReadDisk>, CommandError> {
+    let disk = find_to_read(rt, alloc, path)?;
+    match opening::open(alloc, disk) {
         Ok(opened) => Ok(opened),
         Err(refused) => {
             let Refused { disk, error } = refused;

@@ -32,7 +32,7 @@ fn finding<R: Files<File = File>>(
     path: &str,
     error: OpenError,
 ) -> Option<String> {
-    let Ok(disk) = FileDisk::open_existing(rt, path) else {
+    let Ok(disk) = FileDisk::open_to_read(rt, path) else {
         return None;
     };
     match error {

@@ -3,7 +3,7 @@
 use exporting::LineEnds;
 use names::GroupName;
 use printing::CommandError;
-use program_files::open;
+use program_files::open_to_read;
 use std::alloc::Global;
 use std::fs::File;
 use std::io::Write;
@@ -18,7 +18,7 @@ pub fn export<R: Files<File = File>, W: Write>(
     ends: LineEnds,
     output: &mut W,
 ) -> Result<(), CommandError> {
-    let opened = open(rt, alloc, path)?;
+    let opened = open_to_read(rt, alloc, path)?;
     exporting::export(alloc, opened.kernel.spool(), group, ends, output)?;
     output.flush()?;
     Ok(())

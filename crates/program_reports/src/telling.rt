@@ -1,14 +1,13 @@
 //! Reports the state of a volume.
 
 use printing::CommandError;
-use program_files::{find, refusal_of};
+use program_files::{find_to_read, refusal_of};
 use reporting::{VolumeStatus, json_text, table_text};
 use std::alloc::Global;
 use std::fs::File;
 use std::io::Write;
 use std::rt::Files;
 use volume_states::state_on;
-use wcache::WCache;
 
 /// Prints the state of a volume, for a person or as JSON on one line.
 pub fn status<R: Files<File = File>, W: Write>(
@@ -35,8 +34,8 @@ fn state_of<R: Files<File = File>>(
     alloc: Global,
     path: &str,
 ) -> Result<VolumeStatus, CommandError> {
-    let disk = find(rt, alloc, path)?;
-    match state_on(alloc, WCache::new(alloc, disk)) {
+    let disk = find_to_read(rt, alloc, path)?;
+    match state_on(alloc, disk) {
         Ok(examined) => Ok(examined.state),
         Err(refused) => {
             let error = refused.error;

@@ -7,6 +7,7 @@ use Rattle.model.specs.Spool.{status_octet}
 use Rattle.model.specs.Stream.{Octets}
 use Rattle.serde_json.specs.Data.{Data, array, member, no_members, number, object, string, unsigned}
 use Rattle.serde_json.specs.View.{items_of}
+use Rattle.reporting.specs.declared.state.Gone.{Gone}
 use Rattle.reporting.specs.declared.state.GroupStatus.{GroupStatus}
 use Rattle.reporting.specs.declared.state.Share.{Share}
 use Rattle.reporting.specs.declared.state.VolumeStatus.{VolumeStatus}
@@ -23,6 +24,14 @@ share_data s =
     object (member (codes "all") (natural s.all)
     (member (codes "free") (natural (s.all - s.used))
     (member (codes "used") (natural s.used)
+    no_members)))
+
+-- the articles that are gone, those of them that have more than a husk, and the blocks that a renewal gives back of these
+abbrev pub gone_data : Gone → Data
+gone_data g =
+    object (member (codes "articles") (natural g.articles)
+    (member (codes "blocks") (natural g.blocks)
+    (member (codes "texts") (natural g.texts)
     no_members)))
 
 -- the size of an overview, and the size up to which its group takes articles
@@ -45,7 +54,8 @@ status_data s =
     object (member (codes "blocks") (share_data s.blocks)
     (member (codes "changes") (natural s.changes)
     (member (codes "format") (natural s.format)
+    (member (codes "gone") (gone_data s.gone)
     (member (codes "groups") (array (items_of (map group_data s.groups.items)))
     (member (codes "host") (words s.host)
     (member (codes "inodes") (share_data s.inodes)
-    no_members))))))
+    no_members)))))))

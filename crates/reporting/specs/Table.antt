@@ -5,6 +5,7 @@ use Rattle.std.specs.List.{flat_map}
 use Rattle.model.specs.Room.{octets_asked}
 use Rattle.model.specs.Spool.{status_octet}
 use Rattle.model.specs.Stream.{Octets}
+use Rattle.reporting.specs.declared.state.Gone.{Gone}
 use Rattle.reporting.specs.declared.state.GroupStatus.{GroupStatus}
 use Rattle.reporting.specs.declared.state.Share.{Share}
 use Rattle.reporting.specs.declared.state.VolumeStatus.{VolumeStatus}
@@ -35,10 +36,16 @@ share_text s =
     decimal s.all ++ codes ": " ++ decimal s.used ++ codes " used, " ++ decimal (s.all - s.used) ++ codes " free, "
     ++ in_per_cent s.used s.all ++ codes " used"
 
+abbrev pub gone_text : Gone → Octets
+gone_text g =
+    decimal g.articles ++ codes " articles; of " ++ decimal g.texts ++ codes " a renewal gives back " ++ decimal g.blocks
+    ++ codes " blocks or more"
+
 abbrev pub facts : VolumeStatus → Octets
 facts s =
     fact (codes "host") s.host ++ fact (codes "format") (decimal s.format) ++ fact (codes "blocks") (share_text s.blocks)
     ++ fact (codes "inodes") (share_text s.inodes) ++ fact (codes "changes") (decimal s.changes)
+    ++ fact (codes "gone") (gone_text s.gone)
 
 -- ---- the table of groups
 

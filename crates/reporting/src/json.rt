@@ -5,9 +5,9 @@ ghost use Rattle.std.specs.Str.Lossy.{utf8_lossy};
 ghost use Rattle.serde_json.specs.Data.{array};
 ghost use Rattle.serde_json.specs.View.{items_of, view};
 ghost use Rattle.serde_json.specs.Written.{compact_text};
-ghost use Rattle.reporting.specs.Json.{group_data, overview_data, share_data, status_data};
+ghost use Rattle.reporting.specs.Json.{gone_data, group_data, overview_data, share_data, status_data};
 
-use crate::state::{GroupStatus, OVERVIEW_ROOM, Share, VolumeStatus};
+use crate::state::{Gone, GroupStatus, OVERVIEW_ROOM, Share, VolumeStatus};
 use model::Text;
 use serde_json::{Value, json};
 use std::alloc::{AllocError, Global};
@@ -27,11 +27,13 @@ fn status_value(alloc: Global, status: &VolumeStatus) -> Result<Value, AllocErro
     let blocks = share_value(alloc, &status.blocks)?;
     let inodes = share_value(alloc, &status.inodes)?;
     let groups = groups_value(alloc, &status.groups)?;
+    let gone = gone_value(alloc, &status.gone)?;
     // the keys are in falling order, so that each member is put before the others
     json!(in alloc; {
         "inodes": inodes,
         "host": &host,
         "groups": groups,
+        "gone": gone,
         "format": status.format,
         "changes": status.changes,
         "blocks": blocks,
@@ -42,6 +44,12 @@ fn share_value(alloc: Global, share: &Share) -> Result<Value, AllocError>
     ensures { IfOk result (λ value. view value ≡ share_data share.now) }
 {
     json!(in alloc; {"used": share.used, "free": share.free(), "all": share.all})
+}
+
+fn gone_value(alloc: Global, gone: &Gone) -> Result<Value, AllocError>
+    ensures { IfOk result (λ value. view value ≡ gone_data gone.now) }
+{
+    json!(in alloc; {"texts": gone.texts, "blocks": gone.blocks, "articles": gone.articles})
 }
 
 fn groups_value(alloc: Global, groups: &[GroupStatus]) -> Result<Value, AllocError>

@@ -6,5 +6,5 @@ mod state;
 mod table;
 
 pub use json::json_text;
-pub use state::{GroupStatus, OVERVIEW_ROOM, Share, VolumeStatus};
+pub use state::{Gone, GroupStatus, OVERVIEW_ROOM, Share, VolumeStatus};
 pub use table::table_text;

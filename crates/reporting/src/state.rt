@@ -42,6 +42,16 @@ pub struct GroupStatus {
     pub overview: u32,
 }
 
+/// The articles that are in none of their groups any more, and what a renewal gives back of them.
+#[derive(Clone, Copy, Debug, PartialEq, Eq)]
+pub struct Gone {
+    pub articles: u64,
+    /// Those of which there is more than the husk that a renewal leaves.
+    pub texts: u64,
+    /// The blocks that the files of their husks would not have.
+    pub blocks: u64,
+}
+
 /// The state of a volume.
 #[derive(Drop)]
 pub struct VolumeStatus {
@@ -52,6 +62,7 @@ pub struct VolumeStatus {
     pub inodes: Share,
     /// The number of accepted changes.
     pub changes: u64,
+    pub gone: Gone,
     /// The groups in rising serial.
     pub groups: Vec<GroupStatus>,
 }

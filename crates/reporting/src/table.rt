@@ -1,10 +1,10 @@
 //! The state of a volume for a person.
 
-ghost use Rattle.std.specs.Prelude.{◌≡◌, ◌++◌, ◌*◌, ◌/◌, ◌<◌, IfOk, OnOk, decimal, length, map, replicate};
+ghost use Rattle.std.specs.Prelude.{◌≡◌, ◌++◌, ◌*◌, ◌/◌, ◌<◌, IfOk, OnOk, codes, decimal, length, map, replicate};
 ghost use Rattle.std.specs.List.{flat_map};
 ghost use Rattle.reporting.specs.Table as table;
 
-use crate::state::{GroupStatus, OVERVIEW_ROOM, Share, VolumeStatus};
+use crate::state::{Gone, GroupStatus, OVERVIEW_ROOM, Share, VolumeStatus};
 use itoa::Buffer;
 use model::Text;
 use std::alloc::{AllocError, Global};
@@ -31,7 +31,26 @@ fn push_facts(alloc: Global, status: &VolumeStatus, text: &mut Vec<u8>) -> Resul
     push_count(alloc, text, b"format", u64::from(status.format))?;
     push_share(alloc, text, b"blocks", &status.blocks)?;
     push_share(alloc, text, b"inodes", &status.inodes)?;
-    push_count(alloc, text, b"changes", status.changes)
+    push_count(alloc, text, b"changes", status.changes)?;
+    push_gone(alloc, text, status.gone)
+}
+
+/// Appends the line of the articles that are gone.
+fn push_gone(alloc: Global, text: &mut Vec<u8>, gone: Gone) -> Result<(), AllocError>
+    ensures { OnOk result (text.new.items ≡ text.old.items ++ table.fact (codes "gone") (table.gone_text gone)) }
+{
+    push_fact(text, b"gone", gone_text(alloc, gone)?.as_slice())
+}
+
+/// `25 articles; of 24 a renewal gives back 31 blocks or more`.
+fn gone_text(alloc: Global, gone: Gone) -> Result<Text, AllocError>
+    ensures { IfOk result (λ text. text ≡ table.gone_text gone) }
+{
+    let mut text = Vec::new(alloc);
+    push_worded(&mut text, gone.articles, b" articles; of ")?;
+    push_worded(&mut text, gone.texts, b" a renewal gives back ")?;
+    push_worded(&mut text, gone.blocks, b" blocks or more")?;
+    Ok(Text::new(text))
 }
 
 /// Appends the line of a number.

@@ -41,6 +41,16 @@ fn what_can_not_be_had_is_refused(rt: HostRuntime) {
             "{path}"
         );
     }
+    for (path, error) in [
+        ("/", FileError::Irregular),
+        ("/dev/null", FileError::Irregular),
+        ("filedisk_missing", FileError::Missing),
+    ] {
+        assert!(rt;
+            matches!(FileDisk::open_to_read(&rt, path), Err(e) if e == error),
+            "{path}"
+        );
+    }
     assert!(rt;
         matches!(
             FileDisk::open_existing(&rt, "filedisk_missing"),
@@ -95,6 +105,26 @@ fn two_devices_never_share_a_file(rt: HostRuntime) -> Result<(), Fail> {
     assert_eq!(rt; second.len(), 8);
     let mut octets = [0; 8];
     assert_eq!(rt; second.read(0, &mut octets), Ok(()));
+    assert_eq!(rt; octets, *b"12345678");
+    fs::remove_file(&rt, path)?;
+    Ok(())
+}
+
+// Who reads shares the file with others that read it, and with nobody who writes.
+#[test]
+fn readers_share_a_file(rt: HostRuntime) -> Result<(), Fail> {
+    let path = "filedisk_read";
+    let mut whole = FileDisk::open(&rt, path, 8)?;
+    assert_eq!(rt; whole.write(0, b"12345678"), Ok(()));
+    assert!(rt; matches!(FileDisk::open_to_read(&rt, path), Err(FileError::Held)));
+    drop(whole);
+    let mut first = FileDisk::open_to_read(&rt, path)?;
+    let second = FileDisk::open_to_read(&rt, path)?;
+    assert!(rt; matches!(FileDisk::open_existing(&rt, path), Err(FileError::Held)));
+    assert_eq!(rt; (first.len(), second.len()), (8, 8));
+    assert_eq!(rt; first.write(0, b"x"), Err(DiskError::Fault));
+    let mut octets = [0; 8];
+    assert_eq!(rt; first.read(0, &mut octets), Ok(()));
     assert_eq!(rt; octets, *b"12345678");
     fs::remove_file(&rt, path)?;
     Ok(())

@@ -2,7 +2,7 @@
 
 use crate::files::status_of;
 use model::Text;
-use reporting::{GroupStatus, Share, VolumeStatus, json_text, table_text};
+use reporting::{Gone, GroupStatus, Share, VolumeStatus, json_text, table_text};
 use std::alloc::Global;
 use test_support_data::{Answer, Area, Arguments, RowError};
 
@@ -30,8 +30,8 @@ impl States {
 }
 
 impl Area for States {
-    /// `state HOST FORMAT BLOCKS INODES CHANGES`: a state; of blocks and inodes the number of those that are used, and of
-    /// all. `group NAME LOW HIGH COUNT STATUS OVERVIEW`: a group in it. `table` and `json` print it.
+    /// `state HOST FORMAT BLOCKS INODES CHANGES GONE TEXTS SPARE`: a state; of blocks and inodes the number of those that are
+    /// used, and of all; last the articles that are gone, those of them with a text, and the blocks of these. `group NAME LOW HIGH COUNT STATUS OVERVIEW`: a group in it. `table` and `json` print it.
     fn answer(
         &mut self,
         alloc: Global,
@@ -60,13 +60,23 @@ fn read_state(alloc: Global, arguments: &mut Arguments<'_>) -> Result<VolumeStat
     let blocks = read_share(arguments)?;
     let inodes = read_share(arguments)?;
     let changes = arguments.number()?;
+    let gone = read_gone(arguments)?;
     Ok(VolumeStatus {
         host,
         format,
         blocks,
         inodes,
         changes,
+        gone,
         groups: Vec::new(alloc),
+    })
+}
+
+fn read_gone(arguments: &mut Arguments<'_>) -> Result<Gone, RowError> {
+    Ok(Gone {
+        articles: arguments.number()?,
+        texts: arguments.number()?,
+        blocks: arguments.number()?,
     })
 }
 

@@ -7,6 +7,7 @@ use Rattle.model.specs.Spool.{NewsGroup, Spool, contents, count, groups, high, l
 use Rattle.model.specs.SpoolFiles.{overview_file}
 use Rattle.model.specs.Stream.{Octets}
 use Rattle.index_groups.specs.Filing.{end_of}
+use Rattle.volume_states.specs.Gone.{IsGone}
 use Rattle.reporting.specs.declared.state.GroupStatus.{GroupStatus}
 use Rattle.reporting.specs.declared.state.Share.{Share}
 use Rattle.reporting.specs.declared.state.VolumeStatus.{VolumeStatus}
@@ -47,6 +48,7 @@ pub record IsStatusOf (format : ℕ) (host : Octets) (inodes : ℕ) (blocks : Li
   pub blocks_are : AreBlocks blocks s.blocks
   pub inodes_are : AreInodes inodes blocks s.inodes
   pub changes_are : s.changes ≡ length changes
+  pub gone_are : IsGone changes s.gone
   pub groups_are : s.groups.items ≡ map (group_status changes) (groups changes)
 
 -- ---- the same in terms of the index

@@ -8,6 +8,7 @@ ghost use Rattle.model.specs.Layout.{HoldsIn};
 ghost use Rattle.model.specs.Spool.{Spool};
 ghost use Rattle.volume_states.specs.State.{AreBlocks, AreInodes, IsStatusOf, of_index};
 
+use crate::gone::gone_articles;
 use blocks::Blocks;
 use fs_layout::inodes::free_inode_count;
 use fs_layout::marks::free_block_count;
@@ -39,12 +40,14 @@ pub fn volume_status<B: Blocks>(
     };
     let host = Text::new(Vec::from_slice(alloc, host)?);
     let groups = statuses(alloc, index.groups())?;
+    let gone = gone_articles(alloc, &index)?;
     Ok(VolumeStatus {
         host,
         format,
         blocks: block_share(blocks, inodes),
         inodes: inode_share(blocks, inodes),
         changes: index.len(),
+        gone,
         groups,
     })
 }

@@ -4,6 +4,7 @@
 
 mod contents;
 mod devices;
+mod gone;
 
 pub use contents::volume_status;
 pub use devices::{Examined, state_on};

@@ -22,6 +22,7 @@ returns-clause-ok g c =
       blocks_are = c.block_share.ensures;
       inodes_are = c.inode_share.ensures;
       changes_are = c.len.ensures its.changes its.indexed;
+      gone_are = c.in_ok-gone.ensures c.args.host.now its.changes its.held.lawful its.indexed;
       groups_are = c.in_ok-groups.ensures ∙ ap (map of_index) (c.groups.ensures.spool its.changes its.indexed)
           ∙ of_groups its.changes (groups its.changes);
     }

@@ -1,0 +1,83 @@
+//! The articles of a spool that are in none of their groups any more, and what a renewal gives back of them.
+
+ghost use Rattle.std.specs.Prelude.{◌≡◌, ◌+◌, ◌-◌, ◌<◌, ◌/◌, ◌^◌, IfOk, if◌then◌else◌, length, nat_lt};
+ghost use Rattle.index.specs.View.{Indexes};
+ghost use Rattle.model.specs.Lawful.{IsLawful};
+ghost use Rattle.model.specs.Spool.{Spool};
+ghost use Rattle.model.specs.Stream.{Octets};
+ghost use Rattle.renewed.specs.Renewed.{husk as husk_text};
+ghost use Rattle.volume_states.specs.Gone.{Counts, IsGone, nothing, share_with};
+
+use husks::husk;
+use index::Index;
+use model::Text;
+use reporting::Gone;
+use std::alloc::{AllocError, Global};
+
+/// The octets of a block.
+const BLOCK: u64 = 4096;
+
+/// No article.
+const NOTHING: Gone = Gone {
+    articles: 0,
+    texts: 0,
+    blocks: 0,
+};
+
+/// The articles that are gone. Refused only for want of memory.
+pub fn gone_articles(alloc: Global, index: &Index) -> Result<Gone, AllocError>
+    ensures { (host : Octets) (S : Spool) → IsLawful host S → Indexes S index.now → IfOk result (IsGone S) }
+{
+    let mut gone = NOTHING;
+    for before in 0..index.len() {
+        gone = plus(gone, share_with(alloc, index, before + 1)?);
+    }
+    Ok(gone)
+}
+
+/// What the change with this serial counts for. Refused only for want of memory.
+fn share_with(alloc: Global, index: &Index, serial: u64) -> Result<Gone, AllocError>
+    ensures { (host : Octets) (S : Spool) → IsLawful host S → Indexes S index.now
+        → IfOk result (λ share. share ≡ share_with S serial) }
+{
+    if index.gone_at(serial).is_none() {
+        return Ok(NOTHING);
+    }
+    let (Some(size), Some(groups)) = (index.size(serial), index.groups_of(serial)) else {
+        return Ok(NOTHING);
+    };
+    let mut id = Vec::new(alloc);
+    index.push_id(serial, &mut id)?;
+    share_of(alloc, &id, size, groups)
+}
+
+/// What an article counts for that is gone, with this message-id, a text of so many octets, and these groups in which it was
+/// filed. Refused only for want of memory.
+fn share_of(alloc: Global, id: &[u8], size: u64, groups: &[Text]) -> Result<Gone, AllocError>
+    ensures { IfOk result (λ share. share ≡ record {
+      articles = 1;
+      texts = if nat_lt (length (husk_text id.now groups.now)) size then 1 else 0;
+      blocks = (size - 1) / 4096;
+    }) }
+{
+    let husk = husk(alloc, id, groups)?;
+    let is_longer = (husk.len() as u64) < size;
+    Ok(Gone {
+        articles: 1,
+        texts: if is_longer { 1 } else { 0 },
+        blocks: size.saturating_sub(1) / BLOCK,
+    })
+}
+
+/// The sums, as far as a u64 holds them.
+fn plus(one: Gone, other: Gone) -> Gone
+    ensures articles { Counts result.articles (one.articles + other.articles) }
+    ensures texts { Counts result.texts (one.texts + other.texts) }
+    ensures blocks { Counts result.blocks (one.blocks + other.blocks) }
+{
+    Gone {
+        articles: one.articles.saturating_add(other.articles),
+        texts: one.texts.saturating_add(other.texts),
+        blocks: one.blocks.saturating_add(other.blocks),
+    }
+}
