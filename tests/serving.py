@@ -25,6 +25,8 @@ SECONDS_OF_A_REFUSAL = 2
 # callers that fill a volume, how many articles each sends in one piece, and the last words to it
 FILLING, IN_A_PIECE = 8, 20
 LET_GO = ["441 Article not accepted", SERVICE_ENDS]
+# the octets of a large article, and those of memory that a refused one may take beside it
+LARGE, MOST_OF_A_REFUSED = 262_000, 1 << 20
 # what an operator does in a volume that callers have filled
 EXPIRIES = 20
 def who_fills_a_volume_leaves_its_operator_room(volume):
@@ -299,6 +301,21 @@ def a_web_page_cannot_post(volume):
             assert caller.post(article(1, subject="a HTTP/1.1", body="Host: a\r\nGET / HTTP/1.1")) == "240 Article received"
 
 
+def an_article_with_many_groups_takes_no_memory(volume):
+    """Of 250,001 parts of its Newsgroups none is kept: it is refused as one of seventeen is."""
+    volume.make_group()
+    with volume.serve() as server, server.call() as caller:
+        for number in range(3):
+            assert caller.post(long_article(number, LARGE)) == "240 Article received"
+        before = server.memory("VmHWM")
+        many = article(9).replace(b"Newsgroups: x.a", b"Newsgroups: x.a" + b"," * 250_000)
+        seventeen = article(9).replace(b"Newsgroups: x.a", b"Newsgroups: " + b",".join(b"x.%d" % it for it in range(17)))
+        sixteen = article(9).replace(b"Newsgroups: x.a", b"Newsgroups: x.a," + b",".join(b"x.%d" % it for it in range(15)))
+        for text, reply in ((many, "441 Article not accepted"), (seventeen, "441 Article not accepted"), (sixteen, "240 Article received")):
+            assert caller.post(text) == reply
+        assert server.memory("VmHWM") - before < MOST_OF_A_REFUSED, (before, server.memory("VmHWM"))
+
+
 def read_to_the_end(caller):
     """The lines up to the end, also where the end discards octets that were sent."""
     lines = []
@@ -546,6 +563,7 @@ TESTS = [
     who_takes_nothing_keeps_its_seat,
     a_clock_that_goes_back_hides_no_article,
     a_web_page_cannot_post,
+    an_article_with_many_groups_takes_no_memory,
     a_kill_under_load_takes_nothing_back,
     one_server_holds_a_volume,
     the_operator_makes_changes,

@@ -200,10 +200,27 @@ fn are_group_names(names: &[&[u8]]) -> bool
     names.iter().all(|name| is_group_name(name))
 }
 
+/// Whether a content lists more groups than an article may have. It takes no memory.
+fn lists_too_many(content: &[u8]) -> bool
+    ensures { result ≡ nat_lt 16 (length (model_names.parts 44 content.now)) }
+{
+    GROUP_LIMIT <= commas_in(content)
+}
+
+/// The number of commas in a content.
+fn commas_in(content: &[u8]) -> usize
+    ensures { result ≡ count_by (λ octet. octet == 44) content.now }
+{
+    content.iter().filter(|octet| **octet == b',').count()
+}
+
 /// Whether a content lists 1 to 16 distinct group names. Refused only for want of memory.
 pub(crate) fn has_good_groups(alloc: Global, content: &[u8]) -> Result<bool, AllocError>
     ensures { IfOk result (λ good. good ≡ causes.has_good_groups content.now) }
 {
+    if lists_too_many(content) {
+        return Ok(false);
+    }
     let groups = groups_in(alloc, content)?;
     Ok(groups.len() <= GROUP_LIMIT && are_group_names(&groups) && are_distinct(&groups))
 }
