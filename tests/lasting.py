@@ -1,0 +1,327 @@
+#!/usr/bin/env python3
+"""System tests of volumes that live for years. lasting.py NEWSD [NAME..] [--articles N]
+
+N articles are in the volume that `a_large_volume_is_renewed` renews, 30,000 if it isn't given."""
+import copy
+import hashlib
+import json
+import os
+import random
+import shutil
+import signal
+import subprocess
+import sys
+import tempfile
+import threading
+import time
+
+from ages import DATING, DAY, FIRST
+from newsd import SECONDS, Caller, article, end_with_parent, message_id
+from playing import Skipped, main
+from refusals import compile_library
+
+GROUPS = ("x.a", "x.b", "x.c")
+# the groups of an article, by its number
+NAMES = ("x.a", "x.b", "x.a,x.b", "x.c", "x.c,x.a,x.none")
+ARTICLES = 30_000
+# of all articles, the part that is left in a group
+LEFT = 6
+KILLS = 8
+# a day of a site, how many of them an article stays, and the octets of an article
+POSTS, DAYS_KEPT, SIZE = 4, 30, 60_000
+# a volume that has room for the articles of these days, and for a block of each article of a year
+SITE = {"blocks": 8192, "inodes": 4096}
+# seconds for a command on a large volume where others keep the processors busy
+LONG = 240
+
+
+# ---- a large volume
+
+def a_large_volume_is_renewed(volume):
+    """What a client can ask for is the same, octet by octet: of groups, numbers and ids, also of those that are gone. Killed at any
+    moment, a renewal leaves what was there. What is posted then has the numbers and ids that it would have had."""
+    count = articles_wanted()
+    at = volume.another("large", blocks=65_536, inodes=count + count // 10 + 64 - (count + count // 10) % 64)
+    gone = make_large(at, count)
+    before, seen = usage(at), digest(at, count)
+    kept = spool_of(at)
+    other = copy_of(at, "other")
+    start = time.monotonic()
+    done = renew(at, "--in-place")
+    seconds = time.monotonic() - start
+    after = usage(at)
+    assert (done["husks"], done["kept"]) == (gone, count - gone), (done, gone)
+    assert (spool_of(at), digest(at, count)) == (kept, seen)
+    print("  %d articles, %d of them gone: renewed in %.1f s; blocks %d before and %d after, inodes %d and %d"
+          % (count, gone, seconds, *before[:1], *after[:1], before[1], after[1]), flush=True)
+    killed(at, seconds, kept)
+    assert digest(at, count) == seen
+    as_posted(at, other, count)
+
+
+def articles_wanted():
+    return ARTICLES_GIVEN or ARTICLES
+
+
+def make_large(at, count):
+    """Files the articles, and takes all but the last ones out of their groups. Says how many are gone."""
+    for name in GROUPS:
+        at.make_group(name)
+    for first in range(0, count, 5000):
+        numbers = range(first, min(first + 5000, count))
+        done = at.run("import", at.path, given=b"".join(map(entry, numbers)), seconds=LONG)
+        assert done.stdout.startswith(b"filed %d\n" % len(numbers)), done
+    last = count - count // LEFT
+    for name in GROUPS:
+        at.expire(sum(name in groups_of(number) for number in range(last)), name)
+    return last
+
+
+def groups_of(number):
+    return NAMES[number % len(NAMES)].split(",")
+
+
+def entry(number):
+    """An article in the form of a batch: some are shorter than a block, some longer."""
+    text = article(number, "subject %d" % number, "%070d\n" % number * (number % 90)).replace(b"\r\n", b"\n")[:-len(b".\n")]
+    text = text.replace(b"Newsgroups: x.a", b"Newsgroups: " + NAMES[number % len(NAMES)].encode())
+    return b"#! rnews %d\n%s" % (len(text), text)
+
+
+def asked_of(count):
+    """All that a client asks for of groups, numbers and ids."""
+    yield from ("LIST ACTIVE", "LIST ACTIVE.TIMES", "LIST NEWSGROUPS", "NEWNEWS * 20000101 000000 GMT", "NEWNEWS x.b 20000101 000000 GMT")
+    for name in GROUPS:
+        yield from ("GROUP " + name, "LISTGROUP " + name, "OVER 1-", "NEXT", "LAST", "ARTICLE")
+        yield from ("STAT %d" % number for number in range(count // 2))
+        yield from ("%s %d" % (word, number) for number in range(0, count // 2, 7) for word in ("ARTICLE", "HEAD", "BODY"))
+    yield from ("%s %s" % (word, message_id(number)) for number in range(count) for word in ("STAT", "IHAVE"))
+    yield from ("%s %s" % (word, message_id(number)) for number in range(0, count, 7) for word in ("ARTICLE", "OVER"))
+    yield "QUIT"
+
+
+def digest(at, count):
+    """Of all that the server answers. Each id was here once, so that none of them is asked for again."""
+    sum_of, octets = hashlib.sha256(), 0
+    with at.serve() as server, Caller(server.port, seconds=LONG) as caller:
+        lines = "".join(line + "\r\n" for line in asked_of(count)).encode()
+        sender = threading.Thread(target=caller.send, args=(lines,), daemon=True)
+        sender.start()
+        while piece := caller.file.read1(1 << 16):
+            assert b"\r\n335 " not in piece
+            sum_of.update(piece)
+            octets += len(piece)
+        sender.join()
+        assert server.order("stop") == "stopped"
+        assert server.end() == (0, "")
+    return octets, sum_of.hexdigest()
+
+
+def spool_of(at):
+    """The digests of what is dumped and exported."""
+    return [hashlib.sha256(words_of(at, command)).hexdigest() for command in ("dump", "export")]
+
+
+def words_of(at, *words):
+    done = at.run(words[0], at.path, *words[1:], seconds=LONG)
+    assert (done.returncode, done.stderr) == (0, b""), (words, done)
+    return done.stdout
+
+
+def usage(at):
+    found = json.loads(words_of(at, "status", "--json"))
+    return found["blocks"]["used"], found["inodes"]["used"]
+
+
+def renew(at, *words):
+    """The counts of a renewal."""
+    done = json.loads(words_of(at, "renew", *words, "--json"))
+    return {name: done[name] for name in ("groups", "kept", "husks", "expiries")}
+
+
+def killed(at, seconds, kept):
+    """Renewals in place are killed at random moments."""
+    chance = random.Random(random_seed())
+    replaced = 0
+    for _ in range(KILLS):
+        node = os.stat(at.path).st_ino
+        process = subprocess.Popen([at.program, "renew", at.path, "--in-place"], stdout=subprocess.DEVNULL, stderr=subprocess.DEVNULL,
+                                   preexec_fn=end_with_parent)
+        time.sleep(chance.uniform(0, 1.2 * seconds))
+        process.send_signal(signal.SIGKILL)
+        process.wait(SECONDS)
+        replaced += os.stat(at.path).st_ino != node
+        assert spool_of(at) == kept
+    renew(at, "--in-place")
+    assert spool_of(at) == kept
+    print("  of %d killed %d had replaced the file" % (KILLS, replaced), flush=True)
+
+
+def random_seed():
+    seed = random.randrange(1 << 32)
+    print("  seed", seed, flush=True)
+    return seed
+
+
+def copy_of(at, name):
+    """A copy of the volume beside it."""
+    other = copy.copy(at)
+    other.path = os.path.join(os.path.dirname(at.path), name)
+    shutil.copyfile(at.path, other.path)
+    return other
+
+
+def as_posted(renewed, other, count):
+    """What is posted to both has the same numbers and ids, some of which the server makes."""
+    after = []
+    for at in (renewed, other):
+        with at.serve() as server, server.call() as caller:
+            for number in range(count, count + 30):
+                text = entry(number).split(b"\n", 1)[1].replace(b"\n", b"\r\n")
+                if number % 3 == 0:
+                    text = b"".join(line for line in text.splitlines(keepends=True) if not line.startswith(b"Message-ID:"))
+                assert caller.post(text + b".\r\n") == "240 Article received", number
+            assert server.order("stop") == "stopped"
+        after.append((words_of(at, "dump"), words_of(at, "export"), ranges(at)))
+    assert after[0] == after[1]
+
+
+def ranges(at):
+    """The lowest and the highest number of each group."""
+    return [(group["name"], group["low"], group["high"]) for group in json.loads(words_of(at, "status", "--json"))["groups"]]
+
+
+# ---- a site
+
+def forty_days_of_a_site(volume):
+    site(volume, 40)
+
+
+def a_year_of_a_site(volume):
+    site(volume, 365)
+
+
+def site(volume, days):
+    """Posts, an expiry by age and a renewal in place each day. No number and no id comes twice, what is young stays as it is, and the
+    volume never fills, though it has room for the texts of some 60 days."""
+    with tempfile.TemporaryDirectory(prefix="newsd-dating-") as folder:
+        library = compile_library(folder, DATING)
+        if library is None:
+            raise Skipped("there is no compiler for C")
+        at = volume.another("site", **SITE)
+        for name in GROUPS[:2]:
+            at.make_group(name)
+        lived = Lived(at, library)
+        for day in range(days):
+            lived.live(day)
+        lived.print()
+
+
+class Lived:
+    """A site's days, and what its readers saw."""
+
+    def __init__(self, at, library):
+        self.at = at
+        self.library = library
+        self.ids = []
+        self.highs = dict.fromkeys(GROUPS[:2], 0)
+        self.most = 0
+
+    def dated(self, day):
+        return ["env", "LD_PRELOAD=" + self.library, "NOW=%d" % (FIRST + day * DAY)]
+
+    def live(self, day):
+        with self.at.serve(by=self.dated(day)) as server:
+            self.post(server, day)
+            assert server.order("stop") == "stopped"
+            assert server.end() == (0, "")
+        self.most = max(self.most, usage(self.at)[0])
+        before = self.spool()
+        for words in (["expire", self.at.path, "--older-than", str(DAYS_KEPT)], ["renew", self.at.path, "--in-place"]):
+            done = subprocess.run([*self.dated(day), self.at.program, *words], capture_output=True, timeout=SECONDS)
+            assert (done.returncode, done.stderr) == (0, b""), (day, done)
+        after = self.spool()
+        # what was there is there, and the expiries behind it
+        assert after[:len(before)] == before and all(" expire " in line for line in after[len(before):]), day
+        kept = min(day + 1, DAYS_KEPT + 1) * POSTS
+        assert self.here() == self.ids[-kept:], day
+
+    def post(self, server, day):
+        """Posts articles, of which the server makes every second one's id, and finds their numbers and ids."""
+        with server.call() as caller:
+            for number in range(POSTS):
+                text = article("%d.%d" % (day, number), "day %d" % day, "x" * 70 + "\r\n" + ("%070d\r\n" % day) * (SIZE // 72))
+                text = text.replace(b"Newsgroups: x.a", b"Newsgroups: " + (b"x.a", b"x.b", b"x.a,x.b")[number % 3])
+                if number % 2:
+                    text = b"".join(line for line in text.splitlines(keepends=True) if not line.startswith(b"Message-ID:"))
+                assert caller.post(text) == "240 Article received", (day, number)
+            new = set()
+            for name, high in self.highs.items():
+                said = caller.ask("GROUP " + name).split()
+                assert said[0] == "211" and int(said[3]) > high, (day, said, high)
+                found = overviews(caller, high + 1)
+                assert [number for number, _ in found] == list(range(high + 1, int(said[3]) + 1)), (day, found, said)
+                self.highs[name] = int(said[3])
+                new.update(own_id for _, own_id in found)
+            assert len(new) == POSTS and not new & set(self.ids), (day, new)
+            self.ids += as_posted_on(day, new)
+            if day % 30 == 29:
+                self.ask_for_all(caller)
+
+    def ask_for_all(self, caller):
+        """Each id that was ever here is known still."""
+        for own_id in self.ids:
+            assert caller.ask("IHAVE " + own_id).startswith("435"), own_id
+
+    def spool(self):
+        return self.at.dump()[1:]
+
+    def here(self):
+        """The ids of the articles that an export writes."""
+        text = words_of(self.at, "export")
+        return [line.split(b": ")[1].decode() for line in text.splitlines() if line.startswith(b"Message-ID: ")]
+
+    def print(self):
+        used, inodes = usage(self.at)
+        whole = len(self.ids) * (SIZE // 4096 + 2)
+        print("  %d articles of %d octets in %d blocks: at most %d were used, at the end %d, and %d inodes; all texts take %d"
+              % (len(self.ids), SIZE, SITE["blocks"], self.most, used, inodes, whole), flush=True)
+        assert len(set(self.ids)) == len(self.ids)
+
+
+def as_posted_on(day, ids):
+    """The ids of a day in the order of their articles. The server makes one of the serial, and that of each second article."""
+    given = ["<%d.%d@a.example>" % (day, number) for number in range(0, POSTS, 2)]
+    made = sorted(ids.difference(given), key=lambda own_id: int(own_id[1:].split("@")[0]))
+    return [own_id for pair in zip(given, made) for own_id in pair]
+
+
+def overviews(caller, first):
+    """The numbers and the ids from this number on."""
+    assert caller.ask("OVER %d-" % first).startswith("224")
+    found = []
+    while (line := caller.line()) != ".":
+        found.append((int(line.split("\t")[0]), line.split("\t")[4]))
+    return found
+
+
+def given_articles():
+    """The number behind `--articles`, which the words have no more then."""
+    if "--articles" not in sys.argv:
+        return None
+    at = sys.argv.index("--articles")
+    _, number = sys.argv[at:at + 2]
+    del sys.argv[at:at + 2]
+    return int(number)
+
+
+ARTICLES_GIVEN = given_articles()
+
+TESTS = [forty_days_of_a_site]
+
+# each takes a minute or more
+LONG_ONES = [a_large_volume_is_renewed, a_year_of_a_site]
+
+
+if __name__ == "__main__":
+    sys.exit(main(TESTS, LONG_ONES))
