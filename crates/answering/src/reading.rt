@@ -2,7 +2,7 @@
 
 ghost use Rattle.std.specs.Prelude.{◌≡◌, ◌≢◌, ◌<◌, ◌≤◌, IfErr, IfOk, IfSome, OnErr, length, take};
 ghost use Rattle.std.specs.Io.KnownBytes.{Consumes, IsAtEnd, Keeps};
-ghost use Rattle.logging.specs.declared.events.Ending.TheVariants as ending;
+ghost use Rattle.log_lines.specs.declared.events.Ending.TheVariants as ending;
 
 use logging::Ending;
 use model::Mode;
