@@ -77,12 +77,11 @@ impl Model for Kernel {
 
     ghost Value = { KernelView };
 
-    ghost use Rattle.kernel.specs.Kept.{IsKept};
-    ghost use Rattle.kernel.specs.Stored.{kernel_of};
+    ghost use Rattle.kernel.specs.Stored.{AreKept, seen_kernel};
 
-    ghost view = { λ k. kernel_of k.spool k.durable k.in_flight k.halted k.joined k.seats.items };
+    ghost view = { λ k. seen_kernel k.spool k.durable k.in_flight k.halted k.joined k.seats.items };
 
-    ghost invariant = { λ k. IsKept (kernel_of k.spool k.durable k.in_flight k.halted k.joined k.seats.items) };
+    ghost invariant = { λ k. AreKept k.spool k.durable k.in_flight k.halted k.joined k.seats.items };
 }
 
 impl Kernel {
@@ -330,7 +329,7 @@ impl Kernel {
         ensures kept { self.new ≡ released self.old }
     {
         into.clear();
-        release(&mut self.seats, self.durable, into);
+        release(&mut self.seats, &self.spool, self.durable, into);
     }
 
     /// Moves the outputs of one session whose dependency is durable into the buffer, after its content: in order, until
@@ -342,7 +341,7 @@ impl Kernel {
         ensures kept { self.new ≡ released_of self.old into.old sid }
         ensures holds { result ≡ holds (seat_of self.new sid) }
     {
-        release_of(&mut self.seats, sid, self.durable, into)
+        release_of(&mut self.seats, &self.spool, sid, self.durable, into)
     }
 
     /// Drops a session and its held outputs; does nothing if it does not exist. It takes no memory.

@@ -1,6 +1,6 @@
 use Rattle.std.proofs.Common.{arith}
 use Rattle.spool_texts.proofs.Runs.{part_of_run}
-use Rattle.spool_texts.proofs.overviews.part_of.Goals as goal
+use Rattle.spool_texts.proofs.parts.part_of.Goals as goal
 
 pub returns : goal.returns
 returns c = λ content run.
