@@ -69,7 +69,7 @@ pub struct ServeOptions<'a> {
     pub networks: Vec<Network>,
     /// The most sessions of callers of one address, if that is given.
     pub most_from: Option<usize>,
-    /// The ends of sessions are not logged.
+    /// The beginnings, posts and ends of sessions are not logged.
     pub is_quiet: bool,
 }
 

@@ -335,7 +335,7 @@ pub const SUBCOMMANDS: &[Subcommand] = &[
             Word {
                 id: QUIET,
                 value: "",
-                help: "Does not log the beginnings and ends of sessions",
+                help: "Logs no beginnings, posts and ends of sessions",
                 kind: Kind::Flag,
                 grammar: Grammar::Any,
             },
