@@ -66,6 +66,7 @@ def a_group_goes_on_past_the_largest_file_of_format_1(volume):
 
 def articles_there(volume):
     """The numbers of the articles that are there. They are the first ones, in order, and their lines are the group's overview."""
+    volume.settle()
     lines = volume.dump()
     numbers = list(range(1, len(lines) - 1))
     changes = ["%d article %s %s" % (1 + number, message_id(number), GROUP) for number in numbers]
