@@ -145,7 +145,8 @@ impl<'a, R: Net<Listener = TcpListener, Stream = TcpStream> + Wait + Clock> Visi
                 Some(caller) => asks_much(&caller) && self.tells(" why=stalled"),
                 None => false,
             },
-            Scene::Crowd => self.crowd() && self.logged.are(self.rt, SESSIONS + 2),
+            // the volume is full, a caller is refused, and each session begins and ends
+            Scene::Crowd => self.crowd() && self.logged.are(self.rt, 2 * SESSIONS + 2),
             Scene::Fault => self.tells(" event=fault")
                 && self.is_told()
                 && self.tells(" why=halted times=1"),
