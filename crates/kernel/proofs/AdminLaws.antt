@@ -25,13 +25,13 @@ passed as_error None done is = refl
 passed as_error (Some refusal) done is = absurd (cc is)
 
 -- who may join finds a place
-pub few_seats : (k : KernelView) → join_refusal k ≡ None → length k.seats < 64
-few_seats k is = go k.halted refl (nat_le 64 (length k.seats)) refl
+pub few_seats : (k : KernelView) → join_refusal k ≡ None → length k.seats < k.most
+few_seats k is = go k.halted refl (nat_le k.most (length k.seats)) refl
   where
-    go : (h : Bool) → k.halted ≡ h → (b : Bool) → nat_le 64 (length k.seats) ≡ b → length k.seats < 64
+    go : (h : Bool) → k.halted ≡ h → (b : Bool) → nat_le k.most (length k.seats) ≡ b → length k.seats < k.most
     go true halted b many = absurd (let some : Some Halted ≡ None = rw halted at is in cc some)
     go false halted true many = absurd (let some : Some TooManySessions ≡ None = rw (halted, many) at is in cc some)
-    go false halted false many = leb-false 64 (length k.seats) many
+    go false halted false many = leb-false k.most (length k.seats) many
 
 -- an early test that fails is the first of all
 pub early_first : (k : KernelView) (c : Change) (r : Refusal) → early_refusal k ≡ Some r → admin_refusal_of k c ≡ Some r
@@ -56,10 +56,10 @@ early_none k is = go k.halted refl (nat_lt (most_dirty (length k.blocks)) (lengt
 pub few_dirty : (k : KernelView) → early_refusal k ≡ None → length k.dirty ≤ most_dirty (length k.blocks)
 few_dirty k is = ltb-false (most_dirty (length k.blocks)) (length k.dirty) (early_none k is).1
 
-module _ (s : SpoolView) (d : ℕ) (f : Option ℕ) (h : Bool) (j : ℕ) (seats : List Seat) (g : NewGroup)
-    (early : early_refusal (kernel_of s d f h j seats) ≡ None) where
+module _ (s : SpoolView) (d : ℕ) (f : Option ℕ) (h : Bool) (most j : ℕ) (seats : List Seat) (g : NewGroup)
+    (early : early_refusal (kernel_of s d f h most j seats) ≡ None) where
   abbrev was : KernelView
-  was = kernel_of s d f h j seats
+  was = kernel_of s d f h most j seats
 
   abbrev c : Change
   c = Group g
@@ -97,54 +97,54 @@ module _ (s : SpoolView) (d : ℕ) (f : Option ℕ) (h : Bool) (j : ℕ) (seats 
       go false true a b is = absurd (cc is)
       go false false a b is = by_tests false false a b
 
-module _ (s : SpoolView) (d : ℕ) (f : Option ℕ) (h : Bool) (j : ℕ) (seats : List Seat) (c : Change) where
+module _ (s : SpoolView) (d : ℕ) (f : Option ℕ) (h : Bool) (most j : ℕ) (seats : List Seat) (c : Change) where
   pub administers : (s' : SpoolView) (serial : ℕ) → serial ≡ length s.changes + 1 → Adds s s' c
-      → Administers (kernel_of s d f h j seats) (kernel_of s' d f h j seats) c serial
+      → Administers (kernel_of s d f h most j seats) (kernel_of s' d f h most j seats) c serial
   administers s' serial is adds =
       record {
         serial_is = is;
         spool = adds.changes;
-        blocks = changed_dirties s s' d f h j seats seats adds.dirties;
-        rest = (adds.host, adds.inodes, refl, refl, refl, refl, refl);
+        blocks = changed_dirties s s' d f h most j seats seats adds.dirties;
+        rest = (adds.host, adds.inodes, refl, refl, refl, refl, refl, refl);
       }
 
-module _ (s : SpoolView) (d : ℕ) (f : Option ℕ) (h : Bool) (j : ℕ) (seats : List Seat) (e : Expiry)
-    (early : early_refusal (kernel_of s d f h j seats) ≡ None) where
+module _ (s : SpoolView) (d : ℕ) (f : Option ℕ) (h : Bool) (most j : ℕ) (seats : List Seat) (e : Expiry)
+    (early : early_refusal (kernel_of s d f h most j seats) ≡ None) where
   by_expiry : (has full : Bool) → has_number s.changes e.group e.number ≡ has → is_full_for s (Expire e) ≡ full
-      → expire_refusal_of (kernel_of s d f h j seats) (Expire e)
+      → expire_refusal_of (kernel_of s d f h most j seats) (Expire e)
       ≡ first_failing ((false, Halted) ∷ (false, LaterDirty) ∷ (not has, NotFound) ∷ (full, Full) ∷ [])
   by_expiry has full a b =
-      let now = early_none (kernel_of s d f h j seats) early in
+      let now = early_none (kernel_of s d f h most j seats) early in
       λ i. first_failing ((now.0 i, Halted) ∷ (now.1 i, LaterDirty) ∷ (not (a i), NotFound) ∷ (b i, Full) ∷ [])
 
   pub not_found_when : expiry_refusal s e.group e.number ≡ Some expire.NotFound
-      → expire_refusal_of (kernel_of s d f h j seats) (Expire e) ≡ Some NotFound
+      → expire_refusal_of (kernel_of s d f h most j seats) (Expire e) ≡ Some NotFound
   not_found_when = go (has_number s.changes e.group e.number) (is_full_for s (Expire e)) refl refl
     where
       go : (has full : Bool) → has_number s.changes e.group e.number ≡ has → is_full_for s (Expire e) ≡ full
           → (if has then (if full then Some expire.Full else None) else Some expire.NotFound) ≡ Some expire.NotFound
-          → expire_refusal_of (kernel_of s d f h j seats) (Expire e) ≡ Some NotFound
+          → expire_refusal_of (kernel_of s d f h most j seats) (Expire e) ≡ Some NotFound
       go true true a b is = absurd (cc is)
       go true false a b is = absurd (cc is)
       go false full a b is = by_expiry false full a b
 
   pub no_room_when : expiry_refusal s e.group e.number ≡ Some expire.Full
-      → expire_refusal_of (kernel_of s d f h j seats) (Expire e) ≡ Some Full
+      → expire_refusal_of (kernel_of s d f h most j seats) (Expire e) ≡ Some Full
   no_room_when = go (has_number s.changes e.group e.number) (is_full_for s (Expire e)) refl refl
     where
       go : (has full : Bool) → has_number s.changes e.group e.number ≡ has → is_full_for s (Expire e) ≡ full
           → (if has then (if full then Some expire.Full else None) else Some expire.NotFound) ≡ Some expire.Full
-          → expire_refusal_of (kernel_of s d f h j seats) (Expire e) ≡ Some Full
+          → expire_refusal_of (kernel_of s d f h most j seats) (Expire e) ≡ Some Full
       go true true a b is = by_expiry true true a b
       go true false a b is = absurd (cc is)
       go false full a b is = absurd (cc is)
 
-  pub expires_when : expiry_refusal s e.group e.number ≡ None → expire_refusal_of (kernel_of s d f h j seats) (Expire e) ≡ None
+  pub expires_when : expiry_refusal s e.group e.number ≡ None → expire_refusal_of (kernel_of s d f h most j seats) (Expire e) ≡ None
   expires_when = go (has_number s.changes e.group e.number) (is_full_for s (Expire e)) refl refl
     where
       go : (has full : Bool) → has_number s.changes e.group e.number ≡ has → is_full_for s (Expire e) ≡ full
           → (if has then (if full then Some expire.Full else None) else Some expire.NotFound) ≡ None
-          → expire_refusal_of (kernel_of s d f h j seats) (Expire e) ≡ None
+          → expire_refusal_of (kernel_of s d f h most j seats) (Expire e) ≡ None
       go true true a b is = absurd (cc is)
       go true false a b is = by_expiry true false a b
       go false full a b is = absurd (cc is)

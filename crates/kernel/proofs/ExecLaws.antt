@@ -36,7 +36,10 @@ use Rattle.kernel.specs.Kernel.{first_failing, is_block, is_dirty, mark_for, mod
 use Rattle.seats.specs.Seats.{Seat, answered_by, with_seat}
 use Rattle.seats.specs.Kept.{RiseFrom}
 use Rattle.kernel.specs.Serving.{Grows, answer_in, mark_in}
-use Rattle.kernel.specs.Stored.{kernel_of}
+use Rattle.kernel.specs.Stored.{kernel_of, seen_kernel}
+use Rattle.seats.specs.Lined.{LinedSeat, all_seen, seen}
+use Rattle.seats.proofs.Seeing.{seen_at, seen_place}
+use Rattle.spool_texts.specs.Parts.{lines_of}
 use Rattle.kernel.specs.Kept.{IsKept}
 use Rattle.kernel.specs.declared.Kernel.TheInside.{Inside}
 use Rattle.kernel.proofs.KernelLaws.{grown, kept_served, mode_found, only_blocks_change, same_place}
@@ -83,13 +86,13 @@ module _ (k : KernelView) (sid : ℕ) (m : Message) where
 -- ---- what is done
 
 -- no change dirties nothing
-same_dirties : (s : SpoolView) (d : ℕ) (f : Option ℕ) (h : Bool) (j : ℕ) (seats seats' : List Seat)
-    → Dirties (kernel_of s d f h j seats) (kernel_of s d f h j seats')
-same_dirties s d f h j seats seats' =
+same_dirties : (s : SpoolView) (d : ℕ) (f : Option ℕ) (h : Bool) (most j : ℕ) (seats seats' : List Seat)
+    → Dirties (kernel_of s d f h most j seats) (kernel_of s d f h most j seats')
+same_dirties s d f h most j seats seats' =
     record {
       size = refl;
-      exactly = λ k inside. sym (ap (λ (b : Bool). is_dirty (kernel_of s d f h j seats) k || not b)
-          (bytes_same (slice_index_or s.blocks k [])) ∙ or-false (is_dirty (kernel_of s d f h j seats) k));
+      exactly = λ k inside. sym (ap (λ (b : Bool). is_dirty (kernel_of s d f h most j seats) k || not b)
+          (bytes_same (slice_index_or s.blocks k [])) ∙ or-false (is_dirty (kernel_of s d f h most j seats) k));
       few = omega arith;
     }
 
@@ -104,10 +107,10 @@ differ : (xs ys : Octets) → not (bytes_eq xs ys) ≡ true → xs ≢ ys
 differ xs ys is same = absurd (cc (is, (bytes_eq-Decides xs ys).1 same))
 
 -- the dirty blocks as the spool says them
-pub changed_dirties : (s s' : SpoolView) (d : ℕ) (f : Option ℕ) (h : Bool) (j : ℕ) (seats seats' : List Seat)
+pub changed_dirties : (s s' : SpoolView) (d : ℕ) (f : Option ℕ) (h : Bool) (most j : ℕ) (seats seats' : List Seat)
     → changed.Dirties s.blocks s'.blocks s.dirty s'.dirty
-    → Dirties (kernel_of s d f h j seats) (kernel_of s' d f h j seats')
-changed_dirties s s' d f h j seats seats' is =
+    → Dirties (kernel_of s d f h most j seats) (kernel_of s' d f h most j seats')
+changed_dirties s s' d f h most j seats seats' is =
     record {
       size = is.size;
       exactly = λ k inside. both_ways (is_dirty new k) (is_dirty old k || other k)
@@ -115,10 +118,10 @@ changed_dirties s s' d f h j seats seats' is =
       few = is.few;
     } where
       old : KernelView
-      old = kernel_of s d f h j seats
+      old = kernel_of s d f h most j seats
 
       new : KernelView
-      new = kernel_of s' d f h j seats'
+      new = kernel_of s' d f h most j seats'
 
       other : ℕ → Bool
       other k = not (bytes_eq (slice_index_or s.blocks k []) (slice_index_or s'.blocks k []))
@@ -134,12 +137,13 @@ changed_dirties s s' d f h j seats seats' is =
         | inr now ↦ inr (differ (slice_index_or s.blocks k []) (slice_index_or s'.blocks k []) now)
       ]
 
-grown_dirties : (s s' : SpoolView) (d : ℕ) (f : Option ℕ) (h : Bool) (j : ℕ) (seats seats' : List Seat) (c : Option Change) → Grows s s' c
-    → Dirties (kernel_of s d f h j seats) (kernel_of s' d f h j seats')
-grown_dirties s s' d f h j seats seats' None is =
-    subst (λ (r : SpoolView). Dirties (kernel_of s d f h j seats) (kernel_of r d f h j seats')) (sym is)
-    (same_dirties s d f h j seats seats')
-grown_dirties s s' d f h j seats seats' (Some c) adds = changed_dirties s s' d f h j seats seats' adds.dirties
+grown_dirties : (s s' : SpoolView) (d : ℕ) (f : Option ℕ) (h : Bool) (most j : ℕ) (seats seats' : List Seat) (c : Option Change) → Grows s
+    s' c
+    → Dirties (kernel_of s d f h most j seats) (kernel_of s' d f h most j seats')
+grown_dirties s s' d f h most j seats seats' None is =
+    subst (λ (r : SpoolView). Dirties (kernel_of s d f h most j seats) (kernel_of r d f h most j seats')) (sym is)
+    (same_dirties s d f h most j seats seats')
+grown_dirties s s' d f h most j seats seats' (Some c) adds = changed_dirties s s' d f h most j seats seats' adds.dirties
 
 grown_inodes : (s s' : SpoolView) (c : Option Change) → Grows s s' c → s'.inodes ≡ s.inodes
 grown_inodes s s' None is = ap (λ (r : SpoolView). r.inodes) is
@@ -149,11 +153,12 @@ grown_still : (s s' : SpoolView) (c : Option Change) → Grows s s' c → c ≡ 
 grown_still s s' None is none = (ap (λ (r : SpoolView). r.blocks) is, ap (λ (r : SpoolView). r.dirty) is)
 grown_still s s' (Some c) adds none = absurd (cc none)
 
-pub executes : (s s' : SpoolView) (d : ℕ) (f : Option ℕ) (h : Bool) (j : ℕ) (seats : List Seat) (at : ℕ) (seat seat' : Seat) (m : Message)
+pub executes : (s s' : SpoolView) (d : ℕ) (f : Option ℕ) (h : Bool) (most j : ℕ) (seats : List Seat) (at : ℕ) (seat seat' : Seat)
+    (m : Message)
     (t : ℕ) (mark : Mark) → RiseFrom 0 seats → slice_get seats at ≡ Some seat
     → Grows s s' (answer_in s seat.session m t mark).change → seat' ≡ answered_by s.host s.changes m t mark seat
-    → Executed (kernel_of s d f h j seats) (kernel_of s' d f h j (set seats at seat')) seat m t mark
-executes s s' d f h j seats at seat seat' m t mark rise place grows is =
+    → Executed (kernel_of s d f h most j seats) (kernel_of s' d f h most j (set seats at seat')) seat m t mark
+executes s s' d f h most j seats at seat seat' m t mark rise place grows is =
     let g = grown s s' (answer_in s seat.session m t mark).change grows in
     record {
       host = g.host;
@@ -163,8 +168,9 @@ executes s s' d f h j seats at seat seat' m t mark rise place grows is =
       durable = refl;
       in_flight = refl;
       halted = refl;
+      most = refl;
       joined = refl;
-      blocks = grown_dirties s s' d f h j seats (set seats at seat') (answer_in s seat.session m t mark).change grows;
+      blocks = grown_dirties s s' d f h most j seats (set seats at seat') (answer_in s seat.session m t mark).change grows;
       still = grown_still s s' (answer_in s seat.session m t mark).change grows;
     }
 
@@ -190,6 +196,10 @@ none_of b (Some x) is yes_it = absurd (cc (is, ap not yes_it))
 
 -- ---- one session's message
 
+-- the sessions as callers see them
+abbrev pub seen_in : Inside → List Seat
+seen_in inside = all_seen (lines_of inside.spool.changes) inside.seats.items
+
 -- A message that comes to a session: the kernel's fields, the session's place and number, the message, the moment, and the
 -- session as the kernel keeps it and as the code reads it.
 pub record Case : Type 0 where
@@ -200,28 +210,30 @@ pub record Case : Type 0 where
   pub moment : ℕ
   pub seat : Seat
   pub read : Seat
-  pub rise : RiseFrom 0 inside.seats.items
-  pub place : slice_get inside.seats.items at ≡ Some seat
+  pub rise : RiseFrom 0 (seen_in inside)
+  pub place : slice_get (seen_in inside) at ≡ Some seat
   pub number : seat.number ≡ sid
   pub same : read ≡ seat
 
-abbrev pub case_of : (inside : Inside) (items : List Seat) (at sid : ℕ) (m : Message) (t : ℕ) (read : Seat)
-    → RiseFrom 0 inside.seats.items → items ≡ inside.seats.items
-    → (x : Seat) × (slice_get items at ≡ Some x) × (x.number ≡ sid) → read ≡ get_or inside.seats.items at read → Case
+abbrev pub case_of : (inside : Inside) (items : List LinedSeat) (at sid : ℕ) (m : Message) (t : ℕ) (read : LinedSeat)
+    → RiseFrom 0 (seen_in inside) → items ≡ inside.seats.items
+    → (x : LinedSeat) × (slice_get items at ≡ Some x) × (x.number ≡ sid) → read ≡ get_or inside.seats.items at read → Case
 case_of inside items at sid m t read rise here its from =
-    let place = subst (λ (xs : List Seat). slice_get xs at ≡ Some its.0) here its.1 in
+    let made = lines_of inside.spool.changes in
+    let found = seen_place made inside.seats.items at sid
+    (subst (λ (xs : List LinedSeat). (x : LinedSeat) × (slice_get xs at ≡ Some x) × (x.number ≡ sid)) here its) in
     record {
       inside = inside;
       at = at;
       sid = sid;
       message = m;
       moment = t;
-      seat = its.0;
-      read = read;
+      seat = found.0;
+      read = seen made read;
       rise = rise;
-      place = place;
-      number = its.2;
-      same = same_place at inside.seats.items read its.0 place from;
+      place = found.1;
+      number = found.2;
+      same = same_place at (seen_in inside) (seen made read) found.0 found.1 (sym (seen_at made inside.seats.items at read from));
     }
 
 room_is : (blocks inodes : ℕ) (S : Spool) (change : Option Change)
@@ -234,17 +246,24 @@ module _ (k : Case) where
   i = k.inside
 
   abbrev pub was : KernelView
-  was = kernel_of i.spool i.durable i.in_flight i.halted i.joined i.seats.items
+  was = kernel_of i.spool i.durable i.in_flight i.halted i.most i.joined (seen_in i)
 
   -- the kernel with another spool, and another session in this one's place
-  abbrev with_one : SpoolView → Seat → KernelView
-  with_one s seat = kernel_of s i.durable i.in_flight i.halted i.joined (set i.seats.items k.at seat)
+  abbrev pub with_one : SpoolView → Seat → KernelView
+  with_one s seat = kernel_of s i.durable i.in_flight i.halted i.most i.joined (set (seen_in i) k.at seat)
+
+  -- as the code leaves it
+  pub as_kept : (s : SpoolView) (seat : LinedSeat)
+      → all_seen (lines_of s.changes) (set i.seats.items k.at seat) ≡ set (seen_in i) k.at (seen (lines_of s.changes) seat)
+      → with_one s (seen (lines_of s.changes) seat)
+      ≡ seen_kernel s i.durable i.in_flight i.halted i.most i.joined (set i.seats.items k.at seat)
+  as_kept s seat is = ap (kernel_of s i.durable i.in_flight i.halted i.most i.joined) (sym is)
 
   mode_is : mode_at was k.sid ≡ mode_of k.seat.session.awaits
   mode_is = ap (mode_at was) (sym k.number) ∙ mode_found was k.at k.seat k.rise k.place
 
   is_there : seat_of was k.sid ≡ Some k.seat
-  is_there = ap (seat_of was) (sym k.number) ∙ find_at 0 k.at i.seats.items k.seat k.rise k.place
+  is_there = ap (seat_of was) (sym k.number) ∙ find_at 0 k.at (seen_in i) k.seat k.rise k.place
 
   -- the tests, as the code makes them
   pub closed : (none : Bool) (mode : Option Mode) → mode ≡ mode_of k.read.session.awaits → is_some mode ≡ not none → none ≡ true
@@ -280,7 +299,8 @@ module _ (k : Case) where
       → Grows i.spool s (answer_in i.spool k.seat.session k.message k.moment mark).change
       → seat ≡ answered_by i.spool.host i.spool.changes k.message k.moment mark k.read → IsKept was → IsKept (with_one s seat)
   kept_answered s seat mark awaited room sound grows is =
-      kept_served i.spool s i.durable i.in_flight i.halted i.joined i.seats.items k.at k.seat seat k.message k.moment mark k.place awaited
+      kept_served i.spool s i.durable i.in_flight i.halted i.most i.joined (seen_in i) k.at k.seat seat k.message k.moment mark k.place
+      awaited
       room sound grows (answered_seat seat mark is)
 
   -- a test fails
@@ -293,8 +313,8 @@ module _ (k : Case) where
       (Execs o new k.sid k.message k.moment)) v
       (tested_refused of_exec Memory (exec_refusal was k.sid k.message) r was new (Err e) (Execs was new k.sid k.message k.moment) fails
       (ap (λ (x : ExecError). Err x) error)
-      (ap (λ (xs : List Seat). kernel_of i.spool i.durable i.in_flight i.halted i.joined xs)
-      (set_same k.at i.seats.items k.seat k.read k.place k.same)))
+      (ap (λ (xs : List Seat). kernel_of i.spool i.durable i.in_flight i.halted i.most i.joined xs)
+      (set_same k.at (seen_in i) k.seat k.read k.place k.same)))
 
   -- memory is refused
   pub out_of_memory : (old : KernelView) (s : SpoolView) (seat : Seat) → was ≡ old → seat ≡ k.read → s ≡ i.spool
@@ -307,8 +327,8 @@ module _ (k : Case) where
       (Execs o new k.sid k.message k.moment)) v
       (tested_done of_exec Memory (exec_refusal was k.sid k.message) was new (Err Memory) (Execs was new k.sid k.message k.moment) passes (
         refl,
-        λ j. kernel_of (spool j) i.durable i.in_flight i.halted i.joined
-            (set_same k.at i.seats.items k.seat seat k.place (same ∙ k.same) j),
+        λ j. kernel_of (spool j) i.durable i.in_flight i.halted i.most i.joined
+            (set_same k.at (seen_in i) k.seat seat k.place (same ∙ k.same) j),
       ))
 
   -- the message is served
@@ -322,8 +342,8 @@ module _ (k : Case) where
       let new : KernelView = with_one s seat in
       let is = answered_seat seat answered.1 told in
       let same : seat.number ≡ k.seat.number = ap (λ (x : Seat). x.number) is in
-      let read = mode_found new k.at seat (RiseFrom-set 0 k.at i.seats.items k.seat seat k.rise k.place same)
-      (set_get k.at i.seats.items k.seat seat k.place) in
+      let read = mode_found new k.at seat (RiseFrom-set 0 k.at (seen_in i) k.seat seat k.rise k.place same)
+      (set_get k.at (seen_in i) k.seat seat k.place) in
       subst (λ (o : KernelView). Tested of_exec Memory (exec_refusal o k.sid k.message) o new (Ok answered)
       (Execs o new k.sid k.message k.moment)) v
       (tested_done of_exec Memory (exec_refusal was k.sid k.message) was new (Ok answered) (Execs was new k.sid k.message k.moment) passes
@@ -331,10 +351,19 @@ module _ (k : Case) where
         seat = k.seat;
         is_there = is_there;
         mark_is = marked;
-        executed = executes i.spool s i.durable i.in_flight i.halted i.joined i.seats.items k.at k.seat seat k.message k.moment answered.1
+        executed = executes i.spool s i.durable i.in_flight i.halted i.most i.joined (seen_in i) k.at k.seat seat k.message k.moment
+            answered.1
             k.rise k.place grows is;
         reads_next = next ∙ (sym read ∙ ap (mode_at new) (same ∙ k.number));
       }))
+
+  -- the same, of the kernel as the code leaves it
+  pub left_so : (old new left : KernelView) (result : Result (Option Mode × Mark) ExecError) → new ≡ left
+      → Tested of_exec Memory (exec_refusal old k.sid k.message) old new result (Execs old new k.sid k.message k.moment)
+      → Tested of_exec Memory (exec_refusal old k.sid k.message) old left result (Execs old left k.sid k.message k.moment)
+  left_so old new left result same h =
+      subst (λ (v : KernelView). Tested of_exec Memory (exec_refusal old k.sid k.message) old v result
+      (Execs old v k.sid k.message k.moment)) same h
 
   -- the mark, where the kernel is halted and where it is not
   abbrev mark_by : Bool → Mark

@@ -82,11 +82,12 @@ all_below s s' dirties below = All-from_get_or (λ n. n < length s'.blocks) s'.d
       ]
 
 -- all but the sessions, after a change or none
-pub kept_grown : (s s' : SpoolView) (d : ℕ) (f : Option ℕ) (halted : Bool) (j : ℕ) (seats : List Seat) (c : Option Change)
+pub kept_grown : (s s' : SpoolView) (d : ℕ) (f : Option ℕ) (halted : Bool) (most j : ℕ) (seats : List Seat) (c : Option Change)
     → (IsSome c → length s.dirty ≤ most_dirty (length s.blocks)) → (IsSome c → IsSpool s') → Grows s s' c
-    → IsKept (kernel_of s d f halted j seats) → IsKept (kernel_of s' d f halted j seats)
-kept_grown s s' d f halted j seats None room sound is h = subst (λ (r : SpoolView). IsKept (kernel_of r d f halted j seats)) (sym is) h
-kept_grown s s' d f halted j seats (Some c) room sound adds h =
+    → IsKept (kernel_of s d f halted most j seats) → IsKept (kernel_of s' d f halted most j seats)
+kept_grown s s' d f halted most j seats None room sound is h = subst (λ (r : SpoolView). IsKept (kernel_of r d f halted most j seats))
+    (sym is) h
+kept_grown s s' d f halted most j seats (Some c) room sound adds h =
     let size : length s'.changes ≡ length s.changes + 1 = omega (arith, ap length adds.changes, length-append s.changes (c ∷ [])) in
     let clean = room refl in
     record {
@@ -97,6 +98,7 @@ kept_grown s s' d f halted j seats (Some c) room sound adds h =
       below = all_below s s' adds.dirties h.below;
       distinct = adds.dirties.distinct;
       few_seats = h.few_seats;
+      few = h.few;
       seats = subst (λ (p : Octets × Spool). All (IsSeat p.0 p.1 j) seats) (λ i. (sym adds.host i, sym adds.changes i))
           (seats_more s.host s.changes (c ∷ []) j seats h.seats);
       rising = h.rising;
@@ -108,15 +110,15 @@ some_awaits : (held : List HeldOutput) (output : HeldOutput) (x : Session) → S
 some_awaits [] output x = tt
 some_awaits (first ∷ held) output x = tt
 
-pub kept_served : (s s' : SpoolView) (d : ℕ) (f : Option ℕ) (halted : Bool) (j : ℕ) (seats : List Seat) (at : ℕ) (seat seat' : Seat)
+pub kept_served : (s s' : SpoolView) (d : ℕ) (f : Option ℕ) (halted : Bool) (most j : ℕ) (seats : List Seat) (at : ℕ) (seat seat' : Seat)
     (m : Message) (t : ℕ) (mark : Mark)
     → slice_get seats at ≡ Some seat → IsSome (mode_of seat.session.awaits)
     → (IsSome (answer_in s seat.session m t mark).change → length s.dirty ≤ most_dirty (length s.blocks))
     → (IsSome (answer_in s seat.session m t mark).change → IsSpool s') → Grows s s' (answer_in s seat.session m t mark).change
-    → seat' ≡ answered_by s.host s.changes m t mark seat → IsKept (kernel_of s d f halted j seats)
-    → IsKept (kernel_of s' d f halted j (set seats at seat'))
-kept_served s s' d f halted j seats at seat seat' m t mark place awaited room sound grows is h =
-    let k = kept_grown s s' d f halted j seats (answer_in s seat.session m t mark).change room sound grows h in
+    → seat' ≡ answered_by s.host s.changes m t mark seat → IsKept (kernel_of s d f halted most j seats)
+    → IsKept (kernel_of s' d f halted most j (set seats at seat'))
+kept_served s s' d f halted most j seats at seat seat' m t mark place awaited room sound grows is h =
+    let k = kept_grown s s' d f halted most j seats (answer_in s seat.session m t mark).change room sound grows h in
     let g = grown s s' (answer_in s seat.session m t mark).change grows in
     let was = all_at (IsSeat s.host s.changes j) at seats seat h.seats place in
     let full = filled_length (answer_in s seat.session m t mark).reply ((lawful s.host).replies s.changes seat.session m t mark) in
@@ -140,6 +142,7 @@ kept_served s s' d f halted j seats at seat seat' m t mark place awaited room so
       below = k.below;
       distinct = k.distinct;
       few_seats = omega (arith, k.few_seats, length-set seats at seat');
+      few = k.few;
       seats = All-set (IsSeat s'.host s'.changes j) seats at seat' here k.seats;
       rising = RiseFrom-set 0 at seats seat seat' h.rising place (ap (λ (x : Seat). x.number) is);
     }
@@ -187,10 +190,10 @@ length-filter-le p (seat ∷ seats) = go (p seat) (length-filter-le p seats)
     go true le = omega arith
     go false le = omega arith
 
-pub kept_joined : (s : SpoolView) (d : ℕ) (f : Option ℕ) (halted : Bool) (j : ℕ) (seats : List Seat) (new : Seat)
-    → new ≡ new_seat s.host (j + 1) → length seats < 64
-    → IsKept (kernel_of s d f halted j seats) → IsKept (kernel_of s d f halted (j + 1) (seats ++ new ∷ []))
-kept_joined s d f halted j seats new is few h =
+pub kept_joined : (s : SpoolView) (d : ℕ) (f : Option ℕ) (halted : Bool) (most j : ℕ) (seats : List Seat) (new : Seat)
+    → new ≡ new_seat s.host (j + 1) → length seats < most
+    → IsKept (kernel_of s d f halted most j seats) → IsKept (kernel_of s d f halted most (j + 1) (seats ++ new ∷ []))
+kept_joined s d f halted most j seats new is few h =
     let this : IsSeat s.host s.changes (j + 1) new = subst (IsSeat s.host s.changes (j + 1)) (sym is) (new_is_kept s.host s.changes j) in
     let others : All (IsSeat s.host s.changes (j + 1)) seats =
     All-weaker (IsSeat s.host s.changes j) (IsSeat s.host s.changes (j + 1)) (λ seat k. record {
@@ -208,6 +211,7 @@ kept_joined s d f halted j seats new is few h =
       below = h.below;
       distinct = h.distinct;
       few_seats = omega (arith, length-append seats (new ∷ []));
+      few = h.few;
       seats = All-push (IsSeat s.host s.changes (j + 1)) seats new others this;
       rising = RiseFrom-push 0 seats new h.rising (omega (arith, ap (λ (x : Seat). x.number) is))
           (λ k seat place. omega (
@@ -217,9 +221,9 @@ kept_joined s d f halted j seats new is few h =
           ));
     }
 
-pub kept_left : (s : SpoolView) (d : ℕ) (f : Option ℕ) (halted : Bool) (j : ℕ) (seats : List Seat) (p : Seat → Bool)
-    → IsKept (kernel_of s d f halted j seats) → IsKept (kernel_of s d f halted j (filter p seats))
-kept_left s d f halted j seats p h =
+pub kept_left : (s : SpoolView) (d : ℕ) (f : Option ℕ) (halted : Bool) (most j : ℕ) (seats : List Seat) (p : Seat → Bool)
+    → IsKept (kernel_of s d f halted most j seats) → IsKept (kernel_of s d f halted most j (filter p seats))
+kept_left s d f halted most j seats p h =
     record {
       cache = h.cache;
       durable = h.durable;
@@ -228,13 +232,14 @@ kept_left s d f halted j seats p h =
       below = h.below;
       distinct = h.distinct;
       few_seats = omega (arith, length-filter-le p seats, h.few_seats);
+      few = h.few;
       seats = All-filter p (IsSeat s.host s.changes j) seats h.seats;
       rising = RiseFrom-filter p 0 seats h.rising;
     }
 
-pub kept_released : (s : SpoolView) (d : ℕ) (f : Option ℕ) (halted : Bool) (j : ℕ) (seats : List Seat)
-    → IsKept (kernel_of s d f halted j seats) → IsKept (kernel_of s d f halted j (ready d 65536 seats).seats)
-kept_released s d f halted j seats h =
+pub kept_released : (s : SpoolView) (d : ℕ) (f : Option ℕ) (halted : Bool) (most j : ℕ) (seats : List Seat)
+    → IsKept (kernel_of s d f halted most j seats) → IsKept (kernel_of s d f halted most j (ready d 65536 seats).seats)
+kept_released s d f halted most j seats h =
     record {
       cache = h.cache;
       durable = h.durable;
@@ -243,26 +248,28 @@ kept_released s d f halted j seats h =
       below = h.below;
       distinct = h.distinct;
       few_seats = omega (arith, ready_few d 65536 seats, h.few_seats);
+      few = h.few;
       seats = ready_seats s.host s.changes j d 65536 seats h.seats;
       rising = ready_rises 0 d 65536 seats h.rising;
     }
 
 -- one session gives
-pub kept_gave : (s : SpoolView) (d : ℕ) (f : Option ℕ) (halted : Bool) (j : ℕ) (seats : List Seat) (entries : List ReadyEntry) (number : ℕ)
-    → IsKept (kernel_of s d f halted j seats) → IsKept (kernel_of s d f halted j (ready_of d entries number seats).seats)
-kept_gave s d f halted j seats entries number h = go (find (λ (seat : Seat). seat.number == number) seats) refl
+pub kept_gave : (s : SpoolView) (d : ℕ) (f : Option ℕ) (halted : Bool) (most j : ℕ) (seats : List Seat) (entries : List ReadyEntry)
+    (number : ℕ)
+    → IsKept (kernel_of s d f halted most j seats) → IsKept (kernel_of s d f halted most j (ready_of d entries number seats).seats)
+kept_gave s d f halted most j seats entries number h = go (find (λ (seat : Seat). seat.number == number) seats) refl
   where
     after : (seat : Seat) (at : ℕ) → slice_get seats at ≡ Some seat → (ended : Bool) → (given_of d entries seat).ended ≡ ended
-        → IsKept (kernel_of s d f halted j
+        → IsKept (kernel_of s d f halted most j
         (if ended then filter (λ (other : Seat). not (other.number == seat.number)) seats else with_seat seats
         (seat_given seat (given_of d entries seat))))
-    after seat at place true is = kept_left s d f halted j seats (λ (other : Seat). not (other.number == seat.number)) h
+    after seat at place true is = kept_left s d f halted most j seats (λ (other : Seat). not (other.number == seat.number)) h
     after seat at place false is =
         let new : Seat = seat_given seat (given_of d entries seat) in
         let this : IsSeat s.host s.changes j new =
         seat_gives s.host s.changes j d (65536 - octets_in entries) seat
         (all_at (IsSeat s.host s.changes j) at seats seat h.seats place) is in
-        subst (λ (xs : List Seat). IsKept (kernel_of s d f halted j xs)) (with_seat_set 0 at seats seat new h.rising place refl)
+        subst (λ (xs : List Seat). IsKept (kernel_of s d f halted most j xs)) (with_seat_set 0 at seats seat new h.rising place refl)
         (record {
           cache = h.cache;
           durable = h.durable;
@@ -271,12 +278,13 @@ kept_gave s d f halted j seats entries number h = go (find (λ (seat : Seat). se
           below = h.below;
           distinct = h.distinct;
           few_seats = omega (arith, h.few_seats, length-set seats at new);
+          few = h.few;
           seats = All-set (IsSeat s.host s.changes j) seats at new this h.seats;
           rising = RiseFrom-set 0 at seats seat new h.rising place refl;
         })
 
     go : (o : Option Seat) → find (λ (seat : Seat). seat.number == number) seats ≡ o
-        → IsKept (kernel_of s d f halted j (ready_by d entries seats o).seats)
+        → IsKept (kernel_of s d f halted most j (ready_by d entries seats o).seats)
     go None is = h
     go (Some seat) is = let place = find_place number seats seat is in after seat place.0 place.1 (given_of d entries seat).ended refl
 

@@ -3,3 +3,4 @@ pub mod TakingLaws
 pub mod ExecLaws
 pub mod AdminLaws
 pub mod Reading
+pub mod Lined

@@ -32,9 +32,9 @@ among k (n ∷ ns) (zero, low, is) = ap (λ (b : Bool). b || list_any (λ m. m =
 among k (n ∷ ns) (suc at, low, is) = ap (λ (b : Bool). (n == k) || b) (among k ns (at, omega (arith, low), is)) ∙ or-true (n == k)
 
 -- blocks that agree behind the dirty ones agree outside them
-outside : (s : SpoolView) (d : ℕ) (f : Option ℕ) (halted : Bool) (j : ℕ) (seats : List Seat) (base : List Octets)
-    → AgreesBehind (kernel_of s d f halted j seats) base → AgreeOutside s.dirty base s.blocks
-outside s d f halted j seats base agrees = record { count = agrees.size; same = same } where
+outside : (s : SpoolView) (d : ℕ) (f : Option ℕ) (halted : Bool) (most j : ℕ) (seats : List Seat) (base : List Octets)
+    → AgreesBehind (kernel_of s d f halted most j seats) base → AgreeOutside s.dirty base s.blocks
+outside s d f halted most j seats base agrees = record { count = agrees.size; same = same } where
   by_test : (k : ℕ) (b : Bool) → list_any (λ n. n == k) s.dirty ≡ b → k < length s.blocks → ¬ (Contains s.dirty k)
       → slice_index_or base k [] ≡ slice_index_or s.blocks k []
   by_test k true is low none = absurd (none (contained k s.dirty is))
@@ -57,18 +57,19 @@ images_are s images sound below is =
     let both = blocks_from-flat_map (λ n. slice_index_or s.blocks n []) s.dirty whole in
     (ap length is ∙ both.0, ap (blocks_from 0 (length s.dirty)) is ∙ both.1)
 
-pub takes_dirty : (s s' : SpoolView) (d : ℕ) (f : Option ℕ) (halted : Bool) (j : ℕ) (seats : List Seat) (numbers images : List ℕ) (last : ℕ)
+pub takes_dirty : (s s' : SpoolView) (d : ℕ) (f : Option ℕ) (halted : Bool) (most j : ℕ) (seats : List Seat) (numbers images : List ℕ)
+    (last : ℕ)
     → length s.dirty ≢ 0 → last ≡ length s.changes → IsSpool s
     → numbers ≡ s.dirty → images ≡ flat_map (λ n. slice_index_or s.blocks n []) s.dirty
     → ((blocks : List (List ℕ)) → AgreeOutside numbers blocks s.blocks
     → laid_over blocks numbers (blocks_from 0 (length numbers) images) ≡ s.blocks)
-    → s' ≡ record s { dirty = [] } → IsKept (kernel_of s d f halted j seats)
-    → Takes (kernel_of s d f halted j seats) (kernel_of s' d (Some last) halted j seats) numbers
+    → s' ≡ record s { dirty = [] } → IsKept (kernel_of s d f halted most j seats)
+    → Takes (kernel_of s d f halted most j seats) (kernel_of s' d (Some last) halted most j seats) numbers
     (blocks_from 0 (length numbers) images) last
-takes_dirty s s' d f halted j seats numbers images last some is sound taken octets laid clean h =
+takes_dirty s s' d f halted most j seats numbers images last some is sound taken octets laid clean h =
     record {
       last_is = is;
-      kernel = (λ i. kernel_of (clean i) d (Some (is i)) halted j seats);
+      kernel = (λ i. kernel_of (clean i) d (Some (is i)) halted most j seats);
       numbers_are = taken;
       some = omega (arith, ap length taken);
       few = omega (arith, ap length taken, h.few_dirty);
@@ -77,5 +78,5 @@ takes_dirty s s' d f halted j seats numbers images last some is sound taken octe
       images_are = ap (λ (ns : List ℕ). blocks_from 0 (length ns) images) taken
           ∙ ((images_are s images sound h.below octets).1 ∙ ap (λ (ns : List ℕ). map (λ n. slice_index_or s.blocks n []) ns) (sym taken));
       lays = λ base agrees. laid base
-          (subst (λ (ns : List ℕ). AgreeOutside ns base s.blocks) (sym taken) (outside s d f halted j seats base agrees));
+          (subst (λ (ns : List ℕ). AgreeOutside ns base s.blocks) (sym taken) (outside s d f halted most j seats base agrees));
     }

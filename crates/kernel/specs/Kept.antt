@@ -13,6 +13,7 @@ pub record IsKept (kernel : KernelView) : Type 0 where
   pub few_dirty : length kernel.dirty ≤ 512
   pub below : All (λ n. n < length kernel.blocks) kernel.dirty
   pub distinct : AreDistinct kernel.dirty
-  pub few_seats : length kernel.seats ≤ 64
+  pub few_seats : length kernel.seats ≤ kernel.most
+  pub few : kernel.most ≤ 4096
   pub seats : All (IsSeat kernel.host kernel.spool kernel.joined) kernel.seats
   pub rising : RiseFrom 0 kernel.seats

@@ -36,6 +36,8 @@ pub record KernelView : Type 0 where
   pub durable : ℕ
   pub in_flight : Option ℕ
   pub halted : Bool
+  -- the most sessions that it may have
+  pub most : ℕ
   -- the number that was last given to a session
   pub joined : ℕ
   -- the sessions that exist, in rising number
@@ -91,7 +93,7 @@ FitsMode (Some m) other = ⊥
 
 abbrev pub join_refusal : KernelView → Option Refusal
 join_refusal kernel = first_failing
-    ((kernel.halted, Halted) ∷ (nat_le 64 (length kernel.seats) || kernel.joined == 2 ^ 64 - 1, TooManySessions) ∷ [])
+    ((kernel.halted, Halted) ∷ (nat_le kernel.most (length kernel.seats) || kernel.joined == 2 ^ 64 - 1, TooManySessions) ∷ [])
 
 abbrev pub exec_refusal : KernelView → ℕ → Message → Option Refusal
 exec_refusal kernel number m =
@@ -132,6 +134,7 @@ pub record Executed (old new : KernelView) (seat : Seat) (m : Message) (t : ℕ)
   pub durable : new.durable ≡ old.durable
   pub in_flight : new.in_flight ≡ old.in_flight
   pub halted : new.halted ≡ old.halted
+  pub most : new.most ≡ old.most
   pub joined : new.joined ≡ old.joined
   pub blocks : Dirties old new
   -- an answer without a change leaves each block as it was
@@ -252,3 +255,4 @@ pub record Administers (old new : KernelView) (change : Change) (serial : ℕ) :
   pub blocks : Dirties old new
   pub rest : (new.host ≡ old.host) × (new.inodes ≡ old.inodes) × (new.seats ≡ old.seats) × (new.durable ≡ old.durable)
       × (new.in_flight ≡ old.in_flight) × (new.halted ≡ old.halted) × (new.joined ≡ old.joined)
+      × (new.most ≡ old.most)

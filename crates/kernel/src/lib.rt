@@ -4,7 +4,7 @@
 #![tactic(auto)]
 
 ghost use Rattle.std.specs.Prelude.{[], None, ◌≤◌, ◌++◌, ◌&&◌, nat_lt, ◌≡◌, ◌≢◌, ◌⊎◌, ◌↔◌, ◌+◌, ◌*◌, ◌<◌, Some, IsSome, IsNone, IsTrue};
-ghost use Rattle.std.specs.Prelude.{IfOk, IfSome, OnErr, length, true, false, is_some, option_map, slice_get};
+ghost use Rattle.std.specs.Prelude.{IfOk, IfSome, OnErr, length, true, false, is_some, min, option_map, slice_get};
 ghost use Rattle.kernel.specs.Errors.{of_join, of_exec, of_admin, of_expire};
 ghost use Rattle.kernel.specs.Kept.{IsKept};
 ghost use Rattle.kernel.specs.Kernel.{Administers, Execs, FitsMode, Takes, Tested, TestedOrMemory, admin_refusal_of, early_refusal};
@@ -26,7 +26,7 @@ pub use opening::{OpenError, open_spool};
 use outbox::ReadyBuf;
 use seats::{Seat, position, release, release_of};
 use session::Received;
-use shared_kernel::{AdminError, ExecError, ExpireError, JoinError, SESSIONS, Stale, Ticket};
+use shared_kernel::{AdminError, ExecError, ExpireError, JoinError, MOST_SESSIONS, Stale, Ticket};
 use spool::AddError;
 pub use spool::Spool;
 use std::alloc::Global;
@@ -54,6 +54,7 @@ pub struct Kernel {
     durable: u64,
     in_flight: Option<u64>,
     halted: bool,
+    most: usize,
     joined: u64,
     seats: Vec<Seat>,
 }
@@ -66,6 +67,7 @@ impl Drop for Kernel {
             durable: _,
             in_flight: _,
             halted: _,
+            most: _,
             joined: _,
             seats: _,
         } = self;
@@ -77,25 +79,26 @@ impl Model for Kernel {
 
     ghost Value = { KernelView };
 
-    ghost use Rattle.kernel.specs.Kept.{IsKept};
-    ghost use Rattle.kernel.specs.Stored.{kernel_of};
+    ghost use Rattle.kernel.specs.Stored.{AreKept, seen_kernel};
 
-    ghost view = { λ k. kernel_of k.spool k.durable k.in_flight k.halted k.joined k.seats.items };
+    ghost view = { λ k. seen_kernel k.spool k.durable k.in_flight k.halted k.most k.joined k.seats.items };
 
-    ghost invariant = { λ k. IsKept (kernel_of k.spool k.durable k.in_flight k.halted k.joined k.seats.items) };
+    ghost invariant = { λ k. AreKept k.spool k.durable k.in_flight k.halted k.most k.joined k.seats.items };
 }
 
 impl Kernel {
-    /// The kernel of a spool that is on disk: all its changes are durable, and there is no session.
-    pub fn new(alloc: Global, spool: Spool) -> Kernel
+    /// The kernel of a spool that is on disk: all its changes are durable, and there is no session. It may have so many, and
+    /// `MOST_SESSIONS` at most.
+    pub fn new(alloc: Global, spool: Spool, most: usize) -> Kernel
         requires clean { spool.dirty ≡ [] }
-        ensures { result ≡ kernel_of spool (length spool.changes) None false 0 [] }
+        ensures { result ≡ kernel_of spool (length spool.changes) None false (min most 4096) 0 [] }
     {
         Kernel {
             durable: spool.len(),
             spool,
             in_flight: None,
             halted: false,
+            most: most.min(MOST_SESSIONS),
             joined: 0,
             seats: Vec::new(alloc),
         }
@@ -117,14 +120,15 @@ impl Kernel {
         self.seats[at].mode()
     }
 
-    /// Whether a session may join now: if not, `Halted` (E4) or `TooManySessions` (E7), tested in that order.
+    /// Whether a session may join now: if not, `Halted` (E4), or `TooManySessions` (E7) if there are as many as there may be or
+    /// the numbers have run out, tested in that order.
     pub fn may_join(&self) -> Result<(), JoinError>
         ensures { result ≡ only_tested of_join (join_refusal self.now) }
     {
         if self.halted {
             return Err(JoinError::Halted);
         }
-        if self.seats.len() >= SESSIONS || self.joined == u64::MAX {
+        if self.seats.len() >= self.most || self.joined == u64::MAX {
             return Err(JoinError::TooManySessions);
         }
         Ok(())
@@ -330,19 +334,19 @@ impl Kernel {
         ensures kept { self.new ≡ released self.old }
     {
         into.clear();
-        release(&mut self.seats, self.durable, into);
+        release(&mut self.seats, &self.spool, self.durable, into);
     }
 
     /// Moves the outputs of one session whose dependency is durable into the buffer, after its content: in order, until
     /// 65,536 octets are used in all. The last output may be cut. The session is dropped once its end was handed out;
     /// one that does not exist gives nothing. Answers whether it still holds outputs. It takes no memory.
     pub fn give_ready(&mut self, sid: u64, into: &mut ReadyBuf) -> bool
-        requires room { length into.old < 64 }
+        requires room { length into.old < 4096 }
         ensures given { into.new ≡ into.old ++ (ready_of self.old.durable into.old sid self.old.seats).entries }
         ensures kept { self.new ≡ released_of self.old into.old sid }
         ensures holds { result ≡ holds (seat_of self.new sid) }
     {
-        release_of(&mut self.seats, sid, self.durable, into)
+        release_of(&mut self.seats, &self.spool, sid, self.durable, into)
     }
 
     /// Drops a session and its held outputs; does nothing if it does not exist. It takes no memory.
@@ -373,6 +377,13 @@ impl Kernel {
         } else {
             None
         }
+    }
+
+    /// The number of sessions that exist.
+    pub fn session_count(&self) -> usize
+        ensures { result ≡ length self.now.seats }
+    {
+        self.seats.len()
     }
 
     /// The number of durable changes.

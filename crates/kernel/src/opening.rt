@@ -1,6 +1,6 @@
 //! Opens the kernel, or the spool alone, in the logical blocks of a journal.
 
-ghost use Rattle.std.specs.Prelude.{◌≡◌, ◌≢◌, ◌⊎◌, [], false, IfErr, IfOk, IsTrue, MatchResult, OnOk};
+ghost use Rattle.std.specs.Prelude.{◌≡◌, ◌≢◌, ◌⊎◌, [], false, IfErr, IfOk, IsTrue, MatchResult, OnOk, min};
 ghost use Rattle.journal.specs.Journal.{IsIdle, IsReady};
 ghost use Rattle.model.specs.Files.{HasRoom};
 ghost use Rattle.model.specs.Layout.{HoldsIn};
@@ -38,18 +38,23 @@ pub enum OpenError {
 }
 
 impl Kernel {
-    /// Opens the kernel in the logical blocks: all its changes are durable, and there is no session. The journal must be
-    /// idle and not halted, as after its opening. A volume of format 1 is checked as one, and then made one of format 2.
-    /// Apart from that and from reads of the device the journal stays as it was. Only `Fault` halts it, and `Memory` if
-    /// the upgrade's sync was refused.
+    /// Opens the kernel in the logical blocks: all its changes are durable, and there is no session. It may have so many, and
+    /// `MOST_SESSIONS` at most. The journal must be idle and not halted, as after its opening. A volume of format 1 is checked as
+    /// one, and then made one of format 2. Apart from that and from reads of the device the journal stays as it was. Only `Fault`
+    /// halts it, and `Memory` if the upgrade's sync was refused.
     ///
     /// `NotAVolume` (E3) if the label is not valid, `Fault` (E1) if the device fails, `Damaged` (E5) if the blocks hold
     /// no lawful spool of the label's host in the files of the volume's format, and `Memory` (E2) if an
     /// allocation was refused. Nothing is written if the answer is E3 or E5.
-    pub fn open<D: Disk>(alloc: Global, journal: &mut Journal<D>) -> Result<Kernel, OpenError>
+    pub fn open<D: Disk>(
+        alloc: Global,
+        journal: &mut Journal<D>,
+        most: usize,
+    ) -> Result<Kernel, OpenError>
         requires idle { IsIdle journal.old }
         requires running { journal.old.halted ≡ false }
         ensures ok { IfOk result (IsOpened D.device journal.old) }
+        ensures most { IfOk result (λ kernel. kernel.most ≡ min most 4096) }
         ensures format { OnOk result (journal.new.format ≡ 2) }
         ensures reads { ReadsAndUpgrades D.device journal.old journal.new }
         ensures cost { OnOk result (CostsUpgrade journal.old.format (D.device journal.old.disk) (D.device journal.new.disk)) }
@@ -64,7 +69,7 @@ impl Kernel {
         ensures damaged { IfErr result (λ error. error ≡ OpenError.Damaged → IsDamaged D.device journal.old) }
     {
         let spool = open_spool(alloc, journal)?;
-        Ok(Kernel::new(alloc, spool))
+        Ok(Kernel::new(alloc, spool, most))
     }
 }
 

@@ -4,7 +4,7 @@
 
 ghost use Rattle.std.specs.Prelude.{◌≡◌, ◌+◌, ◌<◌, ◌≤◌, ◌^◌, ◌++◌, IsTrue, IsSome, OnOk, Some, length, option_map};
 ghost use Rattle.std.specs.Prelude.{slice_get};
-ghost use Rattle.model.specs.Stream.{Octets, line};
+ghost use Rattle.model.specs.Stream.{Octets, dot_line, line};
 ghost use Rattle.model.specs.Names.{is_host, is_wildmat};
 ghost use Rattle.model.specs.Article.{id, overview_line};
 ghost use Rattle.model.specs.Lawful.{IsLawful};
@@ -21,6 +21,7 @@ pub use finding::{
 };
 use model::{Part, Status};
 pub use moments::is_since;
+use outbox::{Lines, Source};
 use std::alloc::AllocError;
 
 /// A group that exists.
@@ -40,8 +41,9 @@ pub struct GroupView<'s> {
 }
 
 /// The accepted changes of a host, as a source of answers. No call changes them. A call that appends to a reply is
-/// refused only for want of memory; then the reply may hold any octets, and the caller discards it.
-pub trait LookUps {
+/// refused only for want of memory; then the reply may hold any octets, and the caller discards it. The lines of a group's
+/// overview are made as they are handed out.
+pub trait LookUps: Source {
     /// The changes.
     ghost changes: { Self → Spool };
 
@@ -112,18 +114,14 @@ pub trait LookUps {
         requires { IsSome (article_with (changes self.now) serial) }
         ensures { OnOk result (reply.new.items ≡ reply.old.items ++ line (overview_line number (text_of (changes self.now) serial))) };
 
-    /// Appends the overview lines of the articles in a group from one number to another, each with CRLF.
-    fn push_overviews(
-        &self,
-        group: &[u8],
-        from: u64,
-        to: u64,
-        reply: &mut Vec<u8>,
-    ) -> Result<(), AllocError>
+    /// The overview lines of the articles in a group from one number to another, each with CRLF, and the line that ends the
+    /// block.
+    fn overview_lines(&self, group: &[u8], from: u64, to: u64) -> Lines
         requires low { low (changes self.now) group.now ≤ from }
         requires order { from ≤ to }
         requires high { to ≤ high (changes self.now) group.now }
-        ensures { OnOk result (reply.new.items ≡ reply.old.items ++ overviews_between (changes self.now) group.now from to) };
+        ensures kept { Self.keeps self.now result }
+        ensures lines { Self.octets_of self.now result ≡ overviews_between (changes self.now) group.now from to ++ dot_line };
 
     /// Each change may follow the changes before it.
     ghost lawful: { (s : Self) → IsLawful (host_of s) (changes s) };

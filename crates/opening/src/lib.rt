@@ -2,7 +2,7 @@
 //! the device holds if an opening is refused.
 #![tactic(auto)]
 
-ghost use Rattle.std.specs.Prelude.{◌≡◌, ◌≢◌, ◌⊎◌, IfErr, IfOk, IsTrue, MatchResult};
+ghost use Rattle.std.specs.Prelude.{◌≡◌, ◌≢◌, ◌⊎◌, IfErr, IfOk, IsTrue, MatchResult, min};
 ghost use Rattle.disk.specs.Device.{Elapses};
 ghost use Rattle.journal.specs.Journal.{IsReady};
 ghost use Rattle.journal.specs.Opening.{LeavesVolume, LeftKept, NeverSyncs, SyncsFirst};
@@ -31,17 +31,19 @@ pub struct Refused<D> {
     pub error: OpenError,
 }
 
-/// Opens the journal and the kernel on a device: all its changes are durable, and there is no session. The first good
-/// sync comes before every write. A crash before that sync leaves what a crash at the start might have left. A crash
-/// after it leaves the volume that a read gives, with its label and its logical blocks, whatever they contain. A volume
-/// of format 1 is checked as one and then made one of format 2, and a crash during that leaves it in one of the two.
+/// Opens the journal and the kernel on a device: all its changes are durable, and there is no session. So many may
+/// exist at a time, and 4,096 at most. The first good sync comes before every write. A crash before that sync leaves what
+/// a crash at the start might have left. A crash after it leaves the volume that a read gives, with its label and its
+/// logical blocks, whatever they contain. A volume of format 1 is checked as one and then made one of format 2, and a
+/// crash during that leaves it in one of the two.
 ///
 /// A refusal keeps to this too, so it overwrites no disk, and it returns the device. `Fault` (E1) if the device failed.
 /// `Memory` (E2) if it did not, and an allocation was refused; then a read gives what it gave before, or the same
 /// volume. `NotAVolume` (E3) if the device holds no volume with a label of its size. `Damaged` (E5) if it holds one,
 /// but no lawful spool of the label's host in the files of its format.
-pub fn open<D: Disk>(alloc: Global, disk: D) -> Result<Opened<D>, Refused<D>>
+pub fn open<D: Disk>(alloc: Global, disk: D, most: usize) -> Result<Opened<D>, Refused<D>>
     ensures opened { IfOk result (λ o. IsOpened D.device o.journal o.kernel) }
+    ensures most { IfOk result (λ o. o.kernel.most ≡ min most 4096) }
     ensures format { IfOk result (λ o. o.journal.format ≡ 2) }
     ensures idle { IfOk result (λ o. IsReady o.journal) }
     ensures spool { IsTrue (D.device disk).tells → IfOk result (λ o. Stands o.kernel.host (D.device disk).content o.kernel.spool) }
@@ -78,7 +80,7 @@ pub fn open<D: Disk>(alloc: Global, disk: D) -> Result<Opened<D>, Refused<D>>
             });
         }
     };
-    let kernel = match Kernel::open(alloc, &mut journal) {
+    let kernel = match Kernel::open(alloc, &mut journal, most) {
         Ok(kernel) => kernel,
         Err(error) => {
             let disk = journal.into_disk();

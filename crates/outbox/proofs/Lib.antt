@@ -2,3 +2,5 @@ pub mod GivingLaws
 pub mod LoopLaws
 pub mod BufferLaws
 pub mod Numbered
+pub mod LinesLaws
+pub mod Handing

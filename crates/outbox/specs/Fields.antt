@@ -1,7 +1,8 @@
 -- What the fields of a queue and of a buffer mean.
 use Rattle.std.specs.Prelude.{◌≡◌, ℕ, ◌-◌, ◌≤◌, Bool, List, ◌++◌, length, All, vec_len, vec_capacity}
 use Rattle.std.specs.VecDeque.{deque_len, deque_capacity}
-use Rattle.outbox.specs.Queue.{HeldOutput, QueueView, Giving, ReadyEntry, buffered, octets_along, octets_in}
+use Rattle.outbox.specs.Lines.{QueueView, Reply, octets_waiting}
+use Rattle.outbox.specs.Queue.{HeldOutput, Giving, ReadyEntry, octets_along, octets_in}
 use Rattle.outbox.specs.declared.queue.Queue.TheInside as queue
 use Rattle.outbox.specs.Outgoing.{IsSound, outgoing}
 use Rattle.outbox.specs.declared.outgoing.Outgoing.TheInside as reply
@@ -13,10 +14,10 @@ queue_of q = record { given = q.given; held = q.outputs.items; room = deque_capa
 
 -- the queue counts the octets that it holds
 abbrev pub IsSoundQueue : queue.Inside → Type 0
-IsSoundQueue q = q.buffered ≡ buffered q.outputs.items
+IsSoundQueue q = q.buffered ≡ octets_waiting q.outputs.items
 
-abbrev pub octets_of : reply.Inside → List ℕ
-octets_of r = outgoing r.octets.items r.start r.rest
+abbrev pub reply_in : reply.Inside → Reply
+reply_in r = outgoing r.octets.items r.start r.rest
 
 abbrev pub IsSoundReply : reply.Inside → Type 0
 IsSoundReply r = IsSound (vec_capacity r.octets) r.octets.items r.start r.rest
@@ -31,8 +32,8 @@ pub record IsSoundBuffer (b : buffer.Inside) : Type 0 where
   pub counted : octets_in (entries_of b) ≡ length b.octets.items
   pub octets : vec_len b.octets ≤ 65_536
   pub octet_room : 65_536 ≤ vec_capacity b.octets
-  pub few : vec_len b.slots ≤ 64
-  pub room : 64 ≤ vec_capacity b.slots
+  pub few : vec_len b.slots ≤ 4096
+  pub room : 4096 ≤ vec_capacity b.slots
 
 -- what the loop over the first outputs leaves: of the outputs, and after the octets that were already there
 pub record IsGiven (g : Giving) (ended : Bool) (given : ℕ) (held : List HeldOutput) (before after : List ℕ) : Type 0 where

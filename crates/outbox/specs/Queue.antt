@@ -11,13 +11,6 @@ pub record HeldOutput : Type 0 where
   pub dependency : ℕ
   pub ends : Bool
 
--- The dependency of the last output that was handed out whole, 0 at first; the outputs that are held, the next one
--- first; and how many more can be added after them without taking memory.
-pub record QueueView : Type 0 where
-  pub given : ℕ
-  pub held : List HeldOutput
-  pub room : ℕ
-
 -- the number of octets that are held
 abbrev pub buffered : List HeldOutput → ℕ
 buffered held = sum_by (λ (h : HeldOutput). length h.octets) held

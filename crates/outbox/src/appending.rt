@@ -3,7 +3,7 @@
 ghost use Rattle.std.specs.Prelude.{◌≡◌, ◌+◌, ◌≤◌, ◌++◌, length, vec_len, vec_capacity};
 
 /// Appends octets for which there is room.
-pub(crate) fn append(octets: &mut Vec<u8>, more: &[u8])
+pub fn append(octets: &mut Vec<u8>, more: &[u8])
     requires { vec_len octets.old + length more.now ≤ vec_capacity octets.old }
     ensures items { octets.new.items ≡ octets.old.items ++ more.now }
     ensures len { vec_len octets.new ≡ vec_len octets.old + length more.now }

@@ -2,11 +2,14 @@
 #![tactic(auto)]
 
 mod appending;
+mod lines;
 mod numbers;
 mod outgoing;
 mod queue;
 mod ready;
 
+pub use appending::append;
+pub use lines::{Lines, NoLines, Source};
 pub use outgoing::Outgoing;
 pub use queue::Queue;
 pub use ready::ReadyBuf;
@@ -15,4 +18,7 @@ pub use ready::ReadyBuf;
 pub const RELEASE_OCTETS: usize = 65_536;
 
 /// The most sessions that one release serves (this project's rule).
-pub const RELEASE_ENTRIES: usize = 64;
+pub const RELEASE_ENTRIES: usize = 4_096;
+
+/// The most octets of a line that a source makes, with its CRLF (this project's rule).
+pub const LONGEST_LINE: usize = 8_193;

@@ -1,9 +1,10 @@
 //! Lines that hold only a number. They are written from the last one to the first, as digits are, so that each octet is
 //! written once.
 
-ghost use Rattle.std.specs.Prelude.{◌≡◌, ◌+◌, ◌≤◌, ◌<◌, ◌*◌, ◌^◌, ◌++◌, IfSome, decimal, drop, length, min, vec_len, vec_capacity};
+ghost use Rattle.std.specs.Prelude.{◌≡◌, ◌+◌, ◌≤◌, ◌<◌, ◌*◌, ◌^◌, ◌++◌, IfSome, IsSome, decimal, drop, length, min, vec_len, vec_capacity};
 ghost use Rattle.outbox.specs.Numbers.{number_line, number_lines, last_line, rest_of, rest_steps};
 
+use crate::RELEASE_OCTETS;
 use crate::appending::append;
 use itoa::write_digits;
 
@@ -68,6 +69,25 @@ impl Numbers {
             next: self.next + some,
             left: self.left - some,
         })
+    }
+
+    /// Appends the next lines, until there are more octets than a release hands out or none is left to be made. Answers
+    /// what is left. It takes no memory.
+    pub(crate) fn stock(self, octets: &mut Vec<u8>) -> Option<Numbers>
+        requires first { 1 ≤ self.next }
+        requires last { self.next + self.left ≤ 2 ^ 64 }
+        requires room { min (vec_len octets.old + length (number_lines self.next self.left) + 3) 66_947 ≤ vec_capacity octets.old }
+        ensures made { octets.new.items ++ rest_of result ≡ octets.old.items ++ (number_lines self.next self.left ++ last_line) }
+        ensures first { IfSome result (λ rest. 1 ≤ rest.next) }
+        ensures last { IfSome result (λ rest. rest.next + rest.left ≤ 2 ^ 64) }
+        ensures many { IsSome result → 65_536 < vec_len octets.new }
+        ensures capacity { vec_capacity octets.old ≤ vec_capacity octets.new }
+    {
+        let mut numbers = self;
+        while octets.len() <= RELEASE_OCTETS {
+            numbers = numbers.make_some(octets)?;
+        }
+        Some(numbers)
     }
 }
 

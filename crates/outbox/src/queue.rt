@@ -3,38 +3,40 @@
 ghost use Rattle.std.specs.Prelude.{◌≡◌, ◌+◌, ◌-◌, ◌^◌, ◌<◌, ◌≤◌, ◌∷◌, ◌++◌, [], length, take, nat_le, vec_len, vec_capacity, OnOk, OnErr};
 ghost use Rattle.std.specs.Prelude.{◌==◌};
 ghost use Rattle.std.specs.VecDeque.{deque_capacity};
-ghost use Rattle.outbox.specs.Queue.{HeldOutput, QueueView, buffered, last_dependency, cut_at, give, entry_of, octets_in};
+ghost use Rattle.outbox.specs.Lines.{AllAreKept, IsKept, last_depends, octets_waiting, output_of, outputs_of, size, whole};
+ghost use Rattle.outbox.specs.Queue.{cut_at, give, entry_of, octets_in};
 ghost use Rattle.outbox.specs.Fields.{IsGiven};
 
 use crate::RELEASE_OCTETS;
+use crate::lines::Source;
 use crate::outgoing::Outgoing;
 use crate::ready::{ReadyBuf, end_entry};
 use std::alloc::{AllocError, Global};
 use std::collections::VecDeque;
 use std::marker::Model;
 
-/// An output whose octets are still to be handed out.
+/// An output that is still to be handed out.
 #[derive(Drop)]
 struct Output {
-    octets: Outgoing,
+    reply: Outgoing,
     dependency: u64,
     ends: bool,
 }
 
 impl Model for Output {
-    ghost use Rattle.outbox.specs.Queue.{HeldOutput};
+    ghost use Rattle.outbox.specs.Lines.{HeldReply};
 
-    ghost Value = { HeldOutput };
+    ghost Value = { HeldReply };
 
-    ghost view = { λ o. record { octets = o.octets; dependency = o.dependency; ends = o.ends } };
+    ghost view = { λ o. record { reply = o.reply; dependency = o.dependency; ends = o.ends } };
 }
 
 impl Output {
-    fn new(octets: Outgoing, dependency: u64, ends: bool) -> Output
-        ensures { result ≡ record { octets = octets; dependency = dependency; ends = ends } }
+    fn new(reply: Outgoing, dependency: u64, ends: bool) -> Output
+        ensures { result ≡ record { reply = reply; dependency = dependency; ends = ends } }
     {
         Output {
-            octets,
+            reply,
             dependency,
             ends,
         }
@@ -53,16 +55,20 @@ impl Output {
     }
 
     /// Moves the first octets into the buffer, until that has `RELEASE_OCTETS`. Answers whether none is left.
-    fn move_into(&mut self, into: &mut Vec<u8>) -> bool
+    fn move_into<S: Source>(&mut self, source: &S, into: &mut Vec<u8>) -> bool
+        requires kept { IsKept (S.keeps source.now) self.old.reply }
         requires few { vec_len into.old ≤ 65_536 }
         requires room { 65_536 ≤ vec_capacity into.old }
-        ensures whole { result ≡ nat_le (length self.old.octets) (65_536 - length into.old.items) }
-        ensures moved { into.new.items ≡ into.old.items ++ take (65_536 - length into.old.items) self.old.octets }
-        ensures left { self.new ≡ cut_at (65_536 - length into.old.items) self.old }
+        ensures whole { result ≡ nat_le (length (whole (S.octets_of source.now) self.old.reply)) (65_536 - length into.old.items) }
+        ensures moved { into.new.items ≡ into.old.items
+            ++ take (65_536 - length into.old.items) (whole (S.octets_of source.now) self.old.reply) }
+        ensures left { output_of (S.octets_of source.now) self.new
+            ≡ cut_at (65_536 - length into.old.items) (output_of (S.octets_of source.now) self.old) }
+        ensures kept { IsKept (S.keeps source.now) self.new.reply }
         ensures bound { vec_len into.new ≤ 65_536 }
         ensures capacity { 65_536 ≤ vec_capacity into.new }
     {
-        self.octets.move_into(into)
+        self.reply.move_into(source, into)
     }
 }
 
@@ -76,7 +82,7 @@ pub struct Queue {
 }
 
 impl Model for Queue {
-    ghost use Rattle.outbox.specs.Queue.{QueueView};
+    ghost use Rattle.outbox.specs.Lines.{QueueView};
 
     ghost Value = { QueueView };
 
@@ -113,28 +119,28 @@ impl Queue {
     }
 
     /// Puts an output after the others. It takes no memory.
-    pub fn push(&mut self, octets: Outgoing, dependency: u64, ends: bool)
+    pub fn push(&mut self, reply: Outgoing, dependency: u64, ends: bool)
         requires room { 1 ≤ self.old.room }
-        requires countable { buffered self.old.held + length octets < 2 ^ 64 }
+        requires countable { octets_waiting self.old.held + size reply < 2 ^ 64 }
         ensures given { self.new.given ≡ self.old.given }
-        ensures held { self.new.held ≡ self.old.held ++ record { octets = octets; dependency = dependency; ends = ends } ∷ [] }
+        ensures held { self.new.held ≡ self.old.held ++ record { reply = reply; dependency = dependency; ends = ends } ∷ [] }
         ensures room { self.new.room + 1 ≡ self.old.room }
     {
-        self.buffered += octets.len();
+        self.buffered += reply.len();
         self.outputs
-            .push_back_reserved(Output::new(octets, dependency, ends));
+            .push_back_reserved(Output::new(reply, dependency, ends));
     }
 
-    /// The number of octets still to be handed out.
+    /// The number of octets still to be handed out, made or not.
     pub fn buffered(&self) -> u64
-        ensures { result ≡ buffered self.now.held }
+        ensures { result ≡ octets_waiting self.now.held }
     {
         self.buffered
     }
 
     /// The dependency of the last output, even if that was handed out; 0 if there was none.
     pub fn last_dependency(&self) -> u64
-        ensures { result ≡ last_dependency self.now.given self.now.held }
+        ensures { result ≡ last_depends self.now.given self.now.held }
     {
         match self.outputs.back() {
             Some(last) => last.dependency(),
@@ -150,18 +156,31 @@ impl Queue {
     }
 
     /// Moves the first outputs that depend on at most `durable` changes into the buffer, in order and as this session's
-    /// entry, until the buffer has no more room for octets. The last output may be cut. Answers whether the session
-    /// ends. It takes no memory.
-    pub fn give(&mut self, number: u64, durable: u64, into: &mut ReadyBuf) -> bool
-        requires { length into.old < 64 }
-        ensures ended { result ≡ (give durable (65_536 - octets_in into.old) self.old.given self.old.held).ended }
-        ensures entries { into.new ≡ into.old ++ entry_of number (give durable (65_536 - octets_in into.old) self.old.given self.old.held) }
-        ensures given { self.new.given ≡ (give durable (65_536 - octets_in into.old) self.old.given self.old.held).given }
-        ensures held { self.new.held ≡ (give durable (65_536 - octets_in into.old) self.old.given self.old.held).held }
+    /// entry, until the buffer has no more room for octets. The last output may be cut. The source makes their lines.
+    /// Answers whether the session ends. It takes no memory.
+    pub fn give<S: Source>(
+        &mut self,
+        source: &S,
+        number: u64,
+        durable: u64,
+        into: &mut ReadyBuf,
+    ) -> bool
+        requires few { length into.old < 4096 }
+        requires kept { AllAreKept (S.keeps source.now) self.old.held }
+        ensures ended { result ≡ (give durable (65_536 - octets_in into.old) self.old.given
+            (outputs_of (S.octets_of source.now) self.old.held)).ended }
+        ensures entries { into.new ≡ into.old ++ entry_of number (give durable (65_536 - octets_in into.old) self.old.given
+            (outputs_of (S.octets_of source.now) self.old.held)) }
+        ensures given { self.new.given ≡ (give durable (65_536 - octets_in into.old) self.old.given
+            (outputs_of (S.octets_of source.now) self.old.held)).given }
+        ensures held { outputs_of (S.octets_of source.now) self.new.held
+            ≡ (give durable (65_536 - octets_in into.old) self.old.given (outputs_of (S.octets_of source.now) self.old.held)).held }
+        ensures kept { AllAreKept (S.keeps source.now) self.new.held }
         ensures room { self.new.room + length self.new.held ≡ self.old.room + length self.old.held }
     {
         let start = into.octets.len();
         let ended = give_front(
+            source,
             &mut self.outputs,
             &mut self.given,
             durable,
@@ -176,16 +195,20 @@ impl Queue {
 
 /// Appends the octets of the first outputs that depend on at most `durable` changes, until there are `RELEASE_OCTETS`.
 /// It keeps the dependency of the last output that was moved whole, and answers whether that one ends the session.
-fn give_front(
+fn give_front<S: Source>(
+    source: &S,
     outputs: &mut VecDeque<Output>,
     given: &mut u64,
     durable: u64,
     octets: &mut Vec<u8>,
 ) -> bool
+    requires kept { AllAreKept (S.keeps source.now) outputs.old.items }
     requires few { vec_len octets.old ≤ 65_536 }
     requires room { 65_536 ≤ vec_capacity octets.old }
-    ensures gives { IsGiven (give durable (65_536 - length octets.old.items) given.old outputs.old.items) result given.new
-        outputs.new.items octets.old.items octets.new.items }
+    ensures gives { IsGiven (give durable (65_536 - length octets.old.items) given.old
+        (outputs_of (S.octets_of source.now) outputs.old.items)) result given.new
+        (outputs_of (S.octets_of source.now) outputs.new.items) octets.old.items octets.new.items }
+    ensures kept { AllAreKept (S.keeps source.now) outputs.new.items }
     ensures bound { vec_len octets.new ≤ 65_536 }
     ensures room { 65_536 ≤ vec_capacity octets.new }
     ensures capacity { deque_capacity outputs.new ≡ deque_capacity outputs.old }
@@ -197,7 +220,7 @@ fn give_front(
         if dependency > durable || octets.len() == RELEASE_OCTETS {
             break;
         }
-        if !outputs[0].move_into(octets) {
+        if !outputs[0].move_into(source, octets) {
             break;
         }
         *given = dependency;

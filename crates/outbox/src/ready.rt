@@ -59,7 +59,7 @@ impl ReadyBuf {
     /// The number of entries. They and their octets never exceed the room.
     pub fn len(&self) -> usize
         ensures len { result ≡ length self.now }
-        ensures few { length self.now ≤ 64 }
+        ensures few { length self.now ≤ 4096 }
         ensures short { octets_in self.now ≤ 65_536 }
     {
         self.slots.len()

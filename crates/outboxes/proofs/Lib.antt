@@ -1,3 +1,4 @@
+pub mod Plain
 pub mod Places
 pub mod Rising
 pub mod Releases

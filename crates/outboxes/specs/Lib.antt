@@ -1,2 +1,3 @@
-pub mod Sessions
 pub mod Outbox
+pub mod Plain
+pub mod Sessions

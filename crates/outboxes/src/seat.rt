@@ -5,7 +5,7 @@ ghost use Rattle.outbox.specs.Queue.{buffered, entry_of, give, last_dependency, 
 ghost use Rattle.outboxes.specs.Sessions.{after_giving, is_holding, silent, with_output};
 ghost use Rattle.outboxes.specs.Outbox.{session_in};
 
-use outbox::{Outgoing, Queue, ReadyBuf};
+use outbox::{NoLines, Outgoing, Queue, ReadyBuf};
 use std::alloc::{AllocError, Global};
 use std::marker::Model;
 
@@ -18,10 +18,13 @@ pub(crate) struct Seat {
 
 impl Model for Seat {
     ghost use Rattle.outboxes.specs.Outbox.{Kept};
+    ghost use Rattle.outboxes.specs.Plain.{IsMade, outputs_in};
 
     ghost Value = { Kept };
 
-    ghost view = { λ s. record { number = s.number; given = s.queue.given; held = s.queue.held; room = s.queue.room } };
+    ghost view = { λ s. record { number = s.number; given = s.queue.given; held = outputs_in s.queue; room = s.queue.room } };
+
+    ghost invariant = { λ s. IsMade s.queue };
 }
 
 impl Seat {
@@ -91,7 +94,7 @@ impl Seat {
         ensures room { self.old.room ≤ self.new.room }
     {
         if !self.queue.is_empty() {
-            self.queue.give(self.number, durable, into);
+            self.queue.give(&NoLines, self.number, durable, into);
         }
     }
 }

@@ -47,9 +47,11 @@ pub record Replied : Type 0 where
 -- a step, with the change that files its article
 abbrev pub said : Step → Replied
 said s = record {
-  answered = answered
-      (record { reply = s.answered.answer.reply; next = s.answered.answer.next; change = option_map change_of s.accepted })
-      s.answered.reads;
+  answered = record {
+    answer = record { reply = s.answered.answer.reply; next = s.answered.answer.next; change = option_map change_of s.accepted };
+    reads = s.answered.reads;
+    lines = s.answered.lines;
+  };
   mark = s.mark;
 }
 

@@ -5,7 +5,7 @@ ghost use Rattle.model.specs.Answer as answers;
 ghost use Rattle.model.specs.Reads.{group_reads, numbers_reads, selected_reads};
 ghost use Rattle.model.specs.Spool.{contents, contents_if_here, last_naming};
 ghost use Rattle.lookups.specs.Held.{IsCounts};
-ghost use Rattle.replies.specs.Answered.{answered, replied, with_group};
+ghost use Rattle.replies.specs.Answered.{answered, replied_with, with_group};
 ghost use Rattle.reading_commands.specs.Words.{counted};
 
 use crate::ranges::{self, numbers_in};
@@ -59,8 +59,8 @@ fn selects(
     reply: Outgoing,
 ) -> Result<Answered, AllocError>
     requires { 1 ≤ counts.low }
-    ensures { IfOk result (λ r. r ≡ answered
-        (replied reply (with_group session.now group counts.low (counts.high + 1 - counts.low))) counts.last) }
+    ensures { IfOk result (λ r. r ≡ replied_with reply (with_group session.now group counts.low (counts.high + 1 - counts.low))
+        counts.last) }
 {
     let next = selecting(alloc, session, group, counts.low, count(counts))?;
     Ok(outgoing(reply, next, counts.last))

@@ -7,12 +7,13 @@ ghost use Rattle.model.specs.Reads.{id_reads, over_reads, selected_reads};
 ghost use Rattle.model.specs.Replies.{block, overview_follows};
 ghost use Rattle.model.specs.Spool.{by_id, contents, here_by_id, last_naming};
 ghost use Rattle.lookups.specs.Held.{article_of, article_with, text_of};
-ghost use Rattle.replies.specs.Answered.{answered};
+ghost use Rattle.replies.specs.Answered.{Answers, answered};
 
 use crate::ranges::numbers_in;
 use lookups::{LookUps, counts_of, find_number, locate_id};
 use model::{Range, Session, Wanted};
-use replies::{Answered, Heading, Reply, push_end, push_heading, says, says_line};
+use outbox::Outgoing;
+use replies::{Answered, Heading, Reply, copy, outgoing, push_end, push_heading, says, says_line};
 use std::alloc::{AllocError, Global};
 
 /// OVER, of the articles that it asks for (RFC 3977, section 8.3).
@@ -22,8 +23,8 @@ pub fn over<L: LookUps>(
     session: &Session,
     wanted: &Wanted,
 ) -> Result<Answered, AllocError>
-    ensures { IfOk result (λ r. r ≡ answered (answers.over_answer (L.changes spool.now) session.now wanted.now)
-        (over_reads (L.changes spool.now) session.now wanted.now)) }
+    ensures { IfOk result (λ r. Answers (L.octets_of spool.now) (L.keeps spool.now) r
+        (answers.over_answer (L.changes spool.now) session.now wanted.now) (over_reads (L.changes spool.now) session.now wanted.now)) }
 {
     match wanted {
         Wanted::Current => over_current(alloc, spool, session),
@@ -67,14 +68,14 @@ fn current_in<L: LookUps>(
     }
 }
 
-/// OVER with a range: a line for each of its articles (RFC 3977, section 8.3).
+/// OVER with a range: a line for each of its articles, made as it is handed out (RFC 3977, section 8.3).
 fn over_range<L: LookUps>(
     alloc: Global,
     spool: &L,
     session: &Session,
     range: &Range,
 ) -> Result<Answered, AllocError>
-    ensures { IfOk result (λ r. r ≡ answered
+    ensures { IfOk result (λ r. Answers (L.octets_of spool.now) (L.keeps spool.now) r
         (answers.in_selected (L.changes spool.now) session.now session.now.group (λ g. answers.over_range session.now range.now))
         (selected_reads (L.changes spool.now) session.now.group)) }
 {
@@ -91,8 +92,8 @@ fn range_in<L: LookUps>(
     group: &[u8],
     range: &Range,
 ) -> Result<Answered, AllocError>
-    ensures { IfOk result (λ r. r ≡ answered (answers.over_range session.now range.now (contents (L.changes spool.now) group.now))
-        (last_naming (L.changes spool.now) group.now)) }
+    ensures { IfOk result (λ r. Answers (L.octets_of spool.now) (L.keeps spool.now) r
+        (answers.over_range session.now range.now (contents (L.changes spool.now) group.now)) (last_naming (L.changes spool.now) group.now)) }
 {
     let counts = counts_of(spool, group);
     let numbers = numbers_in(range, counts);
@@ -101,9 +102,9 @@ fn range_in<L: LookUps>(
     }
     let mut reply = Vec::new(alloc);
     push_heading(&mut reply, Heading::Overview)?;
-    spool.push_overviews(group, numbers.first, numbers.last, &mut reply)?;
-    push_end(&mut reply)?;
-    says(alloc, session, reply, counts.last)
+    let lines = spool.overview_lines(group, numbers.first, numbers.last);
+    let reply = Outgoing::lined(reply, lines)?;
+    Ok(outgoing(reply, copy(alloc, session)?, counts.last))
 }
 
 /// OVER with a message-id (RFC 3977, section 8.3).

@@ -1,2 +1,3 @@
 mod Dots
 pub mod Pieced
+pub mod Lined

@@ -2,7 +2,7 @@
 
 ghost use Rattle.std.specs.Prelude.{◌≡◌, IfOk};
 ghost use Rattle.model.specs.Answer as answers;
-ghost use Rattle.replies.specs.Answered.{answered, replied, with_group};
+ghost use Rattle.replies.specs.Answered.{answered, replied, replied_with, reply_of, with_group};
 ghost use Rattle.replies.specs.Replies.{sent, sent_block};
 
 use crate::blocks::push_block;
@@ -23,25 +23,26 @@ pub struct Answered {
 }
 
 impl Model for Answered {
-    ghost use Rattle.std.specs.Prelude.{None};
     ghost use Rattle.replies.specs.Answered.{Answered as AnsweredView};
 
     ghost Value = { AnsweredView };
 
-    ghost view = { λ a. record { answer = record { reply = a.reply; next = a.next; change = None }; reads = a.reads } };
+    ghost use Rattle.replies.specs.Answered.{replied_with};
+
+    ghost view = { λ a. replied_with a.reply a.next a.reads };
 }
 
 impl Answered {
     /// The same answer, of which it is said that it reads this.
     pub fn reading(self, reads: u64) -> Answered
-        ensures { result ≡ answered self.answer reads }
+        ensures { result ≡ record { answer = self.answer; reads = reads; lines = self.lines } }
     {
         Answered { reads, ..self }
     }
 
     /// The reply, the session afterwards, and the greatest serial that the answer reads.
     pub fn into_parts(self) -> (Outgoing, Session, u64)
-        ensures reply { result.0 ≡ self.answer.reply }
+        ensures reply { result.0 ≡ reply_of self }
         ensures next { result.1 ≡ self.answer.next }
         ensures reads { result.2 ≡ self.reads }
     {
@@ -59,7 +60,7 @@ pub fn answer(reply: Vec<u8>, next: Session, reads: u64) -> Answered
 
 /// The same with a reply that may not be made whole.
 pub fn outgoing(reply: Outgoing, next: Session, reads: u64) -> Answered
-    ensures { result ≡ answered (replied reply next) reads }
+    ensures { result ≡ replied_with reply next reads }
 {
     Answered { reply, next, reads }
 }

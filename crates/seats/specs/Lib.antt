@@ -1,3 +1,4 @@
 pub mod Seats
+pub mod Lined
 pub mod Kept
 pub mod Serving

@@ -1,10 +1,12 @@
 //! The sessions and their outputs. `specs/Seats.antt` says what callers see of a session and what each call does to it,
-//! `specs/Kept.antt` what the invariant of the sessions is.
+//! `specs/Lined.antt` what a session holds before its lines are made, and `specs/Kept.antt` what the invariant of the
+//! sessions is.
 #![tactic(auto)]
 
 ghost use Rattle.std.specs.Prelude.{Some, IfSome, IsNone, None, is_none, ℕ, find, not, slice_get, ◌==◌, ◌≡◌, ◌<◌, ◌≤◌, ◌+◌};
 ghost use Rattle.std.specs.Prelude.{◌++◌, ◌∷◌, [], max, IfOk, OnErr, OnOk, length};
-ghost use Rattle.seats.specs.Seats.{Seat as SeatView, answered_by, given_of, holds, new_seat, ready, ready_of, seat_given};
+ghost use Rattle.seats.specs.Seats.{Seat as SeatView, given_of, holds, ready, ready_of, seat_given};
+ghost use Rattle.seats.specs.Lined.{AllAreLined, LinedSeat, RiseAbove, SeatIsLined, all_seen, answered_with, begun, seen};
 ghost use Rattle.seats.specs.Kept.{RiseFrom};
 ghost use Rattle.seats.specs.Serving.{SeatServed};
 ghost use Rattle.model.specs.Lawful.{IsLawfulSession};
@@ -12,11 +14,14 @@ ghost use Rattle.model.specs.Service.{mode_of};
 ghost use Rattle.model.specs.Spool.{Spool as Changes};
 ghost use Rattle.model.specs.Stream.{Octets};
 ghost use Rattle.model.specs.declared.message.Message.{Message as MessageView};
-ghost use Rattle.outbox.specs.Queue.{buffered, entry_of, last_dependency};
+ghost use Rattle.outbox.specs.Lines.{last_depends, octets_waiting, plain};
+ghost use Rattle.outbox.specs.Queue.{entry_of};
+ghost use Rattle.replies.specs.Answered.{reply_of};
+ghost use Rattle.model.specs.Answer.{answer};
 
 use change_spool::ChangeSpool;
 use model::{Awaits, Mark, Mode, Moment, Session};
-use outbox::{Outgoing, Queue, ReadyBuf};
+use outbox::{Outgoing, Queue, ReadyBuf, Source};
 use plain_commands::stopped;
 use replies::{Answered, push_greeting};
 use session::{Received, Served, serve};
@@ -42,9 +47,9 @@ impl Drop for Seat {
 }
 
 impl Model for Seat {
-    ghost use Rattle.seats.specs.Seats.{Seat as SeatView};
+    ghost use Rattle.seats.specs.Lined.{LinedSeat};
 
-    ghost Value = { SeatView };
+    ghost Value = { LinedSeat };
 
     ghost view = { λ s. record { number = s.number; session = s.session; given = s.queue.given; held = s.queue.held } };
 }
@@ -52,7 +57,7 @@ impl Model for Seat {
 impl Seat {
     /// A session that has just begun, with its greeting, which depends on nothing. Refused only for want of memory.
     pub fn new(alloc: Global, number: u64, host: &[u8]) -> Result<Seat, AllocError>
-        ensures { IfOk result (λ seat. seat ≡ new_seat host.now number) }
+        ensures { IfOk result (λ seat. seat ≡ begun host.now number) }
     {
         let mut greeting = Vec::new(alloc);
         push_greeting(&mut greeting, host)?;
@@ -84,9 +89,9 @@ impl Seat {
         mode_of(&self.session.awaits)
     }
 
-    /// The number of octets held.
+    /// The number of octets held, made or not.
     pub fn buffered(&self) -> u64
-        ensures { result ≡ buffered self.now.held }
+        ensures { result ≡ octets_waiting self.now.held }
     {
         self.queue.buffered()
     }
@@ -102,9 +107,11 @@ impl Seat {
         moment: Moment,
     ) -> Result<(Option<Mode>, Mark), AllocError>
         requires session { IsLawfulSession (S.host_of spool.old) self.old.session }
-        requires room { buffered self.old.held < 1_048_576 }
+        requires room { octets_waiting self.old.held < 1_048_576 }
         ensures ok { IfOk result (SeatServed (S.host_of spool.old) (S.changes spool.old) (S.lacks_room spool.old)
-            (S.adds spool.old spool.new) (spool.new ≡ spool.old) self.old self.new received.entry moment) }
+            (S.adds spool.old spool.new) (spool.new ≡ spool.old) (seen (S.octets_of spool.new) self.old)
+            (seen (S.octets_of spool.new) self.new) received.entry moment) }
+        ensures lined { OnOk result (SeatIsLined (S.keeps spool.new) self.old → SeatIsLined (S.keeps spool.new) self.new) }
         ensures seat { OnErr result (self.new ≡ self.old) }
         ensures spool { OnErr result (spool.new ≡ spool.old) }
     {
@@ -114,15 +121,19 @@ impl Seat {
         Ok((mode, mark))
     }
 
-    /// Moves the outputs that depend on at most `durable` changes into the buffer, as this session's entry. Answers
-    /// whether the session ends with them.
-    pub fn give(&mut self, durable: u64, into: &mut ReadyBuf) -> bool
-        requires { length into.old < 64 }
-        ensures ended { result ≡ (given_of durable into.old self.old).ended }
-        ensures entries { into.new ≡ into.old ++ entry_of self.old.number (given_of durable into.old self.old) }
-        ensures seat { self.new ≡ seat_given self.old (given_of durable into.old self.old) }
+    /// Moves the outputs that depend on at most `durable` changes into the buffer, as this session's entry. The source
+    /// makes their lines. Answers whether the session ends with them.
+    pub fn give<S: Source>(&mut self, source: &S, durable: u64, into: &mut ReadyBuf) -> bool
+        requires few { length into.old < 4096 }
+        requires lined { SeatIsLined (S.keeps source.now) self.old }
+        ensures ended { result ≡ (given_of durable into.old (seen (S.octets_of source.now) self.old)).ended }
+        ensures entries { into.new ≡ into.old
+            ++ entry_of self.old.number (given_of durable into.old (seen (S.octets_of source.now) self.old)) }
+        ensures seat { seen (S.octets_of source.now) self.new ≡ seat_given (seen (S.octets_of source.now) self.old)
+            (given_of durable into.old (seen (S.octets_of source.now) self.old)) }
+        ensures lined { SeatIsLined (S.keeps source.now) self.new }
     {
-        self.queue.give(self.number, durable, into)
+        self.queue.give(source, self.number, durable, into)
     }
 
     /// Whether outputs are held.
@@ -135,9 +146,10 @@ impl Seat {
     /// Adds the reply that the service has stopped, whatever the session's message says, and closes the session.
     /// Refused only for want of memory; then nothing changes.
     pub fn stop(&mut self, alloc: Global) -> Result<(), AllocError>
-        requires room { buffered self.old.held < 1_048_576 }
+        requires room { octets_waiting self.old.held < 1_048_576 }
         ensures ok { OnOk result ((host : Octets) (S : Changes) (m : MessageView) (t : ℕ)
-            → self.new ≡ answered_by host S m t Mark.Stopped self.old) }
+            → self.new ≡ answered_with (plain (answer host S self.old.session m t Mark.Stopped).reply) host S m t Mark.Stopped
+            self.old) }
         ensures seat { OnErr result (self.new ≡ self.old) }
     {
         self.queue.reserve(1)?;
@@ -151,13 +163,13 @@ impl Seat {
 /// the answer reads and the dependency of the reply before it. Answers what the session sends next.
 fn adopt(session: &mut Session, queue: &mut Queue, answered: Answered) -> Option<Mode>
     requires room { 1 ≤ queue.old.room }
-    requires countable { buffered queue.old.held < 1_048_576 }
+    requires countable { octets_waiting queue.old.held < 1_048_576 }
     ensures mode { result ≡ mode_of answered.answer.next.awaits }
     ensures session { session.new ≡ answered.answer.next }
     ensures given { queue.new.given ≡ queue.old.given }
     ensures held { queue.new.held ≡ queue.old.held ++ record {
-      octets = answered.answer.reply;
-      dependency = max (last_dependency queue.old.given queue.old.held) answered.reads;
+      reply = reply_of answered;
+      dependency = max (last_depends queue.old.given queue.old.held) answered.reads;
       ends = is_none (mode_of answered.answer.next.awaits);
     } ∷ [] }
 {
@@ -182,30 +194,43 @@ fn mode_of(awaits: &Awaits) -> Option<Mode>
     }
 }
 
-/// The place of a session among all that exist; `None` if it does not.
+/// The place of a session among all that exist, in rising number; `None` if it does not. It is found by halving.
 pub fn position(seats: &[Seat], sid: u64) -> Option<usize>
-    ensures some { IfSome result (λ at. (seat : SeatView) × (slice_get seats.now at ≡ Some seat) × (seat.number ≡ sid)) }
-    ensures none { IsNone result → find (λ (seat : SeatView). seat.number == sid) seats.now ≡ None }
+    requires rising { RiseAbove 0 seats.now }
+    ensures some { IfSome result (λ at. (seat : LinedSeat) × (slice_get seats.now at ≡ Some seat) × (seat.number ≡ sid)) }
+    ensures none { IsNone result → find (λ (seat : LinedSeat). seat.number == sid) seats.now ≡ None }
 {
-    for (at, seat) in seats.iter().enumerate() {
-        if seat.number() == sid {
-            return Some(at);
+    let mut low = 0;
+    let mut high = seats.len();
+    while low < high {
+        let middle = low + (high - low) / 2;
+        let number = seats[middle].number();
+        if number == sid {
+            return Some(middle);
+        }
+        if number < sid {
+            low = middle + 1;
+        } else {
+            high = middle;
         }
     }
     None
 }
 
-/// Lets each session in order give what is ready, and drops those that end.
-pub fn release(seats: &mut Vec<Seat>, durable: u64, into: &mut ReadyBuf)
-    requires few { length seats.old.items ≤ 64 }
+/// Lets each session in order give what is ready, and drops those that end. The source makes their lines.
+pub fn release<S: Source>(seats: &mut Vec<Seat>, source: &S, durable: u64, into: &mut ReadyBuf)
+    requires few { length seats.old.items ≤ 4096 }
     requires empty { into.old ≡ [] }
-    ensures given { into.new ≡ (ready durable 65536 seats.old.items).entries }
-    ensures kept { seats.new.items ≡ (ready durable 65536 seats.old.items).seats }
+    requires lined { AllAreLined (S.keeps source.now) seats.old.items }
+    ensures given { into.new ≡ (ready durable 65536 (all_seen (S.octets_of source.now) seats.old.items)).entries }
+    ensures kept { all_seen (S.octets_of source.now) seats.new.items
+        ≡ (ready durable 65536 (all_seen (S.octets_of source.now) seats.old.items)).seats }
+    ensures lined { AllAreLined (S.keeps source.now) seats.new.items }
 {
     let mut at = 0;
     while at < seats.len() {
         let seat = &mut seats[at];
-        if seat.give(durable, into) {
+        if seat.give(source, durable, into) {
             seats.remove(at);
         } else {
             at += 1;
@@ -213,20 +238,31 @@ pub fn release(seats: &mut Vec<Seat>, durable: u64, into: &mut ReadyBuf)
     }
 }
 
-/// Lets one session give what is ready, after what the buffer holds, and drops the session if it ends. Nothing happens
-/// if it does not exist. Answers whether it still holds outputs.
-pub fn release_of(seats: &mut Vec<Seat>, sid: u64, durable: u64, into: &mut ReadyBuf) -> bool
-    requires rising { RiseFrom 0 seats.old.items }
-    requires room { length into.old < 64 }
-    ensures given { into.new ≡ into.old ++ (ready_of durable into.old sid seats.old.items).entries }
-    ensures kept { seats.new.items ≡ (ready_of durable into.old sid seats.old.items).seats }
-    ensures holds { result ≡ holds (find (λ (seat : SeatView). seat.number == sid) seats.new.items) }
+/// Lets one session give what is ready, after what the buffer holds, and drops the session if it ends. The source makes its
+/// lines. Nothing happens if it does not exist. Answers whether it still holds outputs.
+pub fn release_of<S: Source>(
+    seats: &mut Vec<Seat>,
+    source: &S,
+    sid: u64,
+    durable: u64,
+    into: &mut ReadyBuf,
+) -> bool
+    requires rising { RiseFrom 0 (all_seen (S.octets_of source.now) seats.old.items) }
+    requires room { length into.old < 4096 }
+    requires lined { AllAreLined (S.keeps source.now) seats.old.items }
+    ensures given { into.new ≡ into.old
+        ++ (ready_of durable into.old sid (all_seen (S.octets_of source.now) seats.old.items)).entries }
+    ensures kept { all_seen (S.octets_of source.now) seats.new.items
+        ≡ (ready_of durable into.old sid (all_seen (S.octets_of source.now) seats.old.items)).seats }
+    ensures lined { AllAreLined (S.keeps source.now) seats.new.items }
+    ensures holds { result
+        ≡ holds (find (λ (seat : SeatView). seat.number == sid) (all_seen (S.octets_of source.now) seats.new.items)) }
 {
     let Some(place) = position(seats, sid) else {
         return false;
     };
     let seat = &mut seats[place];
-    let ended = seat.give(durable, into);
+    let ended = seat.give(source, durable, into);
     let holds = seat.holds();
     if ended {
         seats.remove(place);

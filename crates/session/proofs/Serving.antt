@@ -16,6 +16,7 @@ use Rattle.model.specs.declared.session.Session.{Session}
 use Rattle.replies.specs.Answered.{Answered, answered}
 use Rattle.session.specs.Served.{Grows, IsServed, lacks_room_for, mark_in}
 use Rattle.session.specs.declared.Served.{Served}
+use Rattle.outbox.specs.declared.lines.Lines.{Lines}
 
 module _ (host : Octets) (S : Spool) (x : Session) (m : Message) (t : ℕ) where
   abbrev step_mark : Bool → Mark
@@ -78,13 +79,14 @@ module _ (host : Octets) (S : Spool) (x : Session) (m : Message) (t : ℕ) where
 abbrev pub full_served : Answered → Served
 full_served answered = record { answered = answered; mark = mark.Full }
 
-pub is_full_served : (host : Octets) (S : Spool) (lacks : Change → Bool) (adds : Change → Type 0) (stays : Type 0) (x : Session)
-    (m : Message) (t : ℕ) (k : Mark) (c : Change)
+pub is_full_served : (host : Octets) (S : Spool) (made : Lines → Octets) (keeps : Lines → Type 0) (lacks : Change → Bool)
+    (adds : Change → Type 0) (stays : Type 0) (x : Session) (m : Message) (t : ℕ) (k : Mark) (c : Change)
     → k ≡ step_mark host S x m t (is_long host S x m) → (answer host S x m t k).change ≡ Some c → lacks c ≡ true → stays
-    → IsServed host S lacks adds stays x m t (full_served (answered (full_answer x x.awaits) 0))
-is_full_served host S lacks adds stays x m t k c is makes room same = record {
+    → IsServed host S made keeps lacks adds stays x m t (full_served (answered (full_answer x x.awaits) 0))
+is_full_served host S made keeps lacks adds stays x m t k c is makes room same = record {
   mark = sym (mark_filed host S x m t lacks k c true is makes room);
   reply = ap (λ (a : Answer). a.reply) (sym (full_is host S x m t));
+  kept = tt;
   next = ap (λ (a : Answer). a.next) (sym (full_is host S x m t));
   reads = sym (full_reads host S x m t);
   spool = subst (Grows adds stays) (sym (ap (λ (a : Answer). a.change) (full_is host S x m t) ∙ full_none host S x m t)) same;

@@ -9,6 +9,9 @@ use Rattle.model.specs.declared.message.Message.{Message}
 use Rattle.model.specs.declared.message.Mark.{Mark}
 use Rattle.model.specs.declared.message.Mark.TheVariants as mark
 use Rattle.model.specs.declared.session.Session.{Session}
+use Rattle.outbox.specs.Lines.{IsKept, whole}
+use Rattle.outbox.specs.declared.lines.Lines.{Lines}
+use Rattle.replies.specs.Answered.{reply_of}
 use Rattle.change_spool.specs.declared.FilingError.{FilingError}
 use Rattle.change_spool.specs.declared.FilingError.TheVariants as error
 use Rattle.session.specs.declared.Served.{Served}
@@ -35,10 +38,12 @@ abbrev pub IsFiled : (Change → Bool) → (Change → Type 0) → Type 0 → Ch
 IsFiled lacks adds stays c result = MatchResult result (λ done. (lacks c ≡ false) × adds c)
     (λ e. (e ≡ error.Full → lacks c ≡ true) × stays)
 
-pub record IsServed (host : Octets) (S : Spool) (lacks : Change → Bool) (adds : Change → Type 0) (stays : Type 0) (x : Session)
-    (m : Message) (t : ℕ) (served : Served) : Type 0 where
+-- The reply is the answer's, with its lines made by the spool as it is afterwards, which has them.
+pub record IsServed (host : Octets) (S : Spool) (made : Lines → Octets) (keeps : Lines → Type 0) (lacks : Change → Bool)
+    (adds : Change → Type 0) (stays : Type 0) (x : Session) (m : Message) (t : ℕ) (served : Served) : Type 0 where
   pub mark : served.mark ≡ mark_in host S lacks x m t
-  pub reply : served.answered.answer.reply ≡ (answer host S x m t served.mark).reply
+  pub reply : whole made (reply_of served.answered) ≡ (answer host S x m t served.mark).reply
+  pub kept : IsKept keeps (reply_of served.answered)
   pub next : served.answered.answer.next ≡ (answer host S x m t served.mark).next
   pub reads : served.answered.reads ≡ reads host S x m t served.mark
   pub spool : Grows adds stays (answer host S x m t served.mark).change

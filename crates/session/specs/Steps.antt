@@ -1,5 +1,5 @@
 -- The step that a message takes, by what the session awaits.
-use Rattle.std.specs.Prelude.{ℕ, if◌then◌else◌}
+use Rattle.std.specs.Prelude.{◌≡◌, ℕ, IsSome, None, if◌then◌else◌}
 use Rattle.model.specs.Stream.{Octets}
 use Rattle.model.specs.Answer.{awaiting, is_long_by, says, served}
 use Rattle.model.specs.Reads.{served_reads}
@@ -11,10 +11,17 @@ use Rattle.model.specs.declared.session.Awaits.{Awaits}
 use Rattle.model.specs.declared.session.Awaits.TheVariants as awaits
 use Rattle.model.specs.declared.session.Session.{Session}
 use Rattle.posting_commands.specs.Outcomes.{Replied, said_served}
-use Rattle.replies.specs.Answered.{answered}
+use Rattle.outbox.specs.declared.lines.Lines.{Lines}
+use Rattle.replies.specs.Answered.{Answers, answered}
 
 -- an article that would be too long as it is stored is refused and marked `Long`; everything else is served
 abbrev pub step_of : Octets → Spool → Session → ℕ → Awaits → Message → Replied
 step_of host S x t what m =
     if is_long_by host S what m then record { answered = answered (says (awaiting x awaits.Line) not_accepted) 0; mark = mark.Long }
     else said_served (answered (served host S x t what m) (served_reads host S x t what m))
+
+-- what is said is this step with its lines made, which the source has; a change comes with no lines
+pub record IsStep (made : Lines → Octets) (keeps : Lines → Type 0) (said step : Replied) : Type 0 where
+  pub answers : Answers made keeps said.answered step.answered.answer step.answered.reads
+  pub mark : said.mark ≡ step.mark
+  pub unlined : IsSome said.answered.answer.change → said.answered.lines ≡ None

@@ -4,7 +4,7 @@ ghost use Rattle.std.specs.Prelude.{◌≡◌, IfOk};
 ghost use Rattle.grammar.specs.Arguments.{IsInGrammar};
 ghost use Rattle.model.specs.Answer.{command_answer};
 ghost use Rattle.model.specs.Reads.{command_reads};
-ghost use Rattle.replies.specs.Answered.{answered};
+ghost use Rattle.replies.specs.Answered.{Answers};
 
 use listing_commands::{list, newgroups, newnews};
 use lookups::LookUps;
@@ -25,7 +25,8 @@ pub(crate) fn command<L: LookUps>(
     moment: Moment,
 ) -> Result<Answered, AllocError>
     requires { IsInGrammar command }
-    ensures { IfOk result (λ r. r ≡ answered (command_answer (L.host_of spool.now) (L.changes spool.now) session.now moment command)
+    ensures { IfOk result (λ r. Answers (L.octets_of spool.now) (L.keeps spool.now) r
+        (command_answer (L.host_of spool.now) (L.changes spool.now) session.now moment command)
         (command_reads (L.host_of spool.now) (L.changes spool.now) session.now moment command)) }
 {
     match command {

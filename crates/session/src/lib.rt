@@ -41,8 +41,8 @@ pub fn serve<S: ChangeSpool>(
     moment: Moment,
 ) -> Result<Served, AllocError>
     requires { IsLawfulSession (S.host_of spool.old) session.now }
-    ensures ok { IfOk result (IsServed (S.host_of spool.old) (S.changes spool.old) (S.lacks_room spool.old) (S.adds spool.old spool.new)
-        (spool.new ≡ spool.old) session.now received.entry moment) }
+    ensures ok { IfOk result (IsServed (S.host_of spool.old) (S.changes spool.old) (S.octets_of spool.new) (S.keeps spool.new)
+        (S.lacks_room spool.old) (S.adds spool.old spool.new) (spool.new ≡ spool.old) session.now received.entry moment) }
     ensures err { OnErr result (spool.new ≡ spool.old) }
 {
     lawful_stays();

@@ -5,11 +5,11 @@ ghost use Rattle.model.specs.Answer.{awaiting, line_answer, says};
 ghost use Rattle.model.specs.Commands.{parsed_line};
 ghost use Rattle.model.specs.Reads.{line_reads};
 ghost use Rattle.model.specs.declared.session.Awaits.TheVariants as waits;
-ghost use Rattle.replies.specs.Answered.{answered};
+ghost use Rattle.replies.specs.Answered.{Answers, answered};
 ghost use Rattle.model.specs.Replies.{syntax_error};
 ghost use Rattle.replies.specs.Replies.{sent};
 ghost use Rattle.posting_commands.specs.Outcomes.{said, said_served};
-ghost use Rattle.session.specs.Steps.{step_of};
+ghost use Rattle.session.specs.Steps.{IsStep, step_of};
 
 use crate::Received;
 use crate::commands::command;
@@ -48,7 +48,7 @@ fn line<L: LookUps>(
     text: &[u8],
     moment: Moment,
 ) -> Result<Answered, AllocError>
-    ensures { IfOk result (λ r. r ≡ answered
+    ensures { IfOk result (λ r. Answers (L.octets_of spool.now) (L.keeps spool.now) r
         (line_answer (L.host_of spool.now) (L.changes spool.now) session.now moment (parsed_line text.now))
         (line_reads (L.host_of spool.now) (L.changes spool.now) session.now moment (parsed_line text.now))) }
 {
@@ -69,8 +69,8 @@ pub(crate) fn at_line<'m, L: LookUps>(
     message: &'m Message,
     moment: Moment,
 ) -> Result<Step<'m>, AllocError>
-    ensures { IfOk result (λ step. said step
-        ≡ step_of (L.host_of spool.now) (L.changes spool.now) session.now moment waits.Line message.now) }
+    ensures { IfOk result (λ step. IsStep (L.octets_of spool.now) (L.keeps spool.now) (said step)
+        (step_of (L.host_of spool.now) (L.changes spool.now) session.now moment waits.Line message.now)) }
 {
     match message {
         Message::Line(text) => {

@@ -1,12 +1,14 @@
 //! The step of a session: the answer to one message, its mark, and what it reads. `specs/Answer.antt` and
 //! `specs/Reads.antt` of the crate `model` say what each step is. Each call is refused only for want of memory.
 
-ghost use Rattle.std.specs.Prelude.{◌≡◌, IfOk, if◌then◌else◌};
+ghost use Rattle.std.specs.Prelude.{◌≡◌, IfOk, IsSome, None, if◌then◌else◌};
 ghost use Rattle.model.specs.Answer as answers;
 ghost use Rattle.model.specs.Reads.{reads};
 ghost use Rattle.model.specs.declared.message.Mark.TheVariants as mark;
+ghost use Rattle.outbox.specs.Lines.{IsKept};
 ghost use Rattle.posting_commands.specs.Outcomes.{said};
-ghost use Rattle.session.specs.Steps.{step_of};
+ghost use Rattle.replies.specs.Answered.{made_answer, reply_of};
+ghost use Rattle.session.specs.Steps.{IsStep, step_of};
 
 use crate::Received;
 use crate::messages::{at_ihave, at_line, at_nothing, at_post};
@@ -26,8 +28,10 @@ pub(crate) fn step<'m, L: LookUps>(
     received: Received<'m>,
     moment: Moment,
 ) -> Result<Step<'m>, AllocError>
-    ensures answer { IfOk result (λ step. (said step).answered.answer ≡ answers.answer (L.host_of spool.now)
-        (L.changes spool.now) session.now received.entry moment step.mark) }
+    ensures answer { IfOk result (λ step. made_answer (L.octets_of spool.now) (said step).answered
+        ≡ answers.answer (L.host_of spool.now) (L.changes spool.now) session.now received.entry moment step.mark) }
+    ensures kept { IfOk result (λ step. IsKept (L.keeps spool.now) (reply_of step.answered)) }
+    ensures unlined { IfOk result (λ step. IsSome step.accepted → step.answered.lines ≡ None) }
     ensures reads { IfOk result (λ step. step.answered.reads ≡ reads (L.host_of spool.now)
         (L.changes spool.now) session.now received.entry moment step.mark) }
     ensures mark { IfOk result (λ step. step.mark ≡ if answers.is_long (L.host_of spool.now)
@@ -44,8 +48,8 @@ fn by_kind<'m, L: LookUps>(
     received: Received<'m>,
     moment: Moment,
 ) -> Result<Step<'m>, AllocError>
-    ensures { IfOk result (λ step. said step ≡ step_of (L.host_of spool.now) (L.changes spool.now) session.now moment session.now.awaits
-        received.entry) }
+    ensures { IfOk result (λ step. IsStep (L.octets_of spool.now) (L.keeps spool.now) (said step)
+        (step_of (L.host_of spool.now) (L.changes spool.now) session.now moment session.now.awaits received.entry)) }
 {
     let message = received.message();
     match &session.awaits {

@@ -4,3 +4,4 @@ pub mod Full
 pub mod Large
 pub mod Sound
 pub mod Texts
+pub mod Staying

@@ -5,8 +5,10 @@ use Rattle.model.specs.Indexed.{ArePlaces, FilePlaces}
 use Rattle.model.specs.Spool.{Spool, NewsGroup, group_named, high, low}
 use Rattle.model.specs.Stream.{Octets}
 use Rattle.model.proofs.Growing.{new_has_nothing}
+use Rattle.model.proofs.HoldsOne.{changes_few}
 use Rattle.index.specs.View.{IndexView}
-use Rattle.spool_texts.specs.Texts.{HasNumbers}
+use Rattle.outbox.specs.declared.lines.Lines.{Lines}
+use Rattle.spool_texts.specs.Parts.{HasLines, HasRange, IsStored, KeepsLines}
 use Rattle.volume.specs.Volume.{VolumeView}
 use Rattle.spool_growing.specs.Kept.{IsKept}
 
@@ -23,15 +25,25 @@ module _ (host : Octets) (inodes : ℕ) (volume : VolumeView) (index : IndexView
     by_name (Some g) is = refl
     by_name None is = absurd (omega (arith, above, order, below, ap length (new_has_nothing host S group kept.is.held.lawful is)))
 
-  pub has_numbers : (group : Octets) (from to : ℕ) → low S group ≤ from → from ≤ to → to ≤ high S group
-      → HasNumbers inodes volume.seen index places group from to
-  has_numbers group from to above order below =
+  stored : IsStored S
+  stored = record {
+    host = host;
+    lawful = kept.is.held.lawful;
+    few = omega (arith, changes_few host inodes volume.cache S kept.is.held, kept.is.room.few);
+  }
+
+  pub has_range : (group : Octets) (from to : ℕ) → low S group ≤ from → from ≤ to → to ≤ high S group → HasRange index group from to
+  has_range group from to above order below =
       record {
         changes = S;
+        stored = stored;
         indexed = kept.indexed;
-        placed = placed_there;
         here = here group from to above order below;
-        low = above;
+        first = omega (arith, above);
         order = order;
         high = below;
       }
+
+  pub keeps_lines : (lines : Lines) → HasLines S lines → KeepsLines inodes volume.seen index places lines
+  keeps_lines lines has =
+      record { changes = S; stored = stored; indexed = kept.indexed; placed = placed_there; has = has }

@@ -3,6 +3,7 @@
 use crate::Spool;
 use lookups::{GroupView, LookUps};
 use model::Part;
+use outbox::{Lines, Source};
 use std::alloc::AllocError;
 
 impl LookUps for Spool {
@@ -96,23 +97,8 @@ impl LookUps for Spool {
         )
     }
 
-    fn push_overviews(
-        &self,
-        group: &[u8],
-        from: u64,
-        to: u64,
-        reply: &mut Vec<u8>,
-    ) -> Result<(), AllocError> {
-        spool_texts::push_overviews(
-            &self.volume,
-            self.inodes,
-            &self.index,
-            &self.places,
-            group,
-            from,
-            to,
-            reply,
-        )
+    fn overview_lines(&self, group: &[u8], from: u64, to: u64) -> Lines {
+        spool_texts::overview_lines(&self.index, group, from, to)
     }
 
     ghost lawful = { λ s. changes_lawful s };
@@ -120,4 +106,26 @@ impl LookUps for Spool {
     ghost good_host = { λ s. named_well s };
 
     ghost few = { λ s. changes_few s };
+}
+
+/// Its lines are those of the overviews of its groups.
+impl Source for Spool {
+    ghost use Rattle.spool_texts.specs.Parts.{HasLines, lines_of};
+
+    ghost octets_of = { λ s lines. lines_of s.changes lines };
+
+    ghost keeps = { λ s lines. HasLines s.changes lines };
+
+    fn make_some(&self, lines: Lines, octets: &mut Vec<u8>) -> Option<Lines> {
+        spool_texts::push_some_lines(
+            &self.volume,
+            self.inodes,
+            &self.index,
+            &self.places,
+            lines,
+            octets,
+        )
+    }
+
+    ghost counted = { λ s lines kept. kept.octets };
 }

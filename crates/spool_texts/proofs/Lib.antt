@@ -4,3 +4,6 @@ pub mod Lines
 pub mod Groups
 pub mod Appended
 pub mod Runs
+pub mod LineSizes
+pub mod Making
+pub mod Staying

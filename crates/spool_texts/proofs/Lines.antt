@@ -39,11 +39,12 @@ numbered_at n (y ∷ xs) (suc k) x is =
 abbrev pub group_ends : Spool → Octets → List ℕ
 group_ends S g = ends_from 0 (overview_lines (filed_in S g))
 
-record Stands (S : Spool) (g : Octets) (k : ℕ) (a : NewsArticle) : Type 0 where
-  rises : line_start (group_ends S g) k ≤ get_or (group_ends S g) k 0
-  is : line_at (overview_file S g) (group_ends S g) k ≡ overview_line (k + 1) a.text
+pub record Stands (S : Spool) (g : Octets) (k : ℕ) (a : NewsArticle) : Type 0 where
+  pub rises : line_start (group_ends S g) k ≤ get_or (group_ends S g) k 0
+  pub is : line_at (overview_file S g) (group_ends S g) k ≡ overview_line (k + 1) a.text
+  pub size : get_or (group_ends S g) k 0 ≡ line_start (group_ends S g) k + length (overview_line (k + 1) a.text)
 
-stands : (S : Spool) (g : Octets) (k : ℕ) (a : NewsArticle) → slice_get (filed_in S g) k ≡ Some a → Stands S g k a
+pub stands : (S : Spool) (g : Octets) (k : ℕ) (a : NewsArticle) → slice_get (filed_in S g) k ≡ Some a → Stands S g k a
 stands S g k a at =
     let number : 1 + k ≡ k + 1 = omega arith in
     let there : slice_get (overview_lines (filed_in S g)) k ≡ Some (overview_line (k + 1) a.text) =
@@ -55,6 +56,7 @@ stands S g k a at =
     record {
       rises = omega (arith, its.1);
       is = ap (λ (m : ℕ). take m (drop (line_start (group_ends S g) k) (overview_file S g))) size ∙ its.0;
+      size = its.1;
     }
 
 pub rising : (S : Spool) (g : Octets) → LinesRise (group_ends S g) (length (filed_in S g))
@@ -83,7 +85,8 @@ all_lines S g k (suc n) fits = elim (slice_get_cases (filed_in S g) k).1 [
 ]
 
 -- the lines of the articles from one number to another
-pub between : (S : Spool) (g : Octets) (content : Octets) (ends : List ℕ) (from to : ℕ) → 1 ≤ from → from ≤ to → to ≤ length (filed_in S g)
+pub between : (S : Spool) (g : Octets) (content : Octets) (ends : List ℕ) (from to : ℕ) → 1 ≤ from → from ≤ to + 1
+    → to ≤ length (filed_in S g)
     → content ≡ overview_file S g → ends ≡ group_ends S g
     → lines_from content ends (from - 1) (to - (from - 1)) ≡ overviews_between S g from to
 between S g content ends from to some order high same also =

@@ -4,7 +4,7 @@ use Rattle.model.specs.Article.{header_lines}
 use Rattle.model.specs.Files.{IsFile, content_of, entry}
 use Rattle.model.specs.Stream.{Octets, line}
 use Rattle.model.specs.Indexed.{ArePlaces, FilePlaces, line_start}
-use Rattle.model.specs.Spool.{Spool, group_named, high, low}
+use Rattle.model.specs.Spool.{Spool}
 use Rattle.lookups.specs.Held.{article_with, text_of}
 use Rattle.header_fields.specs.Header.{IsHeader}
 use Rattle.index.specs.View.{IndexView, Indexes}
@@ -16,17 +16,6 @@ pub record HasArticle (inodes : ℕ) (blocks : List Octets) (index : IndexView) 
   pub indexed : Indexes changes index
   pub placed : ArePlaces inodes blocks changes places
   pub there : IsSome (article_with changes serial)
-
--- index and places are those of some changes, in which the group exists and has these numbers
-pub record HasNumbers (inodes : ℕ) (blocks : List Octets) (index : IndexView) (places : FilePlaces) (group : Octets)
-    (from to : ℕ) : Type 0 where
-  pub changes : Spool
-  pub indexed : Indexes changes index
-  pub placed : ArePlaces inodes blocks changes places
-  pub here : IsSome (group_named changes group)
-  pub low : low changes group ≤ from
-  pub order : from ≤ to
-  pub high : to ≤ high changes group
 
 -- ---- a text in its file
 

@@ -10,6 +10,7 @@ use outbox::{Outgoing, Queue, ReadyBuf};
 use session::{Received, Served, serve};
 use spool::{AddError, ExpireError, Spool};
 use std::alloc::{AllocError, Global};
+use test_support_lines::give;
 
 /// When everything is made, in seconds since 1970.
 pub const MOMENT: u64 = 1_000_000_000;
@@ -138,7 +139,8 @@ fn code_of(alloc: Global, reply: Outgoing) -> Result<Option<u64>, AllocError> {
     let _octets = reply.len();
     queue.push(reply, 0, false);
     let mut ready = ReadyBuf::new(alloc)?;
-    queue.give(0, 0, &mut ready);
+    // its first octets are made, whatever its lines are
+    give(&mut queue, 0, 0, &mut ready);
     let Some(digits) = ready.octets().get(..3) else {
         return Ok(None);
     };

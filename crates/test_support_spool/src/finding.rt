@@ -3,8 +3,12 @@
 use lookups::{LookUps, counts_of, find_id};
 use model::Part;
 use names::is_wildmat;
+use outbox::{LONGEST_LINE, RELEASE_OCTETS, Source};
 use spool::Spool;
 use std::alloc::{AllocError, Global};
+
+/// The octets of the line that ends a block.
+const END_OF_BLOCK: usize = 3;
 
 /// The question that is asked.
 #[derive(Clone, Copy)]
@@ -121,6 +125,7 @@ fn push_description(spool: &Spool, name: &[u8], text: &mut Vec<u8>) -> Result<bo
     Ok(true)
 }
 
+/// The overview lines, if they are made at once, without the line that ends the block.
 fn push_lines(
     spool: &Spool,
     name: &[u8],
@@ -129,11 +134,14 @@ fn push_lines(
     text: &mut Vec<u8>,
 ) -> Result<bool, AllocError> {
     let counts = counts_of(spool, name);
-    if from < counts.low || to < from || counts.high < to {
+    if from < counts.low || to < from || counts.high < to || text.len() > RELEASE_OCTETS {
         return Ok(false);
     }
-    spool.push_overviews(name, from, to, text)?;
-    Ok(true)
+    text.reserve(RELEASE_OCTETS + LONGEST_LINE)?;
+    let rest = spool.make_some(spool.overview_lines(name, from, to), text);
+    let end = text.len().saturating_sub(END_OF_BLOCK);
+    text.truncate(end);
+    Ok(rest.is_none())
 }
 
 fn push_new(

@@ -9,6 +9,7 @@ use memdisk::{MemDisk, Pick};
 use model::Part;
 use names::is_host;
 use new_volume::{FORMAT_2, VolumePlan, are_sizes, device_octets, format};
+use shared_kernel::SESSIONS;
 use std::alloc::Global;
 use std::marker::Model;
 use volume_format::layout::BLOCK;
@@ -273,7 +274,7 @@ impl Sim {
 }
 
 fn opened(alloc: Global, disk: MemDisk) -> Result<World<MemDisk>, Refused<MemDisk>> {
-    World::open(alloc, disk)
+    World::open(alloc, disk, SESSIONS)
 }
 
 fn stepped(

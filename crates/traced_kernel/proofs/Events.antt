@@ -252,7 +252,7 @@ IsServed-makes old new change serial m h =
 
     rest : (new.kernel.host ≡ old.kernel.host) × (new.kernel.inodes ≡ old.kernel.inodes) × (new.kernel.seats ≡ old.kernel.seats)
         × (new.kernel.durable ≡ old.kernel.durable) × (new.kernel.in_flight ≡ old.kernel.in_flight)
-        × (new.kernel.halted ≡ old.kernel.halted) × (new.kernel.joined ≡ old.kernel.joined)
+        × (new.kernel.halted ≡ old.kernel.halted) × (new.kernel.joined ≡ old.kernel.joined) × (new.kernel.most ≡ old.kernel.most)
     rest = m.kernel.rest
 
     first_is : first_spool new ≡ first_spool old

@@ -4,7 +4,7 @@ ghost use Rattle.std.specs.Prelude.{◌≡◌, ◌≤◌, [], IfOk, drop, length
 ghost use Rattle.outbox.specs.Queue.{octets_in};
 ghost use Rattle.traced_kernel.specs.Fields.{GivesOne};
 
-use outbox::{Outgoing, Queue, RELEASE_OCTETS, ReadyBuf};
+use outbox::{NoLines, Outgoing, Queue, RELEASE_OCTETS, ReadyBuf};
 use std::alloc::{AllocError, Global};
 
 /// A buffer that holds so many octets already. Refused only for want of memory.
@@ -17,7 +17,7 @@ pub(crate) fn filled(alloc: Global, count: usize) -> Result<ReadyBuf, AllocError
     let mut spare = Spare::new(alloc)?;
     let mut buffer = ReadyBuf::new(alloc)?;
     spare.queue.push(Outgoing::whole(octets), 0, false);
-    spare.queue.give(0, 0, &mut buffer);
+    spare.queue.give(&NoLines, 0, 0, &mut buffer);
     Ok(buffer)
 }
 
@@ -66,5 +66,5 @@ pub(crate) fn copy_entry(from: &ReadyBuf, place: usize, spare: Spare, into: &mut
     let (number, piece, ends) = from.entry(place);
     let _ = octets.extend_from_slice(piece);
     queue.push(Outgoing::whole(octets), 0, ends);
-    queue.give(number, 0, into);
+    queue.give(&NoLines, number, 0, into);
 }

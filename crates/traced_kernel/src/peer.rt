@@ -14,7 +14,6 @@ use crate::input::Input;
 use kernel::Kernel;
 use model::{Message, Mode};
 use outbox::{RELEASE_OCTETS, ReadyBuf};
-use shared_kernel::SESSIONS;
 use std::alloc::{AllocError, Global};
 
 /// What a session sent, and what was released to it.
@@ -125,8 +124,7 @@ pub(crate) fn make_room(kernel: &Kernel, peers: &mut Vec<Peer>) -> Result<(), Al
     ensures room { OnOk result ((k : ℕ) (seat : Seat) → slice_get kernel.now.seats k ≡ Some seat
         → HasRoom peers.new.items seat.number 65536) }
 {
-    kernel.kept();
-    for place in 0..SESSIONS {
+    for place in 0..kernel.session_count() {
         match kernel.session(place) {
             Some(number) => reserve(peers, number)?,
             None => return Ok(()),

@@ -4,7 +4,7 @@
 #![tactic(auto)]
 
 ghost use Rattle.std.specs.Prelude.{◌≢◌, IfOk, IfErr, List, ◌≡◌, ◌⊎◌, ◌≤◌, ℕ, Some, Ok, Err, true, [], MatchOption, ◌||◌};
-ghost use Rattle.std.specs.Prelude.{IsTrue, length, MatchResult};
+ghost use Rattle.std.specs.Prelude.{IsTrue, length, MatchResult, min};
 ghost use Rattle.kernel.specs.Kernel.{Tested, TestedOrMemory, admin_refusal_of, early_refusal, expire_refusal_of, mode_at};
 ghost use Rattle.model.specs.declared.change.Change.TheVariants.{Expire, Group};
 ghost use Rattle.names.specs.Requests.{group_of};
@@ -95,18 +95,19 @@ impl<D: Disk> World<D> {
         let _ = self.journal.is_idle();
     }
 
-    /// Opens the device: all its changes are durable, and nothing has happened yet. A crash during the opening leaves a
-    /// disk that stands for the spool of an image that a crash at the start might have left. The first good sync comes
-    /// before every write. After it a crash leaves the volume that a read gives, with its label and its logical blocks,
-    /// whatever they contain. A volume of format 1 is checked as one and then made one of format 2; a crash during that
-    /// leaves it in one of the two.
+    /// Opens the device: all its changes are durable, and nothing has happened yet. So many sessions may exist at a time, and 4,096
+    /// at most. A crash during the opening leaves a disk that stands for the spool of an image that a crash at the start might have
+    /// left. The first good sync comes before every write. After it a crash leaves the volume that a read gives, with its label and
+    /// its logical blocks, whatever they contain. A volume of format 1 is checked as one and then made one of format 2; a crash
+    /// during that leaves it in one of the two.
     ///
     /// A refusal keeps to this too, so it overwrites no disk, and it returns the device. `Fault` (E1) if the device
     /// failed. `Memory` (E2) if it did not, and an allocation was refused; then a read gives what it gave before, or
     /// the same volume. `NotAVolume` (E3) if the device holds no volume with a label of its size. `Damaged` (E5) if it
     /// holds one, but no lawful spool of the label's host in the files of its format.
-    pub fn open(alloc: Global, disk: D) -> Result<World<D>, Refused<D>>
+    pub fn open(alloc: Global, disk: D, most: usize) -> Result<World<D>, Refused<D>>
         ensures new { IfOk result (λ w. IsNew w) }
+        ensures most { IfOk result (λ w. (kernel_of w).most ≡ min most 4096) }
         ensures spool { IsTrue (D.device disk).tells
             → IfOk result (λ w. Stands (kernel_of w).host (D.device disk).content (kernel_of w).spool) }
         ensures during { MatchResult result (λ w. KeepsSpools (D.device disk) (D.device w.journal.disk))
@@ -139,7 +140,7 @@ impl<D: Disk> World<D> {
         ensures no_spool { IfErr result (λ refused. (refused.error ≡ OpenError.NotAVolume) ⊎ (refused.error ≡ OpenError.Damaged)
             → IsTrue (D.device disk).tells → StandsForNone (D.device disk).content) }
     {
-        let Opened { journal, kernel } = match opening::open(alloc, disk) {
+        let Opened { journal, kernel } = match opening::open(alloc, disk, most) {
             Ok(opened) => opened,
             Err(refused) => return Err(refused),
         };

@@ -1,7 +1,9 @@
-use Rattle.std.proofs.Common.{◌≡◌, ◌==◌, drop}
-use Rattle.std.specs.Prelude.{find}
-use Rattle.seats.specs.Seats.{Seat}
+use Rattle.std.proofs.Common.{◌-◌}
+use Rattle.seats.proofs.Halving.{IsBetween}
 use Rattle.seats.proofs.position.Given as goal
 
-abbrev pub invariant-loop-at : goal.invariant-loop-at
-invariant-loop-at l = find (λ (s : Seat). s.number == l.sid) l.seats ≡ find (λ (s : Seat). s.number == l.sid) (drop l.at l.seats)
+abbrev pub invariant-loop-low : goal.invariant-loop-low
+invariant-loop-low l = IsBetween l.seats l.sid l.low l.high
+
+abbrev pub decreases-loop-low : goal.decreases-loop-low
+decreases-loop-low l = l.high - l.low

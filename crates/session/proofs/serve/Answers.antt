@@ -37,10 +37,12 @@ returns-in-Err-Full-clause-ok g c =
     let its = change_of c.in-Some.accepted in
     let lacks = g.S.ChangeSpool.lacks_room s in
     let adds = g.S.ChangeSpool.adds s c.file.new.spool in
+    let made = g.S.Source.octets_of c.file.new.spool in
+    let keeps = g.S.Source.keeps c.file.new.spool in
     let makes : (answer host S x m t k).change ≡ Some its = ap (λ (a : Answer). a.change) (sym c.in_ok-answered.ensures.answer)
     ∙ ap (option_map change_of) c.in-Some.is in
     let room : lacks its ≡ true = c.in-Err-Full.ensures.0 c.in-Err-Full.field-0-is in
     let said = ap full_served c.in_ok-full-in-Err-Full.ensures in
-    subst (λ (v : Served). IsServed host S lacks adds (c.file.new.spool ≡ s) x m t v) (sym said)
-    (is_full_served host S lacks adds (c.file.new.spool ≡ s) x m t k its c.in_ok-answered.ensures.mark makes room
+    subst (λ (v : Served). IsServed host S made keeps lacks adds (c.file.new.spool ≡ s) x m t v) (sym said)
+    (is_full_served host S made keeps lacks adds (c.file.new.spool ≡ s) x m t k its c.in_ok-answered.ensures.mark makes room
     c.in-Err-Full.ensures.1)

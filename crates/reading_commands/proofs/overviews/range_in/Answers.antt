@@ -1,4 +1,4 @@
-use Rattle.std.proofs.Common.{◌≡◌, ◌+◌, ◌++◌, ◌<◌, ◌≤◌, ◌^◌, length, sym, ◌∙◌, ap, append_assoc, subst, arith}
+use Rattle.std.proofs.Common.{◌≡◌, ◌+◌, ◌++◌, ◌<◌, ◌≤◌, ◌^◌, length, sym, ◌∙◌, ap, subst, arith}
 use Rattle.std.specs.Prelude.{IfOk}
 use Rattle.model.specs.Answer as answers
 use Rattle.model.specs.Replies.{overview_follows}
@@ -7,6 +7,7 @@ use Rattle.model.specs.Stream.{dot_line, line}
 use Rattle.model.proofs.HoldsOne.{high_few}
 use Rattle.lookups.specs.Held.{overviews_between}
 use Rattle.replies.specs.Answered.{Answered, answered}
+use Rattle.replies.proofs.Lined.{lined_answers, ok_answers}
 use Rattle.reading_commands.specs.Words.{count_in, first_in, last_in}
 use Rattle.reading_commands.proofs.InGroup.{nothing_over, some_over}
 use Rattle.reading_commands.proofs.overviews.range_in.Goals as goal
@@ -22,7 +23,8 @@ returns-then-numbers g c =
     let none : count_in c.args.range.now least most ≡ 0 = omega (arith, numbers.first, numbers.last, c.if-numbers.true) in
     let nothing = nothing_over c.args.session.now c.args.range.now least most (contents S c.args.group.now) counts.low counts.high some none
     in
-    subst (λ (a : Answered). IfOk c.says_line.result (λ r. r ≡ a)) (λ i. answered (sym nothing i) (counts.last i)) c.says_line.ensures
+    ok_answers (g.L.Source.octets_of c.args.spool.now) (g.L.Source.keeps c.args.spool.now) c.says_line.result _ _
+    (subst (λ (a : Answered). IfOk c.says_line.result (λ r. r ≡ a)) (λ i. answered (sym nothing i) (counts.last i)) c.says_line.ensures)
 
 pub returns : goal.returns
 returns g c =
@@ -38,14 +40,16 @@ returns g c =
     let some : 1 ≤ least = omega (arith, counts.low) in
     let small : length (filed_in S name) + 1 < 2 ^ 64 = omega (arith, high_few S name, g.met.L.LookUps.few c.args.spool.now) in
     let any : 0 < count_in range least most = omega (arith, numbers.first, numbers.last, c.if-numbers.false) in
-    let items = c.in_ok-push_end.ensures
-    ∙ ap (λ os. os ++ dot_line) (c.in_ok-push_overviews.ensures
-    ∙ ap (λ os. os ++ overviews_between S name first last) (c.in_ok-push_heading.ensures
-    ∙ ap (λ os. os ++ line overview_follows) c.new-reply.ensures.items)) in
+    let items = c.in_ok-push_heading.ensures ∙ ap (λ os. os ++ line overview_follows) c.new-reply.ensures.items in
     let from : first ≡ first_in range (low S name) = numbers.first ∙ ap (first_in range) counts.low in
     let to : last ≡ last_in range.last (high S name) = numbers.last ∙ ap (last_in range.last) counts.high in
-    let said : answers.says c.args.session.now c.push_end.new.reply.items ≡ answers.over_range c.args.session.now range (contents S name) =
-    ap (answers.says c.args.session.now) (items ∙ append_assoc (line overview_follows) (overviews_between S name first last) dot_line
+    let made = g.L.Source.octets_of c.args.spool.now in
+    let keeps = g.L.Source.keeps c.args.spool.now in
+    let said : answers.says c.args.session.now (c.push_heading.new.reply.items ++ made c.overview_lines-lines.result)
+    ≡ answers.over_range c.args.session.now range (contents S name) =
+    ap (answers.says c.args.session.now) ((λ i. items i ++ c.overview_lines-lines.ensures.lines i)
     ∙ (λ i. line overview_follows ++ (overviews_between S name (from i) (to i) ++ dot_line)))
     ∙ sym (some_over c.args.session.now range least most (contents S name) counts.low counts.high some small any) in
-    subst (λ (a : Answered). IfOk c.says.result (λ r. r ≡ a)) (λ i. answered (said i) (counts.last i)) c.says.ensures
+    lined_answers made keeps c.outgoing.result c.args.session.now c.in_ok-copy.field-0 c.push_heading.new.reply.items
+    c.overview_lines-lines.result c.in_ok-reply.reply (answers.over_range c.args.session.now range (contents S name)) _ _
+    c.outgoing.ensures c.in_ok-reply.ensures c.in_ok-copy.ensures c.overview_lines-lines.ensures.kept said counts.last

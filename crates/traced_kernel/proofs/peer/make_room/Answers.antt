@@ -21,4 +21,4 @@ returns-in-None-clause-room c k seat is =
 pub returns-clause-room : goal.returns-clause-room
 returns-clause-room c k seat is =
     let within : k < length c.args.kernel.now.seats = slice_get_within c.args.kernel.now.seats k seat is in
-    c.loop-place.invariant.room k seat (omega (arith, c.loop-place-test.false, c.kept.ensures.few_seats)) is
+    c.loop-place.invariant.room k seat (omega (arith, c.loop-place-test.false, c.session_count-place-end.ensures)) is

@@ -1,11 +1,24 @@
-use Rattle.std.proofs.Common.{◌-◌, ap, arith, length}
+use Rattle.std.proofs.Common.{◌-◌, [], ap, arith, length}
+use Rattle.std.proofs.lemmas.List.{length-map}
+use Rattle.outbox.specs.Lines.{output_of}
 use Rattle.outbox.specs.Queue.{octets_in}
+use Rattle.outbox.specs.declared.lines.Lines.{Lines}
 use Rattle.outboxes.specs.Outbox.{Kept}
+use Rattle.outboxes.specs.Plain.{outputs_in}
 use Rattle.outboxes.proofs.Releases.{give_fewer}
 use Rattle.outboxes.proofs.seat.Seat.give.Goals as goal
 
 pub returns-then-not-is_empty-clause-room : goal.returns-then-not-is_empty-clause-room
 returns-then-not-is_empty-clause-room c =
     let q = c.self.inside.queue in
-    let fewer = give_fewer c.args.durable (65_536 - octets_in c.args.into.now) q.given q.held in
-    omega (arith, c.give.ensures.room, ap length c.give.ensures.held, fewer, ap (λ (k : Kept). k.room) c.self.view_is)
+    let fewer = give_fewer c.args.durable (65_536 - octets_in c.args.into.now) q.given (outputs_in q) in
+    let whole = output_of (λ (lines : Lines). []) in
+    omega (
+      arith,
+      c.give.ensures.room,
+      ap length c.give.ensures.held,
+      length-map q.held whole,
+      length-map c.give.new.self.held whole,
+      fewer,
+      ap (λ (k : Kept). k.room) c.self.view_is,
+    )
