@@ -1,7 +1,8 @@
 #!/usr/bin/env python3
 """System tests of volumes that live for years. lasting.py NEWSD [NAME..] [--articles N]
 
-N articles are in the volume that `a_large_volume_is_renewed` renews, 30,000 if it isn't given."""
+N articles are in the volume that `a_large_volume_is_renewed` renews, and in that of `a_night_of_a_large_volume`, 30,000 if it isn't
+given."""
 import copy
 import hashlib
 import json
@@ -15,7 +16,7 @@ import tempfile
 import threading
 import time
 
-from ages import DATING, DAY, FIRST
+from ages import DATING, DAY, FIRST, answers
 from newsd import SECONDS, Caller, article, end_with_parent, message_id
 from playing import Skipped, main
 from refusals import compile_library
@@ -31,6 +32,8 @@ KILLS = 8
 POSTS, DAYS_KEPT, SIZE = 4, 30, 60_000
 # a volume that has room for the articles of these days, and for a block of each article of a year
 SITE = {"blocks": 8192, "inodes": 4096}
+# the night of a large volume, and the days on which its articles were filed
+NIGHT, DAYS_FILED = 40, range(0, 40, 5)
 # seconds for a command on a large volume where others keep the processors busy
 LONG = 240
 
@@ -191,6 +194,83 @@ def ranges(at):
     return [(group["name"], group["low"], group["high"]) for group in json.loads(words_of(at, "status", "--json"))["groups"]]
 
 
+# ---- a night
+
+def a_night_of_a_large_volume(volume):
+    """A quarter of the articles is older than 30 days: they are taken out by the server while a caller asks for the date, and by a command;
+    then the volume is renewed in place. Says how long each takes."""
+    with tempfile.TemporaryDirectory(prefix="newsd-dating-") as folder:
+        library = compile_library(folder, DATING)
+        if library is None:
+            raise Skipped("there is no compiler for C")
+        count = articles_wanted()
+        at = volume.another("night", blocks=max(1024, count * 5 // 4 + 2048), inodes=count + count // 10 + 64 - (count + count // 10) % 64)
+        night = Night(at, library, count)
+        other = copy_of(at, "other")
+        waited, by_server = night.expire_on_server(at)
+        by_command = night.run(other, "expire", other.path, "--older-than", str(DAYS_KEPT))
+        assert at.dump() == other.dump()
+        before = usage(at)
+        renewed = night.run(at, "renew", at.path, "--in-place")
+        print("  %d articles: taken out by the server in %.2f s, during which a caller waited for %.2f s at most; by a command in %.1f s;"
+              " renewed in %.1f s; blocks %d before and %d after"
+              % (count, by_server, waited, by_command, renewed, before[0], usage(at)[0]),
+              flush=True)
+
+
+class Night:
+    """The night of a volume to which articles came on some days."""
+
+    def __init__(self, at, library, count):
+        self.library = library
+        for name in GROUPS:
+            at.make_group(name)
+        for place, day in enumerate(DAYS_FILED):
+            numbers = range(count * place // len(DAYS_FILED), count * (place + 1) // len(DAYS_FILED))
+            done = subprocess.run([*self.dated(day), at.program, "import", at.path], input=b"".join(map(small_entry, numbers)),
+                                  capture_output=True, timeout=LONG)
+            assert done.stdout.startswith(b"filed %d\n" % len(numbers)), done
+
+    def dated(self, day):
+        return ["env", "LD_PRELOAD=" + self.library, "NOW=%d" % (FIRST + day * DAY)]
+
+    def run(self, at, *words):
+        """How long a command takes."""
+        start = time.monotonic()
+        done = subprocess.run([*self.dated(NIGHT), at.program, *words], capture_output=True, timeout=LONG)
+        assert (done.returncode, done.stderr) == (0, b""), done
+        return time.monotonic() - start
+
+    def expire_on_server(self, at):
+        """How long a caller waits at most meanwhile, and how long it takes."""
+        with at.serve(by=self.dated(NIGHT)) as server, server.call() as caller:
+            waits, is_done = [], threading.Event()
+
+            def ask():
+                while not is_done.is_set():
+                    start = time.monotonic()
+                    assert caller.ask("DATE").startswith("111 ")
+                    waits.append(time.monotonic() - start)
+
+            asking = threading.Thread(target=ask, daemon=True)
+            asking.start()
+            start = time.monotonic()
+            said = answers(server, "expire-older %d" % DAYS_KEPT)
+            seconds = time.monotonic() - start
+            is_done.set()
+            asking.join()
+            assert len(said) == len(GROUPS) + 1 and said[-1].startswith("articles "), said
+            assert server.order("stop") == "stopped"
+        return max(waits), seconds
+
+
+def small_entry(number):
+    """An article of some 800 octets in the form of a batch."""
+    text = article(number, "subject %d" % number, "%070d\n" % number * 8).replace(b"\r\n", b"\n")[:-len(b".\n")]
+    text = text.replace(b"Newsgroups: x.a", b"Newsgroups: " + NAMES[number % len(NAMES)].encode())
+    return b"#! rnews %d\n%s" % (len(text), text)
+
+
 # ---- a site
 
 def forty_days_of_a_site(volume):
@@ -202,8 +282,8 @@ def a_year_of_a_site(volume):
 
 
 def site(volume, days):
-    """Posts, an expiry by age and a renewal in place each day. No number and no id comes twice, what is young stays as it is, and the
-    volume never fills, though it has room for the texts of some 60 days."""
+    """Posts, an expiry by age, by the server or by a command, and a renewal in place each day. No number and no id comes twice, what is
+    young stays as it is, and the volume never fills, though it has room for the texts of some 60 days."""
     with tempfile.TemporaryDirectory(prefix="newsd-dating-") as folder:
         library = compile_library(folder, DATING)
         if library is None:
@@ -233,6 +313,8 @@ class Lived:
     def live(self, day):
         with self.at.serve(by=self.dated(day)) as server:
             self.post(server, day)
+            if day % 2:
+                assert answers(server, "expire-older %d" % DAYS_KEPT)[-1].startswith("articles ")
             assert server.order("stop") == "stopped"
             assert server.end() == (0, "")
         self.most = max(self.most, usage(self.at)[0])
@@ -320,7 +402,7 @@ ARTICLES_GIVEN = given_articles()
 TESTS = [forty_days_of_a_site]
 
 # each takes a minute or more
-LONG_ONES = [a_large_volume_is_renewed, a_year_of_a_site]
+LONG_ONES = [a_large_volume_is_renewed, a_night_of_a_large_volume, a_year_of_a_site]
 
 
 if __name__ == "__main__":

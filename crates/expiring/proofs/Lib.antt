@@ -1,1 +1,3 @@
+mod Counted
+mod Named
 mod Runs

@@ -1,9 +1,13 @@
 -- Which articles of a group are old, and the last number that an expiry by age takes out.
-use Rattle.std.specs.Prelude.{◌≡◌, ℕ, ◌+◌, ◌≤◌, Bool, true, false, IsTrue, nat_lt, option_map, unwrap_or}
+use Rattle.std.specs.Prelude.{◌≡◌, ℕ, ◌+◌, ◌-◌, ◌^◌, ◌<◌, ◌≤◌, Bool, true, false, IsTrue, nat_lt, if◌then◌else◌, length}
+use Rattle.std.specs.Prelude.{Some, option_map, slice_get, unwrap_or}
 use Rattle.model.specs.Stream.{Octets}
-use Rattle.model.specs.Spool.{NewsGroup, Spool, by_number, low}
+use Rattle.model.specs.Spool.{NewsGroup, Spool, by_number, groups, low}
 use Rattle.model.specs.Names.{wildmat_matches}
 use Rattle.expiring.specs.declared.Aged.{Aged}
+use Rattle.expiring.specs.declared.AgedArticles.{AgedArticles}
+use Rattle.expiring.specs.declared.AgedGroup.{AgedGroup}
+use Rattle.expiring.specs.declared.AgedGroup.TheVariants as group
 
 -- an article is in the group under this number, and was filed before the moment
 abbrev pub is_old : Spool → Octets → ℕ → ℕ → Bool
@@ -22,3 +26,24 @@ pub record IsAged (S : Spool) (group : NewsGroup) (w : Octets) (since : ℕ) (ag
   pub matches : IsTrue (wildmat_matches w group.name)
   pub low : aged.low ≡ low S group.name
   pub last : IsLastOld S group.name since aged.last
+
+-- the number of an expiry has 32 bits
+abbrev pub expiry_number : ℕ → ℕ
+expiry_number last = if nat_lt last (2 ^ 32) then last else 2 ^ 32 - 1
+
+-- what is taken out of a group: all that is old at its front, as far as the number of an expiry reaches
+pub record AreAged (S : Spool) (group : NewsGroup) (w : Octets) (since : ℕ) (aged : AgedArticles) : Type 0 where
+  pub name : aged.name ≡ group.name
+  pub matches : IsTrue (wildmat_matches w group.name)
+  pub last : ℕ
+  pub is_last : IsLastOld S group.name since last
+  pub number : aged.number ≡ expiry_number last
+  pub articles : aged.articles ≡ aged.number + 1 - low S group.name
+
+-- the group at this place: there is none, its first article isn't old or the wildmat doesn't match its name, or what is old goes
+abbrev pub IsAgedGroup : Spool → ℕ → Octets → ℕ → AgedGroup → Type 0
+IsAgedGroup S place w since group.Missing = length (groups S) ≤ place
+IsAgedGroup S place w since group.Spared = (place < length (groups S)) × ((g : NewsGroup) → slice_get (groups S) place ≡ Some g
+    → IsTrue (wildmat_matches w g.name) → is_old S g.name since (low S g.name) ≡ false)
+IsAgedGroup S place w since (group.Aged aged) = (place < length (groups S)) × ((g : NewsGroup) → slice_get (groups S) place ≡ Some g
+    → AreAged S g w since aged)

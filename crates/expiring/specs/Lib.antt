@@ -1,1 +1,2 @@
 pub mod Ages
+pub mod Gone

@@ -1,16 +1,17 @@
-//! Up to which number the articles of a group are old. `specs/Ages.antt` says what that is.
+//! Up to which number the articles of a group are old, and how many articles are gone. `specs/Ages.antt` and
+//! `specs/Gone.antt` say what that is.
 #![tactic(auto)]
 
 ghost use Rattle.std.specs.Prelude.{◌≡◌, ◌-◌, ◌*◌, ◌<◌, ◌≤◌, IfSome, IfNone, IsTrue, Some, false, length, slice_get};
 ghost use Rattle.model.specs.Names.{wildmat_matches};
 ghost use Rattle.model.specs.Spool.{NewsGroup, groups, low};
-ghost use Rattle.expiring.specs.Ages.{IsAged, IsLastOld, is_old};
+ghost use Rattle.expiring.specs.Ages.{IsAged, IsAgedGroup, IsLastOld, expiry_number, is_old};
 
+mod gone;
+
+pub use gone::{GonePart, PART, gone_part};
 use lookups::{LookUps, counts_of, find_number};
-use names::Wildmat;
-
-/// The most days that an age is given in: a hundred years of 365 days.
-pub const MOST_DAYS: u64 = 36_500;
+use names::{GroupName, Wildmat};
 
 /// The seconds of a day.
 const DAY: u64 = 86_400;
@@ -43,15 +44,15 @@ pub fn last_old<L: LookUps>(spool: &L, group: &[u8], since: u64) -> Option<u64>
 
 /// What an expiry by age takes out of a group: the articles from the lowest number up to the last one.
 #[derive(Clone, Copy)]
-pub struct Aged<'s> {
-    pub name: &'s [u8],
-    pub low: u64,
-    pub last: u64,
+struct Aged<'s> {
+    name: &'s [u8],
+    low: u64,
+    last: u64,
 }
 
 /// What an expiry by age takes out of the group at this place, from 0, in rising serial: the articles before its first one
 /// that was filed at this moment or later. `None` if the wildmat doesn't match the group's name, or nothing is to be taken out.
-pub fn aged_at<'s, L: LookUps>(
+fn aged_at<'s, L: LookUps>(
     spool: &'s L,
     place: usize,
     wildmat: &Wildmat,
@@ -74,6 +75,61 @@ pub fn aged_at<'s, L: LookUps>(
         low: group.low,
         last,
     })
+}
+
+/// The articles of a group that an expiry by age takes out, as an expiry is asked for.
+#[derive(Drop)]
+pub struct AgedArticles {
+    pub name: GroupName,
+    /// They are those up to this number.
+    pub number: u32,
+    /// How many these are.
+    pub articles: u64,
+}
+
+/// What an expiry by age does to the group at a place.
+#[derive(Drop)]
+pub enum AgedGroup {
+    /// There is no group at this place, and none behind it.
+    Missing,
+    /// Nothing is to be taken out.
+    Spared,
+    /// These articles are to be taken out.
+    Aged(AgedArticles),
+}
+
+/// What an expiry by age does to the group at this place, from 0, in rising serial. An expiry has a number of 32 bits: if
+/// more articles than these count are old, the others are left to the next one. The time that it takes grows with the number
+/// of old articles.
+pub fn aged_group<L: LookUps>(spool: &L, place: usize, wildmat: &Wildmat, since: u64) -> AgedGroup
+    ensures { IsAgedGroup (L.changes spool.now) place wildmat.now since result }
+{
+    if place >= spool.group_count() {
+        return AgedGroup::Missing;
+    }
+    let Some(aged) = aged_at(spool, place, wildmat, since) else {
+        return AgedGroup::Spared;
+    };
+    let Ok(name) = GroupName::read(aged.name) else {
+        unreachable!()
+    };
+    let number = expiry_number(aged.last);
+    AgedGroup::Aged(AgedArticles {
+        name,
+        number,
+        articles: (u64::from(number) + 1).saturating_sub(aged.low),
+    })
+}
+
+/// The number of an expiry that takes out the articles up to this one, as far as 32 bits reach.
+fn expiry_number(last: u64) -> u32
+    ensures { result ≡ expiry_number last }
+{
+    if last <= u64::from(u32::MAX) {
+        last as u32
+    } else {
+        u32::MAX
+    }
 }
 
 /// Whether an article is in the group under this number and was filed before this moment.

@@ -1,3 +1,2 @@
-pub mod Changes
-pub mod Lines
+pub mod Refusals
 pub mod Told

@@ -1,37 +1,13 @@
-//! The change that a line of the operator asks for, and the call of the kernel that makes it.
+//! The call of the kernel that makes a change.
 
-ghost use Rattle.std.specs.Prelude.{◌≡◌, ◌≢◌, ◌⊎◌, IfOk, IfErr, Some};
-ghost use Rattle.script.specs.Script.{meaning};
-ghost use Rattle.operator.specs.Changes.{IsNone, asked};
+ghost use Rattle.std.specs.Prelude.{◌≢◌, IfErr};
 
 use crate::desk::OperatorService;
 use crate::writing::Refused;
 use names::{GroupName, GroupRequest};
-use script::{Line, ParseError, parse};
+use operator_lines::Change;
 use shared_kernel::{AdminError, Bells, ExpireError, Kern};
-use std::alloc::Global;
 use std::sync::Wait;
-
-/// A change that the operator asks for.
-#[derive(Drop)]
-pub(crate) enum Change {
-    Group(GroupRequest),
-    /// The articles of a group up to this number are removed from it.
-    Expiry { name: GroupName, number: u32 },
-}
-
-/// The change that a line asks for. `Bad` if the line asks for none; `Memory` may come for any line.
-pub(crate) fn change_of(alloc: Global, line: &[u8]) -> Result<Change, Refused>
-    ensures ok { IfOk result (λ change. meaning line.now ≡ Some (asked change)) }
-    ensures err { IfErr result (λ error. (error ≡ Refused.Memory) ⊎ ((error ≡ Refused.Bad) × IsNone (meaning line.now))) }
-{
-    match parse(alloc, line) {
-        Ok(Line::Group(request)) => Ok(Change::Group(request)),
-        Ok(Line::Expire { name, number }) => Ok(Change::Expiry { name, number }),
-        Ok(_) | Err(ParseError::Bad) => Err(Refused::Bad),
-        Err(ParseError::Memory) => Err(Refused::Memory),
-    }
-}
 
 /// Makes a change, and answers its serial. If the kernel cannot take it now, it is asked again after the next batch.
 pub(crate) fn make<R: Wait, K: Kern>(
@@ -46,6 +22,7 @@ pub(crate) fn make<R: Wait, K: Kern>(
     }
 }
 
+/// Makes a group, and answers its serial. If the kernel cannot take it now, it is asked again after the next batch.
 fn make_group<R: Wait, K: Kern>(
     service: &OperatorService<'_, R, K>,
     request: &GroupRequest,
@@ -67,7 +44,9 @@ fn make_group<R: Wait, K: Kern>(
     unreachable!()
 }
 
-fn expire<R: Wait, K: Kern>(
+/// Takes the articles of a group up to a number out of it, and answers the serial of that change. If the kernel cannot take it
+/// now, it is asked again after the next batch.
+pub(crate) fn expire<R: Wait, K: Kern>(
     service: &OperatorService<'_, R, K>,
     name: &GroupName,
     number: u32,

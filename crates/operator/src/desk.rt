@@ -2,22 +2,23 @@
 //! the answers.
 //!
 //! The first and the last may wait for the operator forever, so neither is joined. The second waits for neither of
-//! them: at most `LINES` lines are under way, and each channel has room for all of them.
+//! them: at most `LINES` lines are under way, the channel of the lines has room for all of them, and that of the answers has no
+//! limit. A line about ages has an answer for each group; any other line has one.
 
-ghost use Rattle.std.specs.Prelude.{◌≡◌, IfOk, IfErr, OnOk};
+ghost use Rattle.std.specs.Prelude.{◌≡◌, ◌≢◌, ◌≤◌, IfOk, IfErr, Ok, OnOk};
 ghost use Rattle.operator.specs.Told.{HasSeenStop, IsSeen};
 
-use crate::changes::{Change, make};
+use crate::ages::take_out_old;
+use crate::changes::make;
 use crate::durable::{is_durable, wait_for_stop};
-use crate::lines::{LINE_OCTETS, Next, next_line};
-use crate::requests::{Request, request_of};
 use crate::sessions::{Listing, let_go};
 use crate::status::Status;
 use crate::writing::{Answer, Refused, Told, write_answer};
-use crossbeam_channel::{Receiver, Sender, bounded};
+use crossbeam_channel::{Receiver, SendError, Sender, bounded, unbounded};
 use mark::{Mark, Seat};
-use releasing::ReplyWriter;
-use shared_kernel::{Bells, Kern};
+use operator_lines::{Change, LINE_OCTETS, Next, Request, next_line, request_of};
+use releasing::Writers;
+use shared_kernel::{Asking, Bells, Kern};
 use std::alloc::{AllocError, Global};
 use std::io::{BufRead, Write};
 use std::sync::Wait;
@@ -43,14 +44,17 @@ enum Order {
 
 /// What the thread that writes waits for.
 #[derive(Drop)]
-enum Reply {
+pub(crate) enum Reply {
+    /// A part of the answer to a line, of which more comes.
+    Part(Told),
+    /// The answer to a line, or the end of it.
     Answer(Answer),
     /// There are no more answers.
     Ends,
 }
 
 /// What the lines are carried out with: the kernel, the mark that says what is durable, the bells of the server's
-/// threads, what is known and counted about the volume, and the sessions.
+/// threads, what is known and counted about the volume, the sessions, and those whose messages are about to be answered.
 #[derive(Drop)]
 pub struct OperatorService<'a, R, K> {
     pub rt: &'a R,
@@ -60,7 +64,8 @@ pub struct OperatorService<'a, R, K> {
     pub bells: &'a Bells,
     pub tally: &'a Tally,
     pub facts: VolumeFacts<'a>,
-    pub writers: &'a [ReplyWriter],
+    pub writers: &'a Writers,
+    pub asking: &'a Asking,
 }
 
 /// The operator's side of a running server.
@@ -102,7 +107,7 @@ impl Operator {
         A: Write + Send + Drop + 'static,
     >(rt: &R, alloc: Global, lines: L, answers: A) -> Result<Operator, AllocError> {
         let (order, orders) = bounded(alloc, LINES + 1)?;
-        let (replies, to_write) = bounded(alloc, LINES + 1)?;
+        let (replies, to_write) = unbounded(alloc)?;
         let (begun, under_way) = bounded(alloc, LINES)?;
         let written = Writing::start(rt, alloc, answers, to_write, under_way)?;
         Reading::start(rt, alloc, lines, order.clone()?, begun)?;
@@ -129,10 +134,10 @@ impl Operator {
             let Ok(Order::Asked(line)) = self.orders.recv(service.rt) else {
                 break;
             };
-            let answer = answer(service, &mut seat, line);
-            let _ = self.replies.send(service.rt, Reply::Answer(answer));
+            let answer = answer(service, &mut seat, line, &self.replies);
+            hand_on(service.rt, &self.replies, Reply::Answer(answer));
         }
-        let _ = self.replies.send(service.rt, Reply::Ends);
+        hand_on(service.rt, &self.replies, Reply::Ends);
         let _ = self
             .written
             .recv_timeout(service.rt, Duration::from_secs(ENDING_SECS));
@@ -144,13 +149,29 @@ impl Operator {
     }
 }
 
-/// Does what a line asks for. A serial is answered only if the mark was seen to have reached it. `stopped` and `Fault`
-/// are answered only if the flusher was seen to have stopped and the mark was read after that, and `stopped` only if
-/// that mark reached the number of accepted changes.
+/// Hands a reply on to the thread that writes. It waits for nothing but memory.
+pub(crate) fn hand_on<R: Wait>(rt: &R, replies: &Sender<Reply>, reply: Reply) {
+    let mut next = reply;
+    for _ in rt.forever() {
+        match replies.send(rt, next) {
+            Ok(()) | Err(SendError::Disconnected(_)) => return,
+            Err(SendError::OutOfMemory(kept)) => {
+                thread::yield_now();
+                next = kept;
+            }
+        }
+    }
+    unreachable!()
+}
+
+/// Does what a line asks for. Where the answer has parts, they are handed on before. A serial is answered only if the mark
+/// was seen to have reached it. `stopped` and `Fault` are answered only if the flusher was seen to have stopped and the mark
+/// was read after that, and `stopped` only if that mark reached the number of accepted changes.
 fn answer<R: Wait + Clock, K: Kern>(
     service: &OperatorService<'_, R, K>,
     seat: &mut Seat,
     line: Result<Vec<u8>, Refused>,
+    replies: &Sender<Reply>,
 ) -> Answer
     requires { seat.old.mark ≡ service.now.mark.now }
     ensures told { IfOk result (IsSeen seat.new) }
@@ -160,6 +181,7 @@ fn answer<R: Wait + Clock, K: Kern>(
     let line = line?;
     match request_of(service.alloc, line.as_slice())? {
         Request::Change(change) => carry_out(service, seat, &change),
+        Request::Ages(request) => take_out_old(service, seat, &request, replies),
         Request::Status => Ok(Told::Status(Status::of(service)?)),
         Request::Sessions => Ok(Told::Sessions(Listing::of(
             service.rt,
@@ -171,8 +193,7 @@ fn answer<R: Wait + Clock, K: Kern>(
     }
 }
 
-/// Makes a change, and waits until it is durable. A refusal that reports what other changes did is answered once all changes
-/// that were accepted before it are: otherwise it could tell of one that a crash undoes. `Fault` if the flusher stopped before that.
+/// Makes a change, and waits until it is durable, as `make_durable` does.
 fn carry_out<R: Wait, K: Kern>(
     service: &OperatorService<'_, R, K>,
     seat: &mut Seat,
@@ -183,6 +204,24 @@ fn carry_out<R: Wait, K: Kern>(
     ensures gone { IfErr result (λ error. error ≡ Refused.Fault → HasSeenStop seat.new) }
     ensures mark { seat.new.mark ≡ seat.old.mark }
 {
+    let made = make(service, change);
+    Ok(Told::Serial(make_durable(service, seat, made)?))
+}
+
+/// Waits until the change with this serial is durable. A refusal that reports what other changes did is answered once all changes
+/// that were accepted before it are: otherwise it could tell of one that a crash undoes. `Fault` if the flusher stopped before that.
+pub(crate) fn make_durable<R: Wait, K: Kern>(
+    service: &OperatorService<'_, R, K>,
+    seat: &mut Seat,
+    made: Result<u64, Refused>,
+) -> Result<u64, Refused>
+    requires mark { seat.old.mark ≡ service.now.mark.now }
+    requires made { IfErr made (λ error. error ≢ Refused.Fault) }
+    ensures told { IfOk result (λ serial. serial ≤ seat.new.seen) }
+    ensures same { IfOk result (λ serial. made ≡ Ok serial) }
+    ensures gone { IfErr result (λ error. error ≡ Refused.Fault → HasSeenStop seat.new) }
+    ensures mark { seat.new.mark ≡ seat.old.mark }
+{
     let OperatorService {
         rt,
         kern,
@@ -190,8 +229,8 @@ fn carry_out<R: Wait, K: Kern>(
         bells,
         ..
     } = service;
-    let (answer, awaited) = match make(service, change) {
-        Ok(serial) => (Ok(Told::Serial(serial)), serial),
+    let (answer, awaited) = match made {
+        Ok(serial) => (Ok(serial), serial),
         Err(refused) if refused.reports_changes() => (Err(refused), kern.counts(*rt).accepted),
         Err(refused) => return Err(refused),
     };
@@ -296,11 +335,16 @@ impl Writing {
     fn write_all<R: Wait, A: Write + Drop>(self, rt: &R, answers: A) {
         let mut answers = answers;
         for _ in rt.forever() {
-            let Ok(Reply::Answer(answer)) = self.replies.recv(rt) else {
-                return;
-            };
-            let _ = write_answer(&mut answers, &answer);
-            let _ = self.under_way.recv(rt);
+            match self.replies.recv(rt) {
+                Ok(Reply::Part(told)) => {
+                    let _ = write_answer(&mut answers, &Ok(told));
+                }
+                Ok(Reply::Answer(answer)) => {
+                    let _ = write_answer(&mut answers, &answer);
+                    let _ = self.under_way.recv(rt);
+                }
+                Ok(Reply::Ends) | Err(_) => return,
+            }
         }
     }
 }

@@ -3,7 +3,7 @@
 ghost use Rattle.std.specs.Prelude.{◌≡◌, IfErr};
 
 use crate::writing::Refused;
-use releasing::ReplyWriter;
+use releasing::Writers;
 use roster::{Chosen, ListedSession, SessionState};
 use std::alloc::{AllocError, Global};
 use std::fmt::{self, Display, Formatter};
@@ -21,11 +21,11 @@ impl Listing {
     pub(crate) fn of<R: Wait + Clock>(
         rt: &R,
         alloc: Global,
-        writers: &[ReplyWriter],
+        writers: &Writers,
     ) -> Result<Listing, AllocError> {
         let mut sessions = Vec::new(alloc);
-        for writer in writers {
-            if let Some(session) = writer.look(rt) {
+        for place in 0..writers.len() {
+            if let Some(session) = session_at(rt, writers, place) {
                 sessions.push(session)?;
             }
         }
@@ -53,14 +53,14 @@ pub(crate) struct States {
 
 impl States {
     /// Counts the sessions by what they wait for.
-    pub(crate) fn of<R: Wait + Clock>(rt: &R, writers: &[ReplyWriter]) -> States {
+    pub(crate) fn of<R: Wait + Clock>(rt: &R, writers: &Writers) -> States {
         let mut states = States {
             idle: 0,
             sending: 0,
             held: 0,
         };
-        for writer in writers {
-            if let Some(session) = writer.look(rt) {
+        for place in 0..writers.len() {
+            if let Some(session) = session_at(rt, writers, place) {
                 states.count(session.state);
             }
         }
@@ -88,17 +88,21 @@ impl Display for States {
     }
 }
 
+/// The session of the writer at this place, if it has one.
+fn session_at<R: Wait + Clock>(rt: &R, writers: &Writers, place: usize) -> Option<ListedSession> {
+    writers.get(place)?.look(rt)
+}
+
 /// Ends these sessions, and answers how many there were. `NotFound` if there was none.
-pub(crate) fn let_go<R: Wait>(
-    rt: &R,
-    writers: &[ReplyWriter],
-    chosen: &Chosen,
-) -> Result<u64, Refused>
+pub(crate) fn let_go<R: Wait>(rt: &R, writers: &Writers, chosen: &Chosen) -> Result<u64, Refused>
     ensures { IfErr result (λ error. error ≡ Refused.NotFound) }
 {
     let mut ended = 0u64;
-    for writer in writers {
-        if writer.let_go(rt, chosen) {
+    for place in 0..writers.len() {
+        if writers
+            .get(place)
+            .is_some_and(|writer| writer.let_go(rt, chosen))
+        {
             ended = ended.saturating_add(1);
         }
     }

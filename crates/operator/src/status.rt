@@ -69,6 +69,7 @@ impl Display for Status {
             batches,
             used_blocks,
             syncs,
+            ..
         } = self.tallied;
         write!(
             f,

@@ -1,10 +1,13 @@
 //! The answer to a line of the operator.
 
 ghost use Rattle.std.specs.Prelude.{◌≡◌};
+ghost use Rattle.operator.specs.Refusals.{refusal_of};
 ghost use Rattle.operator.specs.declared.writing.Refused.TheVariants.{Group, Expiry, Memory};
 
 use crate::sessions::Listing;
 use crate::status::Status;
+use names::GroupName;
+use script::ParseError;
 use shared_kernel::{AdminError, ExpireError};
 use std::alloc::AllocError;
 use std::fmt::{self, Display, Formatter};
@@ -69,23 +72,57 @@ impl From<AllocError> for Refused {
     }
 }
 
+impl From<ParseError> for Refused {
+    ghost from_gives = { λ error refused. refused ≡ refusal_of error };
+
+    fn from(error: ParseError) -> Refused {
+        match error {
+            ParseError::Bad => Refused::Bad,
+            ParseError::Memory => Refused::Memory,
+        }
+    }
+}
+
 /// The answer to a line that was not refused.
 #[derive(Drop)]
 pub(crate) enum Told {
     /// The serial of a change that is durable.
     Serial(u64),
+    /// The expiry of a group that is durable, by its serial; or one that was not made.
+    Expiry {
+        serial: Option<u64>,
+        name: GroupName,
+        number: u32,
+    },
+    /// So many articles were taken out by the expiries before it, or would be.
+    Articles(u64),
     Status(Status),
     Sessions(Listing),
     /// So many sessions were ended.
     Dropped(u64),
     /// The flusher has stopped as it was asked to, and all changes are durable. The number is that of the accepted ones.
-    Stopped { accepted: u64 },
+    Stopped {
+        accepted: u64,
+    },
 }
 
 impl Display for Told {
     fn fmt<W: fmt::Write>(&self, f: &mut Formatter<W>) -> fmt::Result {
         match self {
             Told::Serial(serial) => write!(f, "{serial}"),
+            Told::Expiry {
+                serial,
+                name,
+                number,
+            } => {
+                if let Some(serial) = serial {
+                    write!(f, "{serial} ")?;
+                }
+                f.write_str("expire ")?;
+                write_name(f, name)?;
+                write!(f, " {number}")
+            }
+            Told::Articles(articles) => write!(f, "articles {articles}"),
             Told::Status(status) => write!(f, "{status}"),
             Told::Sessions(listing) => write!(f, "{listing}"),
             Told::Dropped(sessions) => write!(f, "dropped {sessions}"),
@@ -94,7 +131,15 @@ impl Display for Told {
     }
 }
 
-/// The answer to a line.
+/// Writes the name of a group, whose octets are all ASCII.
+fn write_name<W: fmt::Write>(f: &mut Formatter<W>, name: &GroupName) -> fmt::Result {
+    for octet in name.as_slice() {
+        f.write_char(char::from(*octet))?;
+    }
+    Ok(())
+}
+
+/// The answer to a line, or to a part of it.
 pub(crate) type Answer = Result<Told, Refused>;
 
 /// Writes an answer and an LF, and flushes.

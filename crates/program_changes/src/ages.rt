@@ -4,16 +4,15 @@ ghost use Rattle.std.specs.Prelude.{OnOk};
 ghost use Rattle.journal.specs.Journal.{IsIdle};
 
 use crate::flush;
-use expiring::{Aged, aged_at, since};
+use expiring::{AgedArticles, AgedGroup, aged_group, since};
 use journal::Journal;
 use kernel::Spool;
 use locked_kernel::Locked;
-use lookups::LookUps;
 use model::Moment;
-use names::{GroupName, Wildmat};
+use names::Wildmat;
 use opening::Opened;
 use printing::CommandError;
-use program_files::{VolumeDisk, open};
+use program_files::{VolumeDisk, VolumeFile, new_counts, open};
 use shared_kernel::Kern;
 use std::alloc::Global;
 use std::fs::File;
@@ -37,37 +36,6 @@ pub struct AgeOrder<'a> {
     pub is_dry: bool,
 }
 
-/// The expiry of one group.
-#[derive(Drop)]
-struct Planned {
-    name: GroupName,
-    number: u32,
-    articles: u64,
-}
-
-impl Planned {
-    /// The expiry that takes out of a group what is old. A number of an expiry has 32 bits; if more articles than these
-    /// count are old, the others are left to the next run. `NotFound` if the group has no name of a group.
-    fn of(aged: &Aged<'_>) -> Result<Planned, CommandError> {
-        let Ok(name) = GroupName::read(aged.name) else {
-            return Err(CommandError::NotFound);
-        };
-        let number = u32::try_from(aged.last).unwrap_or(u32::MAX);
-        Ok(Planned {
-            name,
-            number,
-            articles: u64::from(number).saturating_add(1).saturating_sub(aged.low),
-        })
-    }
-
-    /// Prints it as the operator would ask for it.
-    fn print<W: Write>(&self, output: &mut W) -> Result<(), CommandError> {
-        write!(output, "expire ")?;
-        output.write_all(self.name.as_slice())?;
-        Ok(writeln!(output, " {}", self.number)?)
-    }
-}
-
 /// Removes from the groups whose names the wildmat matches the articles before the first one that isn't older than so many
 /// days. Prints the expiry of each group once it is durable, and at last how many articles were removed; one that was in
 /// two groups counts twice. A dry run prints the same, and removes none. After a refusal what was printed is removed. Nothing
@@ -78,8 +46,20 @@ pub fn expire_older<R: Files<File = File> + Wait, W: Write>(
     order: &AgeOrder<'_>,
     output: &mut W,
 ) -> Result<(), CommandError> {
+    let counts = new_counts(alloc)?;
+    let file = VolumeFile::new(order.path, &counts);
+    file.outcome(expire_aged(rt, alloc, file, order, output))
+}
+
+fn expire_aged<R: Files<File = File> + Wait, W: Write>(
+    rt: &R,
+    alloc: Global,
+    file: VolumeFile<'_>,
+    order: &AgeOrder<'_>,
+    output: &mut W,
+) -> Result<(), CommandError> {
     let batch = BatchBuf::new(alloc)?;
-    let Opened { journal, kernel } = open(rt, alloc, order.path)?;
+    let Opened { journal, kernel } = open(rt, alloc, file)?;
     let from = since(order.now.seconds(), order.days);
     let planned = plan(alloc, kernel.spool(), order.wildmat, from)?;
     if order.is_dry {
@@ -109,7 +89,7 @@ impl Target {
         &mut self,
         rt: &R,
         alloc: Global,
-        planned: &Planned,
+        planned: &AgedArticles,
     ) -> Result<(), CommandError>
         requires { IsIdle self.old.journal }
         ensures { OnOk result (IsIdle self.new.journal) }
@@ -127,13 +107,17 @@ fn plan(
     spool: &Spool,
     wildmat: &Wildmat,
     since: u64,
-) -> Result<Vec<Planned>, CommandError> {
+) -> Result<Vec<AgedArticles>, CommandError> {
     let mut planned = Vec::new(alloc);
-    for place in 0..spool.group_count() {
-        if let Some(aged) = aged_at(spool, place, wildmat, since) {
-            let Ok(()) = planned.push(Planned::of(&aged)?) else {
-                return Err(CommandError::Memory);
-            };
+    for place in 0..usize::MAX {
+        match aged_group(spool, place, wildmat, since) {
+            AgedGroup::Missing => break,
+            AgedGroup::Spared => {}
+            AgedGroup::Aged(aged) => {
+                let Ok(()) = planned.push(aged) else {
+                    return Err(CommandError::Memory);
+                };
+            }
         }
     }
     Ok(planned)
@@ -144,28 +128,35 @@ fn expire_all<R: Wait, W: Write>(
     rt: &R,
     alloc: Global,
     mut target: Target,
-    planned: &[Planned],
+    planned: &[AgedArticles],
     output: &mut W,
 ) -> Result<(), CommandError>
     requires { IsIdle target.journal }
 {
     for each in planned {
         target.expire(rt, alloc, each)?;
-        each.print(output)?;
+        print(each, output)?;
     }
     Ok(())
 }
 
 /// Prints the expiries.
-fn print_all<W: Write>(planned: &[Planned], output: &mut W) -> Result<(), CommandError> {
+fn print_all<W: Write>(planned: &[AgedArticles], output: &mut W) -> Result<(), CommandError> {
     for each in planned {
-        each.print(output)?;
+        print(each, output)?;
     }
     Ok(())
 }
 
+/// Prints an expiry as the operator would ask for it.
+fn print<W: Write>(planned: &AgedArticles, output: &mut W) -> Result<(), CommandError> {
+    write!(output, "expire ")?;
+    output.write_all(planned.name.as_slice())?;
+    Ok(writeln!(output, " {}", planned.number)?)
+}
+
 /// Prints how many articles are removed in all.
-fn print_count<W: Write>(planned: &[Planned], output: &mut W) -> Result<(), CommandError> {
+fn print_count<W: Write>(planned: &[AgedArticles], output: &mut W) -> Result<(), CommandError> {
     let mut articles = 0u64;
     for each in planned {
         articles = articles.saturating_add(each.articles);

@@ -15,7 +15,7 @@ use mark::Mark;
 use names::{GroupName, GroupRequest};
 use opening::Opened;
 use printing::CommandError;
-use program_files::{VolumeDisk, open};
+use program_files::{VolumeDisk, VolumeFile, new_counts, open};
 use shared_kernel::{AdminError, ExpireError, Kern, NoGate};
 use std::alloc::Global;
 use std::fs::File;
@@ -30,11 +30,22 @@ pub fn group<R: Files<File = File> + Wait>(
     path: &str,
     group: &GroupRequest,
 ) -> Result<u64, CommandError> {
+    let counts = new_counts(alloc)?;
+    let file = VolumeFile::new(path, &counts);
+    file.outcome(make_group(rt, alloc, file, group))
+}
+
+fn make_group<R: Files<File = File> + Wait>(
+    rt: &R,
+    alloc: Global,
+    file: VolumeFile<'_>,
+    group: &GroupRequest,
+) -> Result<u64, CommandError> {
     let mut batch = BatchBuf::new(alloc)?;
     let Opened {
         mut journal,
         kernel,
-    } = open(rt, alloc, path)?;
+    } = open(rt, alloc, file)?;
     let kern = Locked::new(kernel);
     let serial = match kern.admin(rt, alloc, group) {
         Ok(serial) => serial,
@@ -53,11 +64,23 @@ pub fn expire<R: Files<File = File> + Wait>(
     name: &GroupName,
     number: u32,
 ) -> Result<u64, CommandError> {
+    let counts = new_counts(alloc)?;
+    let file = VolumeFile::new(path, &counts);
+    file.outcome(expire_in(rt, alloc, file, name, number))
+}
+
+fn expire_in<R: Files<File = File> + Wait>(
+    rt: &R,
+    alloc: Global,
+    file: VolumeFile<'_>,
+    name: &GroupName,
+    number: u32,
+) -> Result<u64, CommandError> {
     let mut batch = BatchBuf::new(alloc)?;
     let Opened {
         mut journal,
         kernel,
-    } = open(rt, alloc, path)?;
+    } = open(rt, alloc, file)?;
     let is_here = kernel.spool().group(name.as_slice()).is_some();
     let kern = Locked::new(kernel);
     let serial = match kern.expire(rt, name, number) {

@@ -1,6 +1,6 @@
 -- Words of a script's line (this project's rule).
-use Rattle.std.specs.Prelude.{ℕ, ◌+◌, ◌^◌, ◌==◌, nat_lt, if◌then◌else◌, [], ◌∷◌, take, drop, get_or, Option, Some, None, option_map}
-use Rattle.std.specs.Prelude.{option_and_then}
+use Rattle.std.specs.Prelude.{ℕ, ◌+◌, ◌^◌, ◌==◌, ◌&&◌, nat_le, nat_lt, if◌then◌else◌, [], ◌∷◌, take, drop, get_or, Option, Some, None}
+use Rattle.std.specs.Prelude.{option_and_then, option_map}
 use Rattle.std.specs.List.{position}
 use Rattle.std.specs.Result.{result_ok}
 use Rattle.std.specs.Char.{is_ascii_digit}
@@ -29,6 +29,10 @@ number_of word = if is_run_of is_ascii_digit word then within_u64 word else None
 -- the moment that digits write, before the year 10000
 abbrev pub moment_of : Octets → Option ℕ
 moment_of word = option_and_then (λ n. if nat_lt n moment_limit then Some n else None) (number_of word)
+
+-- the days that digits write: from 1 to 36,500
+abbrev pub days_of : Octets → Option ℕ
+days_of word = option_and_then (λ n. if nat_le 1 n && nat_le n 36500 then Some n else None) (number_of word)
 
 -- the status that `y` or `n` writes
 unfoldable pub status_of : Octets → Option Status

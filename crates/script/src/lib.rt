@@ -1,5 +1,5 @@
 //! The script language of `newsd sim`: one event per line, and the printed form of octets. `specs/Script.antt` says
-//! what each line means, `specs/Printed.antt` how octets are printed.
+//! what each line means, `specs/Words.antt` what its words are, `specs/Printed.antt` how octets are printed.
 #![tactic(auto)]
 
 mod lines;
@@ -8,4 +8,4 @@ mod words;
 
 pub use lines::{Line, ParseError, parse, read_expiry, read_group};
 pub use printed::escaped;
-pub use words::{moment, number, status};
+pub use words::{MOST_DAYS, days, moment, number, split_word, status};

@@ -4,13 +4,16 @@ ghost use Rattle.std.specs.Prelude.{◌≡◌, option_map, true};
 ghost use Rattle.std.specs.Char.{is_ascii_digit};
 ghost use Rattle.std.specs.List.{list_all};
 ghost use Rattle.model.specs.Names.{is_run_of};
-ghost use Rattle.script.specs.Words.{expiry_number_of, moment_of, number_of, split_word, status_of, within_u64};
+ghost use Rattle.script.specs.Words.{days_of, expiry_number_of, moment_of, number_of, split_word, status_of, within_u64};
 
 use model::{Moment, Status};
 use names::number_of;
 
+/// The most days that an age is given in: a hundred years of 365 days.
+pub const MOST_DAYS: u64 = 36_500;
+
 /// The parts before and after the first space.
-pub(crate) fn split_word(text: &[u8]) -> Option<(&[u8], &[u8])>
+pub fn split_word(text: &[u8]) -> Option<(&[u8], &[u8])>
     ensures { option_map (λ parts. (parts.0.now, parts.1.now)) result ≡ split_word text.now }
 {
     let at = text.iter().position(|octet| *octet == b' ')?;
@@ -57,6 +60,18 @@ pub fn moment(word: &[u8]) -> Option<Moment>
     // its clauses state that the moment is before its limit
     let _seconds = moment.seconds();
     Some(moment)
+}
+
+/// The days that digits write: a number from 1 to `MOST_DAYS`.
+pub fn days(word: &[u8]) -> Option<u64>
+    ensures { result ≡ days_of word.now }
+{
+    let days = number(word)?;
+    if days >= 1 && days <= MOST_DAYS {
+        Some(days)
+    } else {
+        None
+    }
 }
 
 /// The status that `y` or `n` writes.

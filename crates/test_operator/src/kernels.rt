@@ -1,7 +1,8 @@
-//! A kernel that counts the groups that it is asked for, and makes none.
+//! A kernel that counts the groups and the expiries that it is asked for, and makes none.
 
+use expiring::{AgedArticles, AgedGroup, GonePart};
 use model::{Message, Mode, Moment, Text};
-use names::{GroupName, GroupRequest};
+use names::{GroupName, GroupRequest, Wildmat};
 use outbox::ReadyBuf;
 use shared_kernel::{
     AdminError, ExecError, ExecOutcome, ExpireError, JoinError, Kern, KernelCounts, Obstacle,
@@ -12,10 +13,36 @@ use std::sync::Wait;
 use std::sync::atomic::{AtomicBool, AtomicU64, Ordering};
 use volume::BatchBuf;
 
+/// A group of the kernel: up to which number its articles are old, and how many these are.
+struct OldGroup {
+    name: &'static [u8],
+    number: u32,
+    articles: u64,
+}
+
+/// The groups of the kernel, with articles that are older than any moment behind 1970.
+const GROUPS: [OldGroup; 3] = [
+    OldGroup {
+        name: b"x.old",
+        number: 7,
+        articles: 5,
+    },
+    OldGroup {
+        name: b"x.new",
+        number: 0,
+        articles: 0,
+    },
+    OldGroup {
+        name: b"x.older",
+        number: 40,
+        articles: 33,
+    },
+];
+
 /// What was asked of the kernel.
 #[derive(Drop)]
 pub(crate) struct Counting {
-    /// The number of groups that it was asked for while it was not halted.
+    /// The number of groups and expiries that it was asked for while it was not halted.
     pub(crate) groups: AtomicU64,
     /// The number of changes that its sessions made.
     posts: u64,
@@ -29,6 +56,11 @@ impl Counting {
             posts,
             is_halted: AtomicBool::new(false),
         }
+    }
+
+    /// Counts a change, and answers how many were asked for.
+    fn count(&self) -> u64 {
+        self.groups.fetch_add(1, Ordering::SeqCst).wrapping_add(1)
     }
 }
 
@@ -70,16 +102,42 @@ impl Kern for Counting {
         if self.is_halted.load(Ordering::SeqCst) {
             return Err(AdminError::Halted);
         }
-        Ok(self.groups.fetch_add(1, Ordering::SeqCst).wrapping_add(1))
+        Ok(self.count())
     }
 
-    fn expire<R: Wait>(
-        &self,
-        _rt: &R,
-        _name: &GroupName,
-        _number: u32,
-    ) -> Result<u64, ExpireError> {
-        Err(ExpireError::NotFound)
+    fn expire<R: Wait>(&self, _rt: &R, name: &GroupName, number: u32) -> Result<u64, ExpireError> {
+        let is_asked = |group: &OldGroup| group.name == name.as_slice() && group.number == number;
+        if !GROUPS.iter().any(is_asked) {
+            return Err(ExpireError::NotFound);
+        }
+        if self.is_halted.load(Ordering::SeqCst) {
+            return Err(ExpireError::Halted);
+        }
+        Ok(self.count())
+    }
+
+    fn aged<R: Wait>(&self, _rt: &R, place: usize, wildmat: &Wildmat, since: u64) -> AgedGroup {
+        let Some(group) = GROUPS.get(place) else {
+            return AgedGroup::Missing;
+        };
+        let Ok(name) = GroupName::read(group.name) else {
+            return AgedGroup::Missing;
+        };
+        if since == 0 || group.articles == 0 || !wildmat.matches(&name) {
+            return AgedGroup::Spared;
+        }
+        AgedGroup::Aged(AgedArticles {
+            name,
+            number: group.number,
+            articles: group.articles,
+        })
+    }
+
+    fn gone_part<R: Wait>(&self, _rt: &R, _first: u64) -> GonePart {
+        GonePart {
+            articles: 0,
+            next: None,
+        }
     }
 
     fn leave<R: Wait>(&self, _rt: &R, _sid: u64) {}

@@ -7,7 +7,8 @@ use crate::streams::{Answers, Lines};
 use counting::Counts;
 use mark::{FlushSeat, Mark, Seat};
 use operator::{Operator, OperatorService};
-use shared_kernel::{Bells, Kern};
+use releasing::Writers;
+use shared_kernel::{Asking, Bells, Kern};
 use std::alloc::Global;
 use std::sync::atomic::{AtomicU64, Ordering};
 use std::sync::{Arc, Mutex, Wait};
@@ -53,7 +54,7 @@ pub(crate) struct Play {
 /// When the flusher stops.
 #[derive(Clone, Copy, Drop)]
 pub(crate) enum Stop {
-    /// Once this many groups were asked for. The operator has not asked for that.
+    /// Once this many groups and expiries were asked for. The operator has not asked for that.
     Groups(u64),
     /// Once the operator has asked for that. It says so.
     Asked,
@@ -102,6 +103,7 @@ struct Stage {
     mark: Mark,
     bells: Bells,
     tally: Tally,
+    asking: Asking,
     operator: Operator,
     /// The number of octets of the lines that were read.
     read: Arc<AtomicU64>,
@@ -115,6 +117,7 @@ struct Means<'a, R> {
     mark: &'a Mark,
     bells: &'a Bells,
     tally: &'a Tally,
+    asking: &'a Asking,
     host: &'a [u8],
 }
 
@@ -128,6 +131,7 @@ fn answer_all<R: Wait + Clock>(operator: &Operator, alloc: Global, means: Means<
         mark,
         bells,
         tally,
+        asking,
         host,
     } = means;
     let facts = VolumeFacts {
@@ -135,6 +139,9 @@ fn answer_all<R: Wait + Clock>(operator: &Operator, alloc: Global, means: Means<
         format: FORMAT,
         blocks: BLOCKS,
         inodes: INODES,
+    };
+    let Ok(writers) = Writers::new(alloc, 0) else {
+        return;
     };
     let service = OperatorService {
         rt,
@@ -144,7 +151,8 @@ fn answer_all<R: Wait + Clock>(operator: &Operator, alloc: Global, means: Means<
         bells,
         tally,
         facts,
-        writers: &[],
+        writers: &writers,
+        asking,
     };
     operator.answer_all(&service, seat)
 }
@@ -160,6 +168,7 @@ impl Stage {
             mark: &self.mark,
             bells: &self.bells,
             tally: &self.tally,
+            asking: &self.asking,
             host: HOST,
         };
         answer_all(&self.operator, alloc, means, seat)
@@ -269,15 +278,14 @@ pub(crate) fn run<R: Threads + Wait + Clock + Copy + Send + Sync + 'static>(
         read,
         text,
     } = begin(rt, alloc, lines, is_endless, is_read)?;
-    let device = Counts {
-        syncs: AtomicU64::new(SYNCS),
-        octets_read: AtomicU64::new(0),
-    };
+    let mut device = Counts::new();
+    device.syncs = AtomicU64::new(SYNCS);
     let stage = Stage {
         kern: Counting::new(posts),
         mark,
         bells: Bells::new(),
         tally: Tally::new(USED_BLOCKS, Arc::new(alloc, device).ok()?),
+        asking: Asking::new(),
         operator,
         read,
     };

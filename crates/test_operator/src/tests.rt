@@ -110,8 +110,36 @@ fn a_refusal_waits_for_the_changes_that_it_may_report(rt: HostRuntime) -> Result
     Ok(())
 }
 
-/// The rows with `status` and `stop`.
-const ROWS: [Row; 8] = [
+/// The rows with `status`, `stop` and expiries by age.
+const ROWS: [Row; 11] = [
+    Row {
+        name: "what is old is taken out group by group, or listed",
+        lines: "expire-older 30\nexpire-older 30 x.old\nlist-older 30 *,!x.old\nexpire-older 36500\nlist-older 1 x.new,y.*\nstop\n",
+        posts: 0,
+        durable: 3,
+        stop: Stop::Asked,
+        answers: "1 expire x.old 7\n2 expire x.older 40\narticles 38\n3 expire x.old 7\narticles 5\n\
+            expire x.older 40\narticles 33\narticles 0\narticles 0\nstopped\n",
+    },
+    Row {
+        name: "other words than days and a wildmat ask for nothing, and a group may have the name of an option",
+        lines: "expire-older\nexpire-older \nexpire-older 0\nexpire-older 36501\nexpire-older x\nexpire-older 30 \n\
+            expire-older 30 x.*,\nexpire-older 30 x.* x.b\nexpire-older  30\nlist-older\nlist-older 30 !x.a\nlist-older30\n\
+            expire --older-than 30\nstop\n",
+        posts: 0,
+        durable: 0,
+        stop: Stop::Asked,
+        answers: "E14 Bad\nE14 Bad\nE14 Bad\nE14 Bad\nE14 Bad\nE14 Bad\nE14 Bad\nE14 Bad\nE14 Bad\nE14 Bad\nE14 Bad\n\
+            E14 Bad\nE12 NotFound\nstopped\n",
+    },
+    Row {
+        name: "an expiry that is not durable ends the answer",
+        lines: "expire-older 30\nlist-older 30\nexpire-older 30\n",
+        posts: 0,
+        durable: 1,
+        stop: Stop::Groups(2),
+        answers: "1 expire x.old 7\nE1 Fault\nE1 Fault\nE4 Halted\n",
+    },
     Row {
         name: "the status is a line of names and numbers",
         lines: "status\nstop\n",
@@ -181,7 +209,7 @@ const ROWS: [Row; 8] = [
 ];
 
 #[test]
-fn status_and_stop_are_answered(rt: HostRuntime) -> Result<(), Fail> {
+fn lines_are_answered(rt: HostRuntime) -> Result<(), Fail> {
     for row in &ROWS {
         let play = Play {
             lines: Vec::from_slice(rt.alloc(), row.lines.as_bytes())?,

@@ -1,0 +1,3 @@
+mod AgeLines
+mod Drops
+pub mod Ended
