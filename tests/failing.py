@@ -1,20 +1,35 @@
 #!/usr/bin/env python3
 """System tests of a server whose device fails, or to which the system gives nothing more. failing.py NEWSD [NAME..]"""
+import errno
 import fcntl
 import os
 import signal
 import struct
 import subprocess
 import sys
+import tempfile
 import termios
 import threading
 import time
 
-from newsd import FAULT, GREETING, SERVICE_ENDS, Caller, article, settled_octets, wait_until
+from newsd import FAULT, GREETING, HOST, SERVICE_ENDS, SYNC_FAULT, Caller, article, settled_octets, wait_until
 from playing import Skipped, TooSlow, main, measured
+from refusals import compile_library
 from syncs import can_trace
 
 SYNCS = os.path.join(os.path.dirname(os.path.abspath(__file__)), "syncs.py")
+FAULTING = os.path.join(os.path.dirname(os.path.abspath(__file__)), "faulting.c")
+# what the system says of a write, its name in the log, and the words of a refusal
+SAID = [
+    (errno.ENOSPC, "nospace", "no space left on the file system"),
+    (errno.EDQUOT, "quota", "no space left within the quota"),
+    (errno.EROFS, "readonly", "the file system is read-only"),
+    (errno.EFBIG, "toolarge", "the file may not grow so large"),
+    (errno.EIO, "io", "I/O error"),
+    (errno.EACCES, "denied", "permission denied"),
+    (errno.ESTALE, "stale", "the file's server no longer has it"),
+    (errno.ENXIO, "other", "the device failed"),
+]
 # the smallest pipe that the system knows
 PIPE_OCTETS = 4096
 SECONDS_OF_AN_END = 3
@@ -39,7 +54,7 @@ def see_that_it_serves_again(volume, number):
         assert caller.post(article(number)) == "240 Article received"
 
 
-def fault_ends(volume, server, fail):
+def fault_ends(volume, server, fail, end=FAULT):
     """The device fails by this call. The next caller learns that the service ends, and what was not acknowledged is not; the volume
     serves again afterwards."""
     with server, server.call() as caller, server.call() as other:
@@ -49,7 +64,7 @@ def fault_ends(volume, server, fail):
         other.send(b"POST\r\n" + article(2))
         call_until_the_end(server)
         assert other.line() == "340 Send article" and other.has_ended()
-        assert server.end() == FAULT
+        assert server.end() == end
     see_that_it_serves_again(volume, 3)
 
 
@@ -65,7 +80,7 @@ def a_failed_sync_ends_the_server(volume):
         raise Skipped("no program can be traced")
     volume.make_group()
     server = volume.serve(by=[sys.executable, "-B", SYNCS])
-    fault_ends(volume, server, lambda: os.kill(server.process.pid, signal.SIGUSR1))
+    fault_ends(volume, server, lambda: os.kill(server.process.pid, signal.SIGUSR1), SYNC_FAULT)
 
 
 def a_fault_ends_a_server_that_nobody_calls(volume):
@@ -81,6 +96,104 @@ def a_fault_ends_a_server_that_nobody_calls(volume):
         print("  ended after %.1f s" % (time.monotonic() - start), flush=True)
         assert other.line() == "340 Send article" and other.has_ended() and caller.has_ended()
     see_that_it_serves_again(volume, 3)
+
+
+class Faults:
+    """Errors of the system that a library preloaded into the program gives each write at a place of a file, once they begin."""
+
+    def __init__(self, folder):
+        self.library = compile_library(folder, FAULTING)
+        if self.library is None:
+            raise Skipped("there is no compiler for C")
+        self.begun = os.path.join(folder, "begun")
+
+    def words(self, number):
+        """What runs the program with the error of this number."""
+        return ["env", "LD_PRELOAD=" + self.library, "NEWSD_FAULTS=" + self.begun, "NEWSD_ERROR=%d" % number]
+
+    def begin(self):
+        open(self.begun, "w").close()
+
+    def end(self):
+        os.remove(self.begun)
+
+
+def a_fault_names_what_the_system_said(volume):
+    """The log by a name, and the refusal in words."""
+    with tempfile.TemporaryDirectory(prefix="newsd-faulting-") as folder:
+        faults = Faults(folder)
+        volume.make_group()
+        for at, (number, name, words) in enumerate(SAID):
+            with volume.serve(by=faults.words(number)) as server, server.call() as caller:
+                if at == 0:
+                    assert caller.post(article(1)) == "240 Article received"
+                faults.begin()
+                caller.send(b"POST\r\n" + article(2))
+                call_until_the_end(server)
+                server.process.wait(SECONDS_OF_AN_END)
+                said = server.process.stderr.read().decode().splitlines()
+                assert [line.split(" ", 1)[1] for line in said if "event=fault" in line] == ["event=fault error=" + name], said
+                assert said[-1] == "newsd: E1 Fault: " + words, said
+            faults.end()
+        see_that_it_serves_again(volume, 3)
+
+
+def each_command_names_what_the_system_said(volume):
+    with tempfile.TemporaryDirectory(prefix="newsd-faulting-") as folder:
+        faults = Faults(folder)
+        volume.make_group()
+        commands = [
+            ["format", volume.path + ".new", "--host", HOST],
+            ["group", volume.path, "x.b", "y", "1000000000", "test"],
+            ["expire", volume.path, "--older-than", "1"],
+            ["import", volume.path],
+            ["renew", volume.path, volume.path + ".renewed"],
+            ["serve", volume.path, "--port", "1"],
+        ]
+        faults.begin()
+        for words in commands:
+            for number, _, said in SAID[:5]:
+                done = subprocess.run([*faults.words(number), volume.program, *words], input=b"", capture_output=True, timeout=30)
+                last = done.stderr.decode().splitlines()[-1]
+                assert (done.returncode, last) == (1, "newsd: E1 Fault: " + said), (words, done)
+
+
+def a_file_system_without_room_is_named(volume):
+    """A volume of holes, as a copy that leaves out zeros has them, on a small file system: it is served until there is no room."""
+    with tempfile.TemporaryDirectory(prefix="newsd-small-") as folder:
+        mounted = subprocess.run(["mount", "-t", "tmpfs", "-o", "size=1m", "tmpfs", folder], capture_output=True)
+        if mounted.returncode != 0:
+            raise Skipped("no file system can be mounted")
+        try:
+            small = volume.another("small")
+            small.make_group()
+            held = small.path
+            small.path = os.path.join(folder, "volume")
+            subprocess.run(["cp", "--sparse=always", held, small.path], check=True)
+            posted = fill(small)
+            print("  %d articles were acknowledged" % posted, flush=True)
+            subprocess.run(["cp", "--sparse=always", small.path, held], check=True)
+            small.path = held
+            assert small.export().count(b"#! rnews ") >= posted
+        finally:
+            subprocess.run(["umount", folder], check=True)
+
+
+def fill(volume):
+    """How many articles are acknowledged before the file system is full, which the server says."""
+    with volume.serve() as server, server.call() as caller:
+        posted = 0
+        while posted < 1000:
+            reply = caller.post(article(posted + 1, body="x" * 500))
+            if reply != "240 Article received":
+                break
+            posted += 1
+        call_until_the_end(server)
+        server.process.wait(SECONDS_OF_AN_END)
+        said = server.process.stderr.read().decode().splitlines()
+    assert [line for line in said if line.endswith("event=fault error=nospace")], said[-5:]
+    assert said[-1] == "newsd: E1 Fault: no space left on the file system", said[-5:]
+    return posted
 
 
 def without_descriptors_a_caller_is_told(volume):
@@ -212,6 +325,9 @@ TESTS = [
     a_failing_device_ends_the_server,
     a_failed_sync_ends_the_server,
     a_fault_ends_a_server_that_nobody_calls,
+    a_fault_names_what_the_system_said,
+    each_command_names_what_the_system_said,
+    a_file_system_without_room_is_named,
     without_descriptors_a_caller_is_told,
     without_memory_a_caller_is_told,
     an_operator_that_reads_nothing_holds_nobody,

@@ -16,7 +16,7 @@ import time
 from fairness import batch
 from large import BEFORE_HOMES, BLOCK
 from listening import CALLER, DENIED, SERVER, Link, serving
-from newsd import ALL_FROM_ONE, GREETING, GROUP, SERVICE_ENDS, Caller, article, end_with_parent, free_port, message_id, wait_until
+from newsd import ALL_FROM_ONE, FAULT, GREETING, GROUP, SERVICE_ENDS, Caller, article, end_with_parent, free_port, message_id, wait_until
 from playing import Skipped, main
 from refusals import compile_library
 
@@ -375,14 +375,14 @@ def a_fault_is_logged(volume):
                 break
         assert server.process.wait(20) == 1
         log.reading.join(10)
-        assert log.lines[-1] == "newsd: E1 Fault: the device failed\n", log.lines
-        assert log.events("fault") == [("fault", {})], log.lines
+        assert log.lines[-1] == FAULT[1], log.lines
+        assert log.events("fault") == [("fault", {"error": "toolarge"})], log.lines
         # the article that was accepted beside the fault is undone, so it doesn't count as taken
         ended = [fields for _, fields in log.events("end") if fields["session"] == "1"]
         assert [(fields["taken"], fields["messages"]) for fields in ended] == [("1", "4")], log.lines
         refused = [fields["why"] for _, fields in log.events("refused")]
         assert set(refused) <= {"halted"}, log.lines
-        assert [line for line in log.lines if " event=fault" in line and line.endswith("event=fault\n")], log.lines
+        assert [line for line in log.lines if line.endswith(" event=fault error=toolarge\n")], log.lines
 
 
 def a_nearly_full_volume_is_logged_once(volume):

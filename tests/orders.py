@@ -486,7 +486,7 @@ def a_stop_ends_a_server_whose_device_has_failed(volume):
     with volume.serve() as server:
         server.have_writes_fail()
         assert server.order("group x.b y 1000000000 test") == "E1 Fault"
-        assert server.log().endswith(" event=fault")
+        assert server.log().endswith(" event=fault error=toolarge")
         time.sleep(SECONDS_WITHOUT_A_CALLER)
         assert server.order("group x.c y 1000000000 test") == "E4 Halted"
         seen = asked(server)

@@ -4,9 +4,12 @@
 mod holders;
 mod refusals;
 
-ghost use Rattle.std.specs.Prelude.{◌≡◌, ◌↔◌, IsErr, IfOk, IfErr, OnOk};
+ghost use Rattle.std.specs.Prelude.{◌≡◌, ◌↔◌, IsErr, IfOk, IfErr, None, OnOk};
 ghost use Rattle.disk.specs.Device.{one_more};
+ghost use Rattle.filedisk.specs.FileDisk.{first_cause};
 
+use causes::Cause;
+use counting::Explains;
 use disk::{Disk, DiskError};
 pub use holders::{Node, holder, holder_in};
 pub use refusals::FileError;
@@ -16,7 +19,7 @@ use std::os::unix::fs::{FileExt, MetadataExt};
 use std::path::Path;
 use std::rt::Files;
 
-/// A file used as a device. It counts the calls that are asked and those that fail.
+/// A file used as a device. It counts the calls that are asked and those that fail, and keeps why the first one failed.
 #[derive(Drop)]
 pub struct FileDisk {
     file: File,
@@ -25,6 +28,8 @@ pub struct FileDisk {
     writes: u64,
     syncs: u64,
     failures: u64,
+    /// Why the first call failed.
+    cause: Option<Cause>,
 }
 
 impl FileDisk {
@@ -39,6 +44,7 @@ impl FileDisk {
         ensures size { IfOk result (λ f. (file_device f).size ≡ len) }
         ensures calls { IfOk result (λ f. ((file_device f).reads ≡ 0) × ((file_device f).writes ≡ 0) × ((file_device f).syncs ≡ 0)) }
         ensures failures { IfOk result (λ f. (file_device f).failures ≡ 0) }
+        ensures cause { IfOk result (λ f. f.cause ≡ None) }
     {
         Ok(FileDisk::over(make_file(rt, path, len)?, len))
     }
@@ -50,6 +56,7 @@ impl FileDisk {
     pub fn open_existing<R: Files<File = File>>(rt: &R, path: &str) -> Result<FileDisk, FileError>
         ensures calls { IfOk result (λ f. ((file_device f).reads ≡ 0) × ((file_device f).writes ≡ 0) × ((file_device f).syncs ≡ 0)) }
         ensures failures { IfOk result (λ f. (file_device f).failures ≡ 0) }
+        ensures cause { IfOk result (λ f. f.cause ≡ None) }
     {
         let (file, len) = find_file(rt, path, Access::Whole)?;
         Ok(FileDisk::over(file, len))
@@ -61,6 +68,7 @@ impl FileDisk {
     pub fn open_to_read<R: Files<File = File>>(rt: &R, path: &str) -> Result<FileDisk, FileError>
         ensures calls { IfOk result (λ f. ((file_device f).reads ≡ 0) × ((file_device f).writes ≡ 0) × ((file_device f).syncs ≡ 0)) }
         ensures failures { IfOk result (λ f. (file_device f).failures ≡ 0) }
+        ensures cause { IfOk result (λ f. f.cause ≡ None) }
     {
         let (opened, octets) = find_file(rt, path, Access::Reads)?;
         Ok(FileDisk::over(opened, octets))
@@ -71,6 +79,7 @@ impl FileDisk {
         ensures size { (file_device result).size ≡ len }
         ensures calls { ((file_device result).reads ≡ 0) × ((file_device result).writes ≡ 0) × ((file_device result).syncs ≡ 0) }
         ensures failures { (file_device result).failures ≡ 0 }
+        ensures cause { result.cause ≡ None }
     {
         FileDisk {
             file,
@@ -79,6 +88,7 @@ impl FileDisk {
             writes: 0,
             syncs: 0,
             failures: 0,
+            cause: None,
         }
     }
 }
@@ -102,7 +112,7 @@ fn make_file<R: Files<File = File>>(rt: &R, path: &str, len: u64) -> Result<File
     lock(rt, path, &file, Access::Whole)?;
     match make_durable(rt, path, &file, len) {
         Ok(()) => Ok(file),
-        Err(_) => Err(FileError::Failed),
+        Err(error) => Err(FileError::Failed(Cause::of(&error))),
     }
 }
 
@@ -136,7 +146,7 @@ fn find_file<R: Files<File = File>>(
     lock(rt, path, &file, access)?;
     match file.metadata() {
         Ok(metadata) => Ok((file, metadata.len())),
-        Err(_) => Err(FileError::Failed),
+        Err(error) => Err(FileError::Failed(Cause::of(&error))),
     }
 }
 
@@ -159,7 +169,7 @@ fn lock<R: Files<File = File>>(
     match file.metadata() {
         Ok(metadata) if metadata.is_file() => {}
         Ok(_) => return Err(FileError::Irregular),
-        Err(_) => return Err(FileError::Failed),
+        Err(error) => return Err(FileError::Failed(Cause::of(&error))),
     }
     let locked = match access {
         Access::Whole => file.try_lock(),
@@ -168,7 +178,7 @@ fn lock<R: Files<File = File>>(
     match locked {
         Ok(()) if is_at(rt, path, file).unwrap_or(false) => Ok(()),
         Ok(()) | Err(TryLockError::WouldBlock) => Err(FileError::Held),
-        Err(TryLockError::Error(_)) => Err(FileError::Failed),
+        Err(TryLockError::Error(error)) => Err(FileError::Failed(Cause::of(&error))),
     }
 }
 
@@ -188,18 +198,26 @@ fn sync_directory<R: Files<File = File>>(rt: &R, path: &str) -> io::Result<()> {
     directory.sync_all()
 }
 
-// The answer to a call to the file. A failure is counted.
-fn answer(outcome: io::Result<()>, failures: &mut u64) -> Result<(), DiskError>
+// The answer to a call to the file. A failure is counted, and the cause of the first one is kept.
+fn answer(
+    outcome: io::Result<()>,
+    failures: &mut u64,
+    cause: &mut Option<Cause>,
+) -> Result<(), DiskError>
     ensures fails { IsErr result ↔ IsErr outcome }
     ensures counted { IfErr result (λ e. failures.new ≡ one_more failures.old) }
     ensures uncounted { OnOk result (failures.new ≡ failures.old) }
     ensures refused { IfErr result (λ e. e ≡ DiskError.Fault) }
+    ensures cause { cause.new ≡ first_cause cause.old outcome }
 {
-    if outcome.is_err() {
-        *failures = failures.wrapping_add(1);
-        return Err(DiskError::Fault);
+    let Err(error) = outcome else {
+        return Ok(());
+    };
+    *failures = failures.wrapping_add(1);
+    if cause.is_none() {
+        *cause = Some(Cause::of(&error));
     }
-    Ok(())
+    Err(DiskError::Fault)
 }
 
 impl Disk for FileDisk {
@@ -219,17 +237,25 @@ impl Disk for FileDisk {
 
     fn read(&mut self, at: u64, into: &mut [u8]) -> Result<(), DiskError> {
         self.reads = self.reads.wrapping_add(1);
-        answer(self.file.read_exact_at(into, at), &mut self.failures)
+        answer(
+            self.file.read_exact_at(into, at),
+            &mut self.failures,
+            &mut self.cause,
+        )
     }
 
     fn write(&mut self, at: u64, from: &[u8]) -> Result<(), DiskError> {
         self.writes = self.writes.wrapping_add(1);
-        answer(self.file.write_all_at(from, at), &mut self.failures)
+        answer(
+            self.file.write_all_at(from, at),
+            &mut self.failures,
+            &mut self.cause,
+        )
     }
 
     fn sync(&mut self) -> Result<(), DiskError> {
         self.syncs = self.syncs.wrapping_add(1);
-        answer(self.file.sync_data(), &mut self.failures)
+        answer(self.file.sync_data(), &mut self.failures, &mut self.cause)
     }
 
     ghost image_size = { λ f c tells left. absurd (false≢true tells) };
@@ -239,4 +265,12 @@ impl Disk for FileDisk {
     ghost counts_now = { λ f t c tells le now. now };
 
     ghost only_now = { λ f c tells left. left };
+}
+
+impl Explains for FileDisk {
+    ghost said = { λ f. f.cause };
+
+    fn cause(&self) -> Option<Cause> {
+        self.cause
+    }
 }

@@ -3,6 +3,7 @@
 ghost use Rattle.std.specs.Prelude.{◌≡◌};
 ghost use Rattle.filedisk.specs.Refusals.{refusal_of};
 
+use causes::Cause;
 use std::io::ErrorKind;
 use thiserror::Error;
 
@@ -22,8 +23,8 @@ pub enum FileError {
     #[error("the volume is in use by a server or another command")]
     Held,
     /// The file was opened, and a later call to it failed.
-    #[error("the device failed")]
-    Failed,
+    #[error("{0}")]
+    Failed(Cause),
 }
 
 impl FileError {

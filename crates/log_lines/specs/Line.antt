@@ -2,6 +2,7 @@
 use Rattle.std.specs.Prelude.{◌≡◌, ℕ, ◌≤◌, ◌&&◌, nat_le, if◌then◌else◌, [], ◌∷◌, ◌++◌, map, take, slice_range, drop, codes, decimal, All}
 use Rattle.std.specs.Net.Text.{socket_text}
 use Rattle.std.specs.String.{string_bytes}
+use Rattle.causes.specs.Causes.{name_of}
 use Rattle.model.specs.Stream.{Octets}
 use Rattle.model.specs.Calendar.{date_reply}
 use Rattle.log_lines.specs.declared.events.SessionCounts.{SessionCounts}
@@ -111,12 +112,13 @@ event_text (event.End ended) = codes "event=end " ++ ended_text ended
 event_text (event.Post taken) = codes "event=post " ++ taken_text taken
 event_text (event.NotPosted refused) = codes "event=refused " ++ refused_post_text refused
 event_text (event.Refused refused) = codes "event=refused " ++ refused_text refused
-event_text event.Fault = codes "event=fault"
+event_text (event.Fault cause) = codes "event=fault error=" ++ name_of cause
 event_text event.Halted = codes "event=halted"
 event_text event.Clock = codes "event=clock"
 event_text (event.Full blocks inodes) = codes "event=full blocks=" ++ part_text blocks ++ codes " inodes=" ++ part_text inodes
 event_text (event.Lost lines) = codes "event=lost lines=" ++ decimal lines
 event_text (event.Opening reached) = codes "event=opening " ++ step_text reached
+event_text (event.Metrics cause) = codes "event=metrics error=" ++ name_of cause
 
 -- the text of a line
 abbrev pub text_of : ℕ → LogEvent → Octets

@@ -6,6 +6,7 @@ ghost use Rattle.log_lines.specs.Events.{comes_once};
 ghost use Rattle.log_lines.specs.Line.{begun_text, counts_text, ended_text, ending_text, event_text, part_text, refusal_text, refused_text, step_text};
 
 use crate::posts::{RefusedPost, TakenPost};
+use causes::{Cause, CauseName};
 use std::fmt::{self, Display};
 use std::net::SocketAddr;
 
@@ -299,8 +300,8 @@ pub enum LogEvent {
     NotPosted(RefusedPost),
     /// Callers of an address got no session.
     Refused(RefusedCallers),
-    /// The device failed: nothing is written any more, and the server ends.
-    Fault,
+    /// The device failed, first for this cause: nothing is written any more, and the server ends.
+    Fault(Cause),
     /// The kernel or the journal was halted, though the device didn't fail, and the server ends.
     Halted,
     /// The clock gives no time from 1970 to 9999. The time of this line, and of all that is dated meanwhile, is the
@@ -312,6 +313,8 @@ pub enum LogEvent {
     Lost(u64),
     /// The volume is being opened, which has come so far.
     Opening(OpeningStep),
+    /// The file for a monitor could not be written, for this cause.
+    Metrics(Cause),
 }
 
 impl LogEvent {
@@ -321,14 +324,15 @@ impl LogEvent {
         ensures { result ≡ comes_once self.now }
     {
         match self {
-            LogEvent::Fault | LogEvent::Halted | LogEvent::Clock | LogEvent::Full { .. } => true,
+            LogEvent::Fault(_) | LogEvent::Halted | LogEvent::Clock | LogEvent::Full { .. } => true,
             LogEvent::Begin(_)
             | LogEvent::End(_)
             | LogEvent::Post(_)
             | LogEvent::NotPosted(_)
             | LogEvent::Refused(_)
             | LogEvent::Lost(_)
-            | LogEvent::Opening(_) => false,
+            | LogEvent::Opening(_)
+            | LogEvent::Metrics(_) => false,
         }
     }
 }
@@ -343,7 +347,7 @@ impl Display for LogEvent {
             LogEvent::Post(taken) => write!(f, "event=post {taken}"),
             LogEvent::NotPosted(refused) => write!(f, "event=refused {refused}"),
             LogEvent::Refused(refused) => write!(f, "event=refused {refused}"),
-            LogEvent::Fault => write!(f, "event=fault"),
+            LogEvent::Fault(cause) => write!(f, "event=fault error={}", CauseName(*cause)),
             LogEvent::Halted => write!(f, "event=halted"),
             LogEvent::Clock => write!(f, "event=clock"),
             LogEvent::Full { blocks, inodes } => {
@@ -351,6 +355,7 @@ impl Display for LogEvent {
             }
             LogEvent::Lost(lines) => write!(f, "event=lost lines={lines}"),
             LogEvent::Opening(step) => write!(f, "event=opening {step}"),
+            LogEvent::Metrics(cause) => write!(f, "event=metrics error={}", CauseName(*cause)),
         }
     }
 }

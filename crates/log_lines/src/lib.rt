@@ -6,6 +6,7 @@ mod events;
 mod lines;
 mod posts;
 
+pub use causes::{Cause, CauseName};
 pub use events::{
     BegunSession, CountedMessage, EndedSession, Ending, LogEvent, OpeningStep, RefusedCallers,
     SessionCounts, SessionRefusal, UsedPart,

@@ -9,8 +9,9 @@ mod writing;
 
 pub use clock::{Moments, beginning_of_1970, moment};
 pub use log_lines::{
-    BegunSession, CountedMessage, EndedSession, Ending, LogEntry, LogEvent, OpeningStep,
+    BegunSession, Cause, CountedMessage, EndedSession, Ending, LogEntry, LogEvent, OpeningStep,
     PostRefusal, RefusedCallers, RefusedPost, SessionCounts, SessionRefusal, TakenPost, UsedPart,
     line,
 };
+pub use metrics::EventCounts;
 pub use writing::{Log, Verbosity};

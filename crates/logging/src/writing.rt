@@ -12,6 +12,7 @@ use crate::refusals::Refusals;
 use crate::waiting::{Durable, Waiting, WaitingPost};
 use crate::{LogEntry, LogEvent, SessionRefusal, TakenPost, beginning_of_1970, line, moment};
 use crossbeam_channel::{Receiver, RecvTimeoutError, Sender, bounded};
+use metrics::EventCounts;
 use model::Moment;
 use std::alloc::{AllocError, Global};
 use std::io::Write;
@@ -51,6 +52,9 @@ pub struct Log {
     /// The events that come once.
     once: Sender<LogEntry>,
     untold: Untold,
+    /// What it was told of, whether a line was written or not. Its lock is held for a few instructions, and no other is taken
+    /// under it.
+    events: Mutex<EventCounts>,
     /// It is disconnected once the last line is written.
     written: Receiver<()>,
 }
@@ -144,6 +148,7 @@ impl Log {
             due,
             once,
             untold,
+            events: Mutex::new(EventCounts::new()),
             written,
         };
         Ok((log, writing))
@@ -157,6 +162,7 @@ impl Log {
     /// Notes an event, now. It does not wait for the thread that writes: if the reader of the log has left no room for
     /// another line, the line is counted as lost. That does not happen to an event that comes once.
     pub fn note<R: Wait + Clock>(&self, rt: &R, event: LogEvent) {
+        self.count(rt, &event);
         if self.is_quiet() && is_of_session(&event) {
             return;
         }
@@ -170,6 +176,26 @@ impl Log {
         if !has_room {
             self.note_lost();
         }
+    }
+
+    /// Counts an event, also one of which no line is written.
+    fn count<R: Wait>(&self, rt: &R, event: &LogEvent) {
+        match event {
+            LogEvent::Begin(_) => self.events.lock(rt).count_begun(),
+            LogEvent::End(ended) => self.events.lock(rt).count_end(&ended.counts),
+            LogEvent::NotPosted(refused) => self.events.lock(rt).posts.count(refused.cause),
+            _ => {}
+        }
+    }
+
+    /// Counts a post or a transfer that was taken. `note_taken` doesn't count it.
+    pub fn count_taken<R: Wait>(&self, rt: &R) {
+        self.events.lock(rt).count_taken();
+    }
+
+    /// What the log was told of since its start.
+    pub fn events<R: Wait>(&self, rt: &R) -> EventCounts {
+        *self.events.lock(rt)
     }
 
     /// Notes a post or a transfer that was taken, now. Its line is written once its change is durable, and never if that does not
@@ -202,6 +228,7 @@ impl Log {
     /// It does not wait for the thread that writes. A caller of an address and a cause for which there is no room is counted
     /// as a lost line.
     pub fn note_refused<R: Wait + Clock>(&self, rt: &R, peer: SocketAddr, why: SessionRefusal) {
+        self.events.lock(rt).callers.count(why);
         let now = moment(rt).unwrap_or(beginning_of_1970());
         let mut refused = self.untold.refused.lock(rt);
         let is_first = refused.is_empty();

@@ -2,8 +2,10 @@
 
 ghost use Rattle.std.specs.Prelude.{◌≡◌};
 ghost use Rattle.printing.specs.declared.errors.CommandError.TheVariants.{Memory};
+ghost use Rattle.printing.specs.Faults.{because};
 ghost use Rattle.printing.specs.Streams.{command_error_of};
 
+use causes::Cause;
 use filedisk::FileError;
 use journal::JournalError;
 use kernel::OpenError;
@@ -16,9 +18,12 @@ use thiserror::Error;
 /// Why a command over a volume in a file was not done.
 #[derive(Debug, Drop, Error)]
 pub enum CommandError {
-    /// The device failed.
+    /// The device failed, and nothing says why.
     #[error("E1 Fault: the device failed")]
     Fault,
+    /// The device failed for this cause.
+    #[error("E1 Fault: {0}")]
+    Failed(Cause),
     /// The file is not opened as a device.
     #[error("E1 Fault: {0}")]
     NoDevice(FileError),
@@ -58,9 +63,24 @@ pub enum CommandError {
     /// It is not possible to listen on an endpoint.
     #[error("can't listen on {0}: {1}")]
     NotBound(SocketAddr, io::Error),
+    /// The file for a monitor can't be written.
+    #[error("can't write the file of --metrics: {0}")]
+    NoMetrics(io::Error),
     /// A socket or a stream failed.
     #[error(transparent)]
     Stream(io::Error),
+}
+
+impl CommandError {
+    /// The refusal of a device that failed first for this cause. Any other refusal stays what it is.
+    pub fn because(self, cause: Option<Cause>) -> CommandError
+        ensures { result ≡ because self cause }
+    {
+        match (self, cause) {
+            (CommandError::Fault, Some(cause)) => CommandError::Failed(cause),
+            (error, _) => error,
+        }
+    }
 }
 
 impl From<AllocError> for CommandError {

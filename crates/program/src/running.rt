@@ -116,7 +116,9 @@ pub fn serve<
         endpoints: service.endpoints.as_slice(),
         proxied: service.proxied.as_slice(),
         networks: service.networks.as_slice(),
+        sessions: service.sessions,
         most_from: service.most_from,
+        metrics: service.metrics,
         verbosity,
     };
     match program_server::serve(rt, alloc, &offer, streams) {

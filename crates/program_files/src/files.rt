@@ -1,6 +1,6 @@
 //! A volume in a file.
 
-ghost use Rattle.std.specs.Prelude.{◌≡◌, ◌-◌, IfOk, Ok};
+ghost use Rattle.std.specs.Prelude.{◌≡◌, ◌-◌, IfOk, Ok, OnOk};
 ghost use Rattle.filedisk.specs.FileDisk.{file_device};
 ghost use Rattle.filedisk.specs.declared.FileDisk.{FileDisk};
 ghost use Rattle.gates.specs.Gates.{WritesBack};
@@ -8,7 +8,7 @@ ghost use Rattle.journal.specs.Journal.{IsReady};
 ghost use Rattle.new_volume.specs.Sizes.{device_size};
 
 use crate::refusals::refusal_of;
-use counting::{CountedDisk, Counts};
+use counting::{CountedDisk, Counts, Explains};
 use disk::{Disk, DiskError};
 use filedisk::{FileDisk, FileError, holder};
 use gates::write_gates_back;
@@ -16,6 +16,7 @@ use new_volume::{VolumePlan, device_octets, format as format_device};
 use opening::{Opened, Refused};
 use overlay::Overlay;
 use printing::CommandError;
+use shared_kernel::SESSIONS;
 use std::alloc::{AllocError, Global};
 use std::fs::File;
 use std::rt::Files;
@@ -27,7 +28,48 @@ use wcache::WCache;
 pub type VolumeDisk = WCache<CountedDisk<FileDisk>>;
 
 /// The device of a volume in a file that is only read. What an opening writes to it stays in memory.
-pub type ReadDisk = Overlay<FileDisk>;
+pub type ReadDisk = Overlay<CountedDisk<FileDisk>>;
+
+/// The file of a volume, and what is counted of its device.
+#[derive(Clone, Copy)]
+pub struct VolumeFile<'a> {
+    pub path: &'a str,
+    pub counts: &'a Arc<Counts, Global>,
+    /// The most sessions that the kernel of the volume may have.
+    pub sessions: usize,
+}
+
+impl<'a> VolumeFile<'a> {
+    /// A file whose kernel may have as many sessions as one has that isn't told otherwise.
+    pub fn new(path: &'a str, counts: &'a Arc<Counts, Global>) -> VolumeFile<'a> {
+        VolumeFile {
+            path,
+            counts,
+            sessions: SESSIONS,
+        }
+    }
+
+    /// The outcome of a command over this volume. A refusal that says only that the device failed gets the cause of its
+    /// first failure.
+    pub fn outcome<T>(&self, outcome: Result<T, CommandError>) -> Result<T, CommandError>
+        ensures { OnOk outcome (result ≡ outcome) }
+    {
+        match outcome {
+            Ok(done) => Ok(done),
+            Err(error) => Err(error.because(self.counts.cause.read())),
+        }
+    }
+
+    /// A device whose calls are counted. Refused only for want of memory.
+    fn counted(&self, disk: FileDisk) -> Result<CountedDisk<FileDisk>, AllocError> {
+        Ok(CountedDisk::new(disk, Arc::try_clone(self.counts)?))
+    }
+
+    /// A device that collects writes until a sync, over the one that `find` gave. Refused only for want of memory.
+    pub fn collecting(&self, alloc: Global, disk: FileDisk) -> Result<VolumeDisk, AllocError> {
+        Ok(WCache::new(alloc, self.counted(disk)?))
+    }
+}
 
 /// How many octets stand in the file with this path, where a volume is to be made; 0 if there is no file. Refused as
 /// `format` is if the file can't be opened for reading and writing, or a server or another command has it. The file stays
@@ -65,7 +107,10 @@ pub fn format<R: Files<File = File>>(
     };
     match format_device(alloc, disk, plan) {
         Ok(_) => Ok(()),
-        Err(refused) => Err(CommandError::from(refused.error)),
+        Err(refused) => {
+            let error = CommandError::from(refused.error);
+            Err(error.because(refused.disk.cause()))
+        }
     }
 }
 
@@ -73,13 +118,12 @@ pub fn format<R: Files<File = File>>(
 pub fn open<R: Files<File = File>>(
     rt: &R,
     alloc: Global,
-    path: &str,
+    file: VolumeFile<'_>,
 ) -> Result<Opened<VolumeDisk>, CommandError>
     ensures { IfOk result (λ opened. IsReady opened.journal) }
 {
-    let counts = new_counts(alloc)?;
-    let disk = find(rt, alloc, path)?;
-    open_counted(rt, alloc, path, disk, counts)
+    let disk = find(rt, alloc, file.path)?;
+    open_found(rt, alloc, file, disk)
 }
 
 /// The counts of a device of which nothing was asked yet. Refused only for want of memory.
@@ -95,24 +139,22 @@ pub fn block_octets(disk: &FileDisk) -> u64
     disk.len().saturating_sub(device_octets(0))
 }
 
-/// Opens the volume on the device that `find` gave for this path. What is asked of the device is counted.
-pub fn open_counted<R: Files<File = File>>(
+/// Opens the volume on the device that `find` gave for this file. What is asked of the device is counted.
+pub fn open_found<R: Files<File = File>>(
     rt: &R,
     alloc: Global,
-    path: &str,
+    file: VolumeFile<'_>,
     disk: FileDisk,
-    counts: Arc<Counts, Global>,
 ) -> Result<Opened<VolumeDisk>, CommandError>
     ensures { IfOk result (λ opened. IsReady opened.journal) }
 {
-    let disk = CountedDisk::new(disk, counts);
-    match opening::open(alloc, WCache::new(alloc, disk)) {
+    match opening::open(alloc, file.collecting(alloc, disk)?, file.sessions) {
         Ok(opened) => Ok(opened),
         Err(refused) => {
             let Refused { disk, error } = refused;
             // so that the file is no longer locked
             drop(disk);
-            Err(refusal_of(rt, alloc, path, error))
+            Err(refusal_of(rt, alloc, file, error))
         }
     }
 }
@@ -121,11 +163,11 @@ pub fn open_counted<R: Files<File = File>>(
 pub fn find_to_read<R: Files<File = File>>(
     rt: &R,
     alloc: Global,
-    path: &str,
+    file: VolumeFile<'_>,
 ) -> Result<ReadDisk, CommandError> {
-    match FileDisk::open_to_read(rt, path) {
-        Ok(disk) => Ok(Overlay::new(alloc, disk)),
-        Err(error) => Err(no_device(rt, alloc, path, error)),
+    match FileDisk::open_to_read(rt, file.path) {
+        Ok(disk) => Ok(Overlay::new(alloc, file.counted(disk)?)),
+        Err(error) => Err(no_device(rt, alloc, file.path, error)),
     }
 }
 
@@ -136,14 +178,16 @@ pub fn open_to_read<R: Files<File = File>>(
     alloc: Global,
     path: &str,
 ) -> Result<Opened<ReadDisk>, CommandError> {
-    let disk = find_to_read(rt, alloc, path)?;
-    match opening::open(alloc, disk) {
+    let counts = new_counts(alloc)?;
+    let file = VolumeFile::new(path, &counts);
+    let disk = find_to_read(rt, alloc, file)?;
+    match opening::open(alloc, disk, file.sessions) {
         Ok(opened) => Ok(opened),
         Err(refused) => {
             let Refused { disk, error } = refused;
             // so that the file is no longer locked
             drop(disk);
-            Err(refusal_of(rt, alloc, path, error))
+            Err(refusal_of(rt, alloc, file, error))
         }
     }
 }
@@ -160,7 +204,7 @@ fn no_device<R: Files<File = File>>(
             Some(process) => CommandError::HeldBy(process),
             None => CommandError::NoDevice(error),
         },
-        FileError::Failed => CommandError::Fault,
+        FileError::Failed(cause) => CommandError::Failed(cause),
         FileError::Missing | FileError::Refused(_) | FileError::Irregular => {
             CommandError::NoDevice(error)
         }
@@ -182,7 +226,7 @@ pub fn find<R: Files<File = File>>(
     };
     match write_gates_back(alloc, &mut disk) {
         Ok(()) => Ok(disk),
-        Err(DiskError::Fault) => Err(CommandError::Fault),
+        Err(DiskError::Fault) => Err(CommandError::Fault.because(disk.cause())),
         Err(DiskError::Memory) => Err(CommandError::Memory),
     }
 }

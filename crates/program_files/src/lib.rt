@@ -6,7 +6,7 @@ mod files;
 mod refusals;
 
 pub use files::{
-    ReadDisk, VolumeDisk, block_octets, changes_at, find, find_to_read, format, new_counts,
-    octets_at, open, open_counted, open_to_read,
+    ReadDisk, VolumeDisk, VolumeFile, block_octets, changes_at, find, find_to_read, format,
+    new_counts, octets_at, open, open_found, open_to_read,
 };
 pub use refusals::refusal_of;

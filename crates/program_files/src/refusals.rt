@@ -1,5 +1,6 @@
 //! The refusals of an opening, with what is wrong with the volume.
 
+use crate::VolumeFile;
 use filedisk::FileDisk;
 use kernel::OpenError;
 use printing::CommandError;
@@ -7,18 +8,19 @@ use std::alloc::Global;
 use std::fs::File;
 use std::rt::Files;
 
-/// The refusal of the opening of a volume in a file. If it is no volume or is damaged, the file is read once more, to
-/// say what is wrong with it; its device has to be dropped before that. Nothing depends on those words.
+/// The refusal of the opening of a volume in a file. If its device failed, it says why. If it is no volume or is damaged,
+/// the file is read once more, to say what is wrong with it; its device has to be dropped before that. Nothing depends on
+/// those words.
 pub fn refusal_of<R: Files<File = File>>(
     rt: &R,
     alloc: Global,
-    path: &str,
+    file: VolumeFile<'_>,
     error: OpenError,
 ) -> CommandError {
     match error {
-        OpenError::Fault => CommandError::Fault,
+        OpenError::Fault => CommandError::Fault.because(file.counts.cause.read()),
         OpenError::Memory => CommandError::Memory,
-        OpenError::NotAVolume | OpenError::Damaged => match finding(rt, alloc, path, error) {
+        OpenError::NotAVolume | OpenError::Damaged => match finding(rt, alloc, file.path, error) {
             Some(words) => CommandError::Found(error, words),
             None => CommandError::NotOpened(error),
         },

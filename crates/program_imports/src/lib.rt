@@ -5,14 +5,13 @@ use importing::{ImportCounts, ImportError, Place, Report, Watcher};
 use logging::{beginning_of_1970, moment};
 use model::Moment;
 use printing::CommandError;
-use program_files::{find, refusal_of};
+use program_files::{VolumeFile, find, new_counts, refusal_of};
 use std::alloc::Global;
 use std::fs::File;
 use std::io::{self, Read, Write};
 use std::rt::Files;
 use std::time::{Clock, Duration, Instant};
 use volume_store::Store;
-use wcache::WCache;
 
 /// The seconds between two lines of progress.
 const PAUSE_SECS: u64 = 1;
@@ -120,14 +119,16 @@ pub fn import<R: Files<File = File> + Clock, I: Read, F: Write>(
     faults: &mut F,
     is_terminal: bool,
 ) -> Result<Report, CommandError> {
+    let counts = new_counts(alloc)?;
+    let file = VolumeFile::new(path, &counts);
     let disk = find(rt, alloc, path)?;
-    let mut store = match Store::open(alloc, WCache::new(alloc, disk)) {
+    let mut store = match Store::open(alloc, file.collecting(alloc, disk)?) {
         Ok(store) => store,
         Err(refused) => {
             let error = refused.error;
             // so that the file is no longer locked
             drop(refused);
-            return Err(refusal_of(rt, alloc, path, error));
+            return Err(refusal_of(rt, alloc, file, error));
         }
     };
     let mut teller = Teller::new(rt, faults, is_terminal)?;
@@ -137,6 +138,6 @@ pub fn import<R: Files<File = File> + Clock, I: Read, F: Write>(
     match imported {
         Ok(report) => Ok(report),
         Err(ImportError::Memory) => Err(CommandError::Memory),
-        Err(ImportError::Device(error)) => Err(CommandError::from(error)),
+        Err(ImportError::Device(error)) => file.outcome(Err(CommandError::from(error))),
     }
 }

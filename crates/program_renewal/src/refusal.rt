@@ -1,5 +1,6 @@
 //! Why a volume was not renewed.
 
+use causes::Cause;
 use journal::JournalError;
 use printing::{CommandError, Failure};
 use renewing::Shortage;
@@ -19,6 +20,16 @@ pub enum Refusal {
     /// The new volume was made, and could not be put in its place.
     #[error("E1 Fault: the new volume can't be put in its place: {0}")]
     NotPut(io::Error),
+}
+
+impl Refusal {
+    /// The refusal of a device that failed first for this cause. Any other refusal stays what it is.
+    pub(crate) fn because(self, cause: Option<Cause>) -> Refusal {
+        match self {
+            Refusal::Failed(Failure::Command(error)) => Refusal::from(error.because(cause)),
+            refusal => refusal,
+        }
+    }
 }
 
 impl From<Failure> for Refusal {

@@ -7,12 +7,13 @@ use crate::progress::Teller;
 use crate::refusal::Refusal;
 use crate::report::{Report, Usage};
 use crate::target::Target;
+use counting::Explains;
 use filedisk::{FileDisk, FileError};
 use lookups::LookUps;
 use names::is_host;
 use new_volume::{FORMAT_2, VolumePlan, are_sizes, device_octets, format};
 use printing::{CommandError, Failure};
-use program_files::{find, refusal_of};
+use program_files::{VolumeDisk, VolumeFile, find, refusal_of};
 use renewing::RenewalCounts;
 use spool::Spool;
 use std::alloc::Global;
@@ -21,10 +22,9 @@ use std::io::Write;
 use std::rt::Files;
 use std::time::Clock;
 use volume_store::Store;
-use wcache::WCache;
 
 /// A volume in a file, whose device collects writes until a sync.
-type FileStore = Store<WCache<FileDisk>>;
+type FileStore = Store<VolumeDisk>;
 
 /// Which volume is renewed, and into what.
 #[derive(Clone, Copy)]
@@ -50,11 +50,24 @@ pub fn renew<R: Files<File = File> + Clock, F: Write>(
     is_terminal: bool,
 ) -> Result<Report, Refusal> {
     let target = target_of(rt, alloc, order)?;
-    let mut old = open(rt, alloc, order.old)?;
+    let mut teller = Teller::new(rt, faults, is_terminal)?;
+    match renew_order(alloc, order, &target, &mut teller) {
+        Ok(report) => Ok(report),
+        Err(refusal) => Err(refusal.because(target.cause())),
+    }
+}
+
+/// Renews a volume as `renew` does. Where a device failed, the refusal doesn't say why.
+fn renew_order<R: Files<File = File> + Clock, F: Write>(
+    alloc: Global,
+    order: &Order<'_>,
+    target: &Target,
+    teller: &mut Teller<'_, R, F>,
+) -> Result<Report, Refusal> {
+    let mut old = open(teller.rt, alloc, target.file(order.old))?;
     let before = usage_of(&mut old)?;
     let plan = plan_of(alloc, old.spool(), order)?;
-    let mut teller = Teller::new(rt, faults, is_terminal)?;
-    let renewed = renew_to(alloc, old.spool(), &plan, &target, &mut teller);
+    let renewed = renew_to(alloc, old.spool(), &plan, target, teller);
     teller.erase();
     let (counts, after) = renewed?;
     Ok(Report {
@@ -147,14 +160,14 @@ fn make<R: Files<File = File>>(
 ) -> Result<FileStore, CommandError> {
     let disk = match FileDisk::open(rt, target.part.as_str(), device_octets(plan.blocks)) {
         Ok(disk) => disk,
-        Err(FileError::Failed) => return Err(CommandError::Fault),
+        Err(FileError::Failed(cause)) => return Err(CommandError::Failed(cause)),
         Err(error) => return Err(CommandError::NoDevice(error)),
     };
     match format(alloc, disk, plan) {
-        Ok(disk) => open_on(rt, alloc, target.part.as_str(), disk),
+        Ok(disk) => open_on(rt, alloc, target.file(target.part.as_str()), disk),
         Err(refused) => {
             target.remove_part(rt);
-            Err(CommandError::from(refused.error))
+            Err(CommandError::from(refused.error).because(refused.disk.cause()))
         }
     }
 }
@@ -163,26 +176,26 @@ fn make<R: Files<File = File>>(
 fn open<R: Files<File = File>>(
     rt: &R,
     alloc: Global,
-    path: &str,
+    file: VolumeFile<'_>,
 ) -> Result<FileStore, CommandError> {
-    let disk = find(rt, alloc, path)?;
-    open_on(rt, alloc, path, disk)
+    let disk = find(rt, alloc, file.path)?;
+    open_on(rt, alloc, file, disk)
 }
 
-/// Opens the volume on the device over the file with this path.
+/// Opens the volume on the device over this file.
 fn open_on<R: Files<File = File>>(
     rt: &R,
     alloc: Global,
-    path: &str,
+    file: VolumeFile<'_>,
     disk: FileDisk,
 ) -> Result<FileStore, CommandError> {
-    match Store::open(alloc, WCache::new(alloc, disk)) {
+    match Store::open(alloc, file.collecting(alloc, disk)?) {
         Ok(store) => Ok(store),
         Err(refused) => {
             let error = refused.error;
             // so that the file is no longer locked
             drop(refused);
-            Err(refusal_of(rt, alloc, path, error))
+            Err(refusal_of(rt, alloc, file, error))
         }
     }
 }

@@ -1,13 +1,17 @@
 //! Where the new volume is made, and where it is put.
 
+use causes::Cause;
+use counting::Counts;
 use filedisk::FileError;
 use printing::{CommandError, Failure};
+use program_files::{VolumeFile, new_counts};
 use std::alloc::{AllocError, Global};
 use std::fs::{self, File};
 use std::io::{self, ErrorKind};
 use std::os::unix::fs::{MetadataExt, chown};
 use std::path::Path;
 use std::rt::Files;
+use std::sync::Arc;
 
 /// The place of a new volume, and the file beside it in which it is made.
 #[derive(Drop)]
@@ -16,6 +20,8 @@ pub(crate) struct Target {
     pub(crate) part: String,
     /// The volume that is renewed stands at the place.
     replaces: bool,
+    /// What is counted of both devices.
+    counts: Arc<Counts, Global>,
 }
 
 impl Target {
@@ -52,7 +58,18 @@ impl Target {
             path,
             part,
             replaces,
+            counts: new_counts(alloc)?,
         })
+    }
+
+    /// The file of a volume of this renewal.
+    pub(crate) fn file<'a>(&'a self, path: &'a str) -> VolumeFile<'a> {
+        VolumeFile::new(path, &self.counts)
+    }
+
+    /// Why a device of this renewal failed first.
+    pub(crate) fn cause(&self) -> Option<Cause> {
+        self.counts.cause.read()
     }
 
     /// Puts the new volume in its place, all octets of which are durable, and makes that durable. A volume that it replaces

@@ -1,7 +1,7 @@
 //! Reports the state of a volume.
 
 use printing::CommandError;
-use program_files::{find_to_read, refusal_of};
+use program_files::{VolumeFile, find_to_read, new_counts, refusal_of};
 use reporting::{VolumeStatus, json_text, table_text};
 use std::alloc::Global;
 use std::fs::File;
@@ -34,14 +34,16 @@ fn state_of<R: Files<File = File>>(
     alloc: Global,
     path: &str,
 ) -> Result<VolumeStatus, CommandError> {
-    let disk = find_to_read(rt, alloc, path)?;
+    let counts = new_counts(alloc)?;
+    let file = VolumeFile::new(path, &counts);
+    let disk = find_to_read(rt, alloc, file)?;
     match state_on(alloc, disk) {
         Ok(examined) => Ok(examined.state),
         Err(refused) => {
             let error = refused.error;
             // so that the file is no longer locked
             drop(refused);
-            Err(refusal_of(rt, alloc, path, error))
+            Err(refusal_of(rt, alloc, file, error))
         }
     }
 }

@@ -1,5 +1,7 @@
 //! Devices over files of the system.
 
+use causes::Cause;
+use counting::Explains;
 use disk::{Disk, DiskError};
 use filedisk::{FileDisk, FileError};
 use std::fs::{self, File};
@@ -73,7 +75,7 @@ fn refusals_are_said_in_words(rt: HostRuntime) -> Result<(), Fail> {
             "the volume is in use by a server or another command",
         ),
         (FileError::Irregular, "it is no regular file"),
-        (FileError::Failed, "the device failed"),
+        (FileError::Failed(Cause::Io), "I/O error"),
     ] {
         assert_eq!(rt; format!(in rt.alloc(); "{error}")?.as_str(), words);
     }
@@ -87,7 +89,9 @@ fn a_read_past_the_files_end_is_a_fault(rt: HostRuntime) -> Result<(), Fail> {
     let mut disk = FileDisk::open(&rt, path, 8)?;
     File::options().write(true).open(&rt, path)?.set_len(4)?;
     let mut octets = [0; 8];
+    assert_eq!(rt; disk.cause(), None);
     assert_eq!(rt; disk.read(0, &mut octets), Err(DiskError::Fault));
+    assert_eq!(rt; disk.cause(), Some(Cause::Short));
     fs::remove_file(&rt, path)?;
     Ok(())
 }
@@ -136,5 +140,6 @@ fn readers_share_a_file(rt: HostRuntime) -> Result<(), Fail> {
 fn a_sync_reaches_the_system(rt: HostRuntime) -> Result<(), Fail> {
     let mut disk = FileDisk::open_existing(&rt, "/proc/self/comm")?;
     assert_eq!(rt; disk.sync(), Err(DiskError::Fault));
+    assert_eq!(rt; disk.cause(), Some(Cause::Other));
     Ok(())
 }

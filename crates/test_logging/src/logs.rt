@@ -1,7 +1,8 @@
 //! Logs that are read late, or never.
 
 use logging::{
-    EndedSession, Ending, Log, LogEvent, OpeningStep, SessionCounts, TakenPost, UsedPart, Verbosity,
+    Cause, EndedSession, Ending, Log, LogEvent, OpeningStep, SessionCounts, TakenPost, UsedPart,
+    Verbosity,
 };
 use std::alloc::Global;
 use std::io::{self, Write};
@@ -110,7 +111,7 @@ pub(crate) fn read_late<R: Threads + Wait + Clock + Copy + Send + 'static>(
     let has_all = has_lines(rt, &shared, 1026);
     let text = shared.text.lock(rt);
     let mut lines = text.split(|octet| *octet == b'\n');
-    let is_first = ends(lines.next(), b" event=fault");
+    let is_first = ends(lines.next(), b" event=fault error=io");
     let is_second = ends(lines.next(), b" event=lost lines=10");
     let is_third = ends(lines.next(), b" event=opening step=checking");
     Some(has_all && is_first && is_second && is_third)
@@ -122,7 +123,7 @@ fn start_full<R: Threads + Wait + Clock + Copy + Send + 'static>(
     alloc: Global,
 ) -> Option<Play> {
     let play = start(rt, alloc, Verbosity::All, false)?;
-    play.log.note(rt, LogEvent::Fault);
+    play.log.note(rt, LogEvent::Fault(Cause::Io));
     if !wait_for(rt, &play.shared.is_awaited) {
         return None;
     }
@@ -148,7 +149,7 @@ pub(crate) fn once_of_a_full_log<R: Threads + Wait + Clock + Copy + Send + 'stat
     let has_all = has_lines(rt, &shared, 1029);
     let text = shared.text.lock(rt);
     let mut lines = text.split(|octet| *octet == b'\n');
-    let is_first = ends(lines.next(), b" event=fault");
+    let is_first = ends(lines.next(), b" event=fault error=io");
     let is_second = ends(lines.next(), b" event=lost lines=10");
     let is_third = ends(lines.next(), b" event=full blocks=9/10 inodes=1/10");
     let is_fourth = ends(lines.next(), b" event=clock");
@@ -165,7 +166,7 @@ pub(crate) fn once_of_an_idle_log<R: Threads + Wait + Clock + Copy + Send + 'sta
     let Play { log, shared } = start(rt, alloc, Verbosity::All, true)?;
     log.note(rt, LogEvent::Clock);
     let has_first = has_lines(rt, &shared, 1);
-    log.note(rt, LogEvent::Fault);
+    log.note(rt, LogEvent::Fault(Cause::Io));
     let has_second = has_lines(rt, &shared, 2);
     log.end(rt);
     Some(has_first && has_second)
@@ -224,7 +225,11 @@ pub(crate) fn written_in_part<R: Threads + Wait + Clock + Copy + Drop + Send + '
         text: Arc::try_clone(&text).ok()?,
     };
     let log = Log::start(rt, alloc, failing, Verbosity::All).ok()?;
-    for event in [LogEvent::Fault, LogEvent::Halted, LogEvent::Clock] {
+    for event in [
+        LogEvent::Fault(Cause::Io),
+        LogEvent::Halted,
+        LogEvent::Clock,
+    ] {
         log.note(rt, event);
     }
     log.end(rt);
@@ -250,8 +255,8 @@ pub(crate) fn never_read<R: Threads + Wait + Clock + Copy + Send + 'static>(
     alloc: Global,
 ) -> Option<bool> {
     let Play { log, .. } = start(rt, alloc, Verbosity::All, false)?;
-    log.note(rt, LogEvent::Fault);
-    log.note(rt, LogEvent::Fault);
+    log.note(rt, LogEvent::Fault(Cause::Io));
+    log.note(rt, LogEvent::Fault(Cause::Io));
     let since = Instant::now(rt).ok()?;
     log.end(rt);
     Some(since.elapsed(rt).ok()? < Duration::from_secs(10))
@@ -271,7 +276,7 @@ pub(crate) fn lines_of<R: Threads + Wait + Clock + Copy + Send + 'static>(
         why: Ending::Quit,
     };
     log.note(rt, LogEvent::End(ended));
-    log.note(rt, LogEvent::Fault);
+    log.note(rt, LogEvent::Fault(Cause::Io));
     log.end(rt);
     let text = shared.text.lock(rt);
     Some(text.iter().filter(|octet| **octet == b'\n').count())

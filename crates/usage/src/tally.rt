@@ -1,9 +1,11 @@
 //! What is counted while a server runs, for its operator.
 
+use causes::Cause;
 use counting::Counts;
 use std::alloc::Global;
 use std::sync::Arc;
 use std::sync::atomic::{AtomicU64, Ordering};
+use std::time::Duration;
 
 /// What never changes of a volume that is served.
 #[derive(Clone, Copy)]
@@ -23,6 +25,8 @@ pub struct VolumeFacts<'a> {
 pub struct Tally {
     batches: AtomicU64,
     used_blocks: AtomicU64,
+    commits: AtomicU64,
+    commit_micros: AtomicU64,
     device: Arc<Counts, Global>,
 }
 
@@ -35,6 +39,10 @@ pub struct Tallied {
     pub used_blocks: u64,
     /// The syncs that were asked of the device.
     pub syncs: u64,
+    /// The commits whose times were measured.
+    pub commits: u64,
+    /// Their times in all, in microseconds.
+    pub commit_micros: u64,
 }
 
 impl Tally {
@@ -43,6 +51,8 @@ impl Tally {
         Tally {
             batches: AtomicU64::new(0),
             used_blocks: AtomicU64::new(used_blocks),
+            commits: AtomicU64::new(0),
+            commit_micros: AtomicU64::new(0),
             device,
         }
     }
@@ -53,7 +63,21 @@ impl Tally {
             batches: self.batches.load(Ordering::SeqCst),
             used_blocks: self.used_blocks.load(Ordering::SeqCst),
             syncs: self.device.syncs.load(Ordering::SeqCst),
+            commits: self.commits.load(Ordering::SeqCst),
+            commit_micros: self.commit_micros.load(Ordering::SeqCst),
         }
+    }
+
+    /// Notes how long a commit took. `read` counts it from then on. Only the thread that commits calls this.
+    pub fn note_commit(&self, took: Duration) {
+        let micros = u64::try_from(took.as_micros()).unwrap_or(u64::MAX);
+        self.commit_micros.fetch_add(micros, Ordering::SeqCst);
+        self.commits.fetch_add(1, Ordering::SeqCst);
+    }
+
+    /// Why the first call of the device failed. `None` if none has.
+    pub fn cause(&self) -> Option<Cause> {
+        self.device.cause.read()
     }
 
     /// Counts one more batch that was committed, and notes the used blocks as of that batch, this many. `read` gives both

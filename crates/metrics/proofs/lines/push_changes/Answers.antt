@@ -1,0 +1,10 @@
+use Rattle.metrics.specs.Text.{changes}
+use Rattle.metrics.proofs.Chains.{last, then}
+use Rattle.metrics.proofs.lines.push_changes.Goals as goal
+
+pub returns : goal.returns
+unfolding changes
+returns c =
+    last c.push_gauge.result _ _ _ _ _
+    (then _ _ _ _ _ c.in_ok-push_counter.ensures c.in_ok-push_counter-2.ensures)
+    c.push_gauge.ensures
