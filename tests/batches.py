@@ -350,7 +350,7 @@ def a_device_that_fails_ends_an_import(volume):
         resource.prlimit(running.process.pid, resource.RLIMIT_FSIZE, (4096, 4096))
         running.feed(written[len(written) // 2:])
         status, said, faults = running.end()
-    assert status == 1 and faults.splitlines()[-1] == "newsd: E1 Fault: the device failed", (status, said, faults)
+    assert status == 1 and faults.splitlines()[-1] == "newsd: E1 Fault: the file may not grow so large", (status, said, faults)
     there = ids_of(volume)
     assert there == [message_id(number) for number in range(len(there))]
     print("  %d are there after the fault" % len(there), flush=True)

@@ -25,11 +25,17 @@ BLOCKS, INODES = 34_816, 32_768
 LONG_ANSWERS = ["NEWNEWS * 20010901 000000", "OVER 1-%d" % ARTICLES, "LISTGROUP"]
 # how many callers ask for it at one time
 ASKING = 4
+# as many groups as a volume may have, a volume for them, how many callers ask for dear lines, and of which wildmats
+GROUPS, GROUPS_BLOCKS, GROUPS_INODES = 4_096, 16_384, 16_384
+DEAR, LONGEST_LINE = 16, 510
+WILDMATS = ["*", ",".join(["*a*a*a*a*b"] * 44 + ["*"]), ",".join(["*a" * 34 + "*b"] * 6 + ["*"])]
 END_OF_BLOCK = b".\r\n"
 
 DATES = 150
 WORST_DATE = 0.1
 MEDIAN_DATE = 0.01
+# a dear line keeps the kernel for twice the 9 ms that this was on a quiet machine
+MEDIAN_BESIDE_DEAR = 0.02
 WORST_POST = 0.5
 WORST_GREETING = 0.5
 
@@ -76,13 +82,13 @@ def wait_until_it_gets_more(flood, rate):
     wait_until(lambda: rate == 0 or flood.has_failed() or flood.count.value > before)
 
 
-def measure_dates(caller):
+def measure_dates(caller, most=MEDIAN_DATE):
     times = []
     for _ in range(DATES):
         times.append(timed(lambda: caller.ask("DATE"), lambda reply: reply.startswith("111 ")))
         time.sleep(0.005)
     said = "DATE median %.1f ms, worst %.1f ms" % (1000 * statistics.median(times), 1000 * max(times))
-    if max(times) >= WORST_DATE or statistics.median(times) >= MEDIAN_DATE:
+    if max(times) >= WORST_DATE or statistics.median(times) >= most:
         raise TooSlow(said)
     return said
 
@@ -110,6 +116,34 @@ def long_answers_starve_nobody(volume):
         for asked in LONG_ANSWERS:
             print("  beside %d callers of %s: %s" % (ASKING, asked, dates_beside(server, [asked] * ASKING)), flush=True)
         print("  beside callers of each, and one that reads nothing: %s" % dates_beside(server, LONG_ANSWERS, deaf=LONG_ANSWERS[1]), flush=True)
+
+
+def dear_lines_starve_nobody(volume):
+    """Sixteen callers ask for what takes the server most work: long wildmats over as many groups as there may be."""
+    names = ["x." + "a" * 34 + "%04d" % number for number in range(GROUPS)]
+    large = volume.another("large", blocks=GROUPS_BLOCKS, inodes=GROUPS_INODES)
+    with large.serve(words=ALL_FROM_ONE) as server:
+        orders = "".join('group %s y 1000000000 "A group"\n' % name for name in names)
+        side_by_side(lambda: server.process.stdin.write(orders.encode()), lambda: [server.process.stdout.readline() for _ in names])
+        for wildmat in WILDMATS:
+            asked = "LIST ACTIVE " + wildmat
+            assert len(asked) <= LONGEST_LINE
+            with server.call() as caller:
+                caller.send(asked.encode() + b"\r\n")
+                lines = [caller.file.readline()]
+                while lines[-1] not in (END_OF_BLOCK, b""):
+                    lines.append(caller.file.readline())
+            assert lines[0].startswith(b"215 ") and len(lines) == GROUPS + 2, lines[:2]
+            reply = b"".join(lines)
+            with contextlib.ExitStack() as stack:
+                other = stack.enter_context(server.call())
+                callers = [stack.enter_context(server.call()) for _ in range(DEAR)]
+                floods = [stack.enter_context(Flood(caller, asked.encode() + b"\r\n", reply, None)) for caller in callers]
+                for flood in floods:
+                    wait_until_it_gets_more(flood, None)
+                dates = measured(lambda: measure_dates(other, MEDIAN_BESIDE_DEAR))
+                assert not any(flood.has_failed() for flood in floods)
+            print("  beside %d callers of %.30s..: %s" % (DEAR, asked, dates), flush=True)
 
 
 def batch(count):
@@ -329,6 +363,7 @@ def a_server_at_rest_takes_no_processor(volume):
 TESTS = [
     a_flood_starves_nobody,
     long_answers_starve_nobody,
+    dear_lines_starve_nobody,
     sixty_three_deaf_callers,
     a_caller_that_quits_and_stays_holds_nobody,
     callers_that_misbehave_hold_up_nobody,

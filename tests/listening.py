@@ -1,5 +1,6 @@
 #!/usr/bin/env python3
-"""System tests of where a server listens and whom it lets in: `serve --listen`, `--proxied`, `--allow`, `--most-from`.
+"""System tests of where a server listens and whom it lets in: `serve --listen`, `--proxied`, `--allow`, `--sessions`,
+`--most-from`.
 
 listening.py NEWSD [NAME..]"""
 import contextlib
@@ -12,7 +13,7 @@ import subprocess
 import sys
 import time
 
-from newsd import ALL_FROM_ONE, GREETING, SECONDS, SERVICE_ENDS, Caller, article, end_with_parent, free_port
+from newsd import ALL_FROM_ONE, GREETING, SECONDS, SERVICE_ENDS, Caller, article, end_with_parent, free_port, wait_until
 from playing import Skipped, main
 
 DENIED = "502 Access denied"
@@ -20,6 +21,8 @@ DENIED = "502 Access denied"
 SERVER, CALLER, OTHER = "192.0.2.1", "192.0.2.7", "198.51.100.9"
 SERVER_6, CALLER_6 = "2001:db8::1", "2001:db8::7"
 SECONDS_OF_A_STOP = 10
+# words that are no number of sessions
+NO_NUMBERS = ("0", "4097", "-1", "x", "", "1.5", "18446744073709551617")
 
 
 def a_server_listens_on_several_endpoints(volume):
@@ -121,10 +124,55 @@ def an_address_gets_as_many_as_it_may(volume):
             assert set(found) == {"sessions" if most == 64 else "address"} and len(found) >= len(sources), found
             for caller in callers:
                 caller.close()
-    for word in ("0", "65", "-1", "x", "", "1.5", "18446744073709551617"):
-        done = volume.run("serve", volume.path, "--port", str(free_port()), "--most-from=" + word)
-        said = "newsd: E14 Bad: --most-from '%s' is no number from 1 to 64\n" % word
-        assert (done.returncode, done.stdout, done.stderr.decode()) == (1, b"", said), (word, done)
+    for word in NO_NUMBERS:
+        assert_no_number(volume, "--most-from", word)
+
+
+def a_server_has_as_many_sessions_as_it_is_told(volume):
+    for most in (1, 3, 100):
+        with volume.serve(words=["--sessions", str(most), "--most-from", str(most)]) as server:
+            callers = [server.call() for _ in range(most)]
+            assert all(caller.greeting == GREETING and caller.ask("DATE")[:3] == "111" for caller in callers), most
+            assert_refused(server.port, "127.0.0.1", "127.0.0.1")
+            assert " sessions %d " % most in server.order("status"), most
+            callers.pop().close()
+            with server.greet(10) as later:
+                assert later.ask("DATE")[:3] == "111"
+                found = refusals(server.process)
+            assert found and set(found) == {"sessions"}, found
+            for caller in callers:
+                caller.close()
+    for word in NO_NUMBERS:
+        assert_no_number(volume, "--sessions", word)
+
+
+def threads_are_started_as_callers_come(volume):
+    """So a server of many sessions has no more threads than one of few, as long as few callers come."""
+    def threads(server):
+        return len(os.listdir("/proc/%d/task" % server.process.pid))
+
+    with volume.serve(words=["--sessions", "1"]) as one, volume.another("many").serve(words=["--sessions", "4096"]) as many:
+        callers = [one.call(), many.call()]
+        # who is greeted comes after the threads that are there from the start, with those of the first session
+        assert threads(many) == threads(one)
+        callers += [many.call() for _ in range(9)]
+        assert all(caller.ask("DATE")[:3] == "111" for caller in callers)
+        # two more for each of the others
+        assert threads(many) == threads(one) + 18
+        for caller in callers:
+            caller.close()
+        # they stay for later callers
+        wait_until(lambda: " sessions 0 " in many.order("status"))
+        callers = [many.greet(10) for _ in range(5)]
+        assert threads(many) == threads(one) + 18
+        for caller in callers:
+            caller.close()
+
+
+def assert_no_number(volume, option, word):
+    done = volume.run("serve", volume.path, "--port", str(free_port()), option + "=" + word)
+    said = "newsd: E14 Bad: %s '%s' is no number from 1 to 4096\n" % (option, word)
+    assert (done.returncode, done.stdout, done.stderr.decode()) == (1, b"", said), (option, word, done)
 
 
 def proxied(address, port=50412, place="127.0.0.1"):
@@ -479,6 +527,8 @@ TESTS = [
     callers_from_the_loopback_networks_are_let_in,
     an_address_gets_half_of_what_is_free,
     an_address_gets_as_many_as_it_may,
+    a_server_has_as_many_sessions_as_it_is_told,
+    threads_are_started_as_callers_come,
     who_calls_by_a_proxy_is_judged_by_its_own_address,
     what_is_no_line_of_a_proxy_ends_the_connection,
     a_proxy_that_says_nothing_is_let_go,

@@ -17,8 +17,9 @@ SERVICE_ENDS = "400 Service ends"
 ALL_FROM_ONE = ["--most-from", "64"]
 # what a file is that holds `no volume`
 NO_SUPERBLOCK = "E3 NotAVolume: the file has 9 octets, fewer than the 4,096 of a superblock"
-# how a server ends whose device has failed
-FAULT = (1, "newsd: E1 Fault: the device failed\n")
+# how a server ends whose file may not grow, and one of which a sync failed
+FAULT = (1, "newsd: E1 Fault: the file may not grow so large\n")
+SYNC_FAULT = (1, "newsd: E1 Fault: I/O error\n")
 ESTABLISHED = 1
 LIBC = ctypes.CDLL(None)
 SET_PARENT_DEATH_SIGNAL = 1

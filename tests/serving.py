@@ -3,6 +3,7 @@
 import datetime
 import os
 import random
+import select
 import socket
 import sys
 import tempfile
@@ -21,6 +22,12 @@ SETTING_BACK = os.path.join(os.path.dirname(os.path.abspath(__file__)), "earlier
 HOUR = 3600
 # articles whose numbers take several releases
 NUMBERS = 30_000
+# lines of an overview that no socket holds, how long their subjects are, who reads them late, and what each of these may take of memory
+LINES, LINE = 900, 7_500
+READERS, SMALL_BUFFER = 6, 8_192
+MOST_OF_A_READER = 1 << 20
+# how many sessions hold a long reply that is made whole
+MOST_LARGE = 8
 SECONDS_OF_A_REFUSAL = 2
 # callers that fill a volume, how many articles each sends in one piece, and the last words to it
 FILLING, IN_A_PIECE = 8, 20
@@ -148,13 +155,19 @@ def long_replies_come_whole_beside_posts(volume):
     assert whole == [True] * 80 and posted == ["240 Article received"] * 200, (len(whole), len(posted))
 
 
-def long_lists_of_numbers_come_whole_beside_posts(volume):
-    """The lines of numbers are made as they are handed out, over several releases. Other articles come meanwhile."""
+def with_many(volume, prefix):
+    """A volume with many articles in a group, whose ids begin so."""
     large = volume.another("large", blocks=34_816, inodes=32_768)
     large.make_group()
-    texts = [article(number)[:-len(b".\r\n")] for number in range(NUMBERS)]
+    texts = [article(prefix + str(number))[:-len(b".\r\n")] for number in range(NUMBERS)]
     given = b"".join(b"#! rnews %d\n%s" % (len(text), text) for text in texts)
     assert large.run("import", large.path, given=given).returncode == 0
+    return large
+
+
+def long_lists_of_numbers_come_whole_beside_posts(volume):
+    """The lines of numbers are made as they are handed out, over several releases. Other articles come meanwhile."""
+    large = with_many(volume, "")
     asked = [(1, NUMBERS), (9_000, 24_000), (NUMBERS - 1, NUMBERS), (1, NUMBERS), (7, 6), (1, NUMBERS)]
     with large.serve() as server, server.call() as other, Caller(server.port, receive_octets=8192) as reader:
         reader.send(b"".join(b"LISTGROUP %s %d-%d\r\n" % (GROUP.encode(), low, high) for low, high in asked))
@@ -164,6 +177,79 @@ def long_lists_of_numbers_come_whole_beside_posts(volume):
             head = reader.line().split()
             assert (head[0], head[2], head[4:]) == ("211", "1", [GROUP, "list", "follows"]), head
             assert reader.read_whole(b"".join(b"%d\r\n" % number for number in range(low, high + 1)) + b".\r\n"), (low, high)
+
+
+def a_long_overview_stays_as_it_was(volume):
+    """The lines of a long OVER are made as they are read. They are those of its command, whatever is posted and expired meanwhile, and
+    callers that read nothing of them take no memory for them."""
+    volume.make_group()
+    with volume.serve(words=ALL_FROM_ONE) as server, server.call() as other:
+        for number in range(1, LINES + 1):
+            assert other.post(article(number, "s" * LINE)) == "240 Article received"
+        first = other.ask("GROUP " + GROUP)
+        other.send(b"OVER 1-\r\n")
+        whole = read_block(other)
+        assert len(whole) > LINES * LINE
+        before = server.memory()
+        slow = [Caller(server.port, receive_octets=SMALL_BUFFER) for _ in range(READERS)]
+        for caller in slow:
+            assert caller.ask("GROUP " + GROUP) == first
+            caller.send(b"OVER 1-\r\nDATE\r\n")
+            assert caller.line() == whole.split(b"\r\n", 1)[0].decode()
+        assert other.post(article(LINES + 1)) == "240 Article received"
+        assert server.order("expire %s %d" % (GROUP, LINES - 1)) == str(LINES + 3)
+        assert other.ask("OVER 1-%d" % (LINES - 1)).startswith("423 ")
+        taken = server.memory() - before
+        assert taken < READERS * MOST_OF_A_READER, taken
+        for caller in slow:
+            assert whole.endswith(read_block(caller))
+            assert caller.line().startswith("111 ")
+            caller.close()
+        other.send(b"OVER 1-\r\n")
+        assert read_block(other).count(b"\r\n") == 4
+
+
+def read_block(caller):
+    """The octets up to the line that ends a block."""
+    lines = [caller.file.readline()]
+    while lines[-1] != b".\r\n":
+        lines.append(caller.file.readline())
+        assert lines[-1]
+    return b"".join(lines)
+
+
+def few_large_replies_are_held_at_a_time(volume):
+    """Who asks for a long NEWNEWS waits while eight callers hold one. Other commands don't wait, and the server stops all the same."""
+    large = with_many(volume, "x" * 200)
+    asked = b"NEWNEWS * 20010901 000000\r\n"
+    with large.serve(words=ALL_FROM_ONE) as server, server.call() as other:
+        other.send(asked)
+        whole = read_block(other)
+        assert whole.count(b"\r\n") == NUMBERS + 2
+        holders = [Caller(server.port, receive_octets=SMALL_BUFFER) for _ in range(MOST_LARGE)]
+        late = [Caller(server.port, receive_octets=SMALL_BUFFER) for _ in range(2)]
+        for caller in holders:
+            caller.send(asked)
+            assert caller.line().startswith("230 ")
+        for caller in late:
+            caller.send(asked)
+        time.sleep(1)
+        assert other.ask("DATE").startswith("111 ") and other.post(article("other")) == "240 Article received"
+        other.send(b"OVER 1-\r\nLIST\r\nGROUP x.a\r\n")
+        assert other.line().startswith("412 ") and read_block(other).startswith(b"215 ") and other.line().startswith("211 ")
+        assert not select.select([caller.socket for caller in late], [], [], 0)[0]
+        holders.pop().close()
+        served = select.select([caller.socket for caller in late], [], [], SECONDS)[0]
+        assert len(served) == 1
+        first, second = sorted(late, key=lambda caller: caller.socket not in served)
+        assert read_block(first) == whole[:-len(b".\r\n")] + b"<other@a.example>\r\n.\r\n"
+        assert second.line().startswith("230 ")
+        waiting = Caller(server.port, receive_octets=SMALL_BUFFER)
+        waiting.send(asked)
+        time.sleep(0.5)
+        assert server.order("stop") == "stopped" and server.end()[0] == 0
+        for caller in (*holders, first, second, waiting):
+            caller.close()
 
 
 def sixty_four_callers_and_one_more(volume):
@@ -559,6 +645,8 @@ TESTS = [
     a_caller_that_sends_no_more_is_told_all,
     long_replies_come_whole_beside_posts,
     long_lists_of_numbers_come_whole_beside_posts,
+    a_long_overview_stays_as_it_was,
+    few_large_replies_are_held_at_a_time,
     sixty_four_callers_and_one_more,
     who_takes_nothing_keeps_its_seat,
     a_clock_that_goes_back_hides_no_article,

@@ -201,8 +201,14 @@ impl<'a> Entrance<'a> {
     }
 }
 
+/// Who starts the threads of sessions, as callers come.
+pub trait Crew {
+    /// Has threads for so many sessions run. Answers false if the system cannot start them.
+    fn has_threads(&self, sessions: usize) -> bool;
+}
+
 /// An acceptor.
-pub struct Acceptor<'a, 'b, R, K, G> {
+pub struct Acceptor<'a, 'b, R, K, G, C> {
     /// What the threads of the server share.
     pub shared: &'b Shared<'a, R, K, G>,
     pub doors: &'b Doors<'a>,
@@ -210,9 +216,10 @@ pub struct Acceptor<'a, 'b, R, K, G> {
     /// How its callers come.
     pub way: Way,
     pub calls: Sender<Caller>,
+    pub crew: C,
 }
 
-impl<'a, 'b, R, K, G> Drop for Acceptor<'a, 'b, R, K, G> {
+impl<'a, 'b, R, K, G, C: Drop> Drop for Acceptor<'a, 'b, R, K, G, C> {
     fn drop(self) {
         let Acceptor {
             shared: _,
@@ -220,8 +227,10 @@ impl<'a, 'b, R, K, G> Drop for Acceptor<'a, 'b, R, K, G> {
             log: _,
             way: _,
             calls,
+            crew,
         } = self;
         drop(calls);
+        drop(crew);
     }
 }
 
@@ -231,7 +240,8 @@ impl<
     R: Net<Listener = TcpListener, Stream = TcpStream> + Wait + Clock,
     K: Kern,
     G,
-> Acceptor<'a, 'b, R, K, G> {
+    C: Crew,
+> Acceptor<'a, 'b, R, K, G, C> {
     /// Accepts the callers of a listener until the kernel is halted. A caller that cannot be served gets the reply that
     /// the service ends, and one that is not let in the reply that says so. The first acceptor that finds the kernel
     /// halted shuts the other doors, too, and wakes the flusher's thread.
@@ -260,7 +270,8 @@ impl<
         }
     }
 
-    /// Joins a session for a caller that is let in and gets a seat, and hands the caller to a session's thread. For whom a
+    /// Joins a session for a caller that is let in and gets a seat, and hands the caller to a session's thread, which is started
+    /// if it is the first caller at this seat. For whom a
     /// proxy connects is read there, so whether that caller is let in is seen there, too. A caller
     /// that gets no session is refused. `Over` if there will be no more sessions.
     fn admit(&self, newcomer: Newcomer, entrance: &mut Entrance<'_>) -> Result<(), Over> {
@@ -282,6 +293,11 @@ impl<
                 return Ok(());
             }
         };
+        if !self.crew.has_threads(seat.saturating_add(1)) {
+            self.doors.free(self.shared.rt, seat);
+            self.refuse(&stream, peer, SessionRefusal::Memory);
+            return Ok(());
+        }
         let admitted = self.join(Newcomer { stream, peer }, seat, entrance.is_open());
         match admitted {
             Ok(true) => Ok(()),

@@ -9,7 +9,7 @@ mod call;
 mod lingering;
 mod proxied;
 
-pub use acceptor::{Acceptor, Doors};
+pub use acceptor::{Acceptor, Crew, Doors};
 pub use call::{Caller, Way};
 pub use lingering::{FAREWELLS, Parting, linger_all, part, see_off};
 pub use proxied::identify;

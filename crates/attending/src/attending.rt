@@ -4,16 +4,18 @@ use crate::pace::Pace;
 use crate::verdicts::{Offered, Verdicts};
 use flusher::Filing;
 use logging::PostRefusal;
-use releasing::{Shared, release_committed};
+use releasing::{FiledBlock, Shared, release_committed};
 use shared_kernel::{ExecError, Gate, Kern};
 use std::sync::Wait;
 use std::time::Clock;
+use usage::Tally;
 
-/// A gate that rings the bells of a flush and releases what waited for it, and then calls the other gate.
+/// A gate that rings the bells of a flush, measures it and releases what waited for it, and then calls the other gate.
 pub struct Attending<'a, R, K, G, W> {
     shared: &'a Shared<'a, R, K, G>,
     gate: &'a W,
     verdicts: Verdicts<'a>,
+    tally: &'a Tally,
     pace: Pace,
 }
 
@@ -23,6 +25,7 @@ impl<'a, R, K, G, W> Drop for Attending<'a, R, K, G, W> {
             shared: _,
             gate: _,
             verdicts: _,
+            tally: _,
             pace: _,
         } = self;
     }
@@ -34,11 +37,13 @@ impl<'a, R, K, G, W> Attending<'a, R, K, G, W> {
         shared: &'a Shared<'a, R, K, G>,
         gate: &'a W,
         verdicts: Verdicts<'a>,
+        tally: &'a Tally,
     ) -> Attending<'a, R, K, G, W> {
         Attending {
             shared,
             gate,
             verdicts,
+            tally,
             pace: Pace::new(),
         }
     }
@@ -52,7 +57,9 @@ impl<'a, R: Wait + Clock, K: Kern, G: Gate, W: Gate> Gate for Attending<'a, R, K
     }
 
     fn after_flush(&self) {
-        self.pace.end(self.shared.rt);
+        if let Some(took) = self.pace.end(self.shared.rt) {
+            self.tally.note_commit(took);
+        }
         self.shared.bells.arrivals.note_commit();
         release_committed(self.shared);
         self.shared.bells.operator.unpark();
@@ -93,8 +100,8 @@ pub fn file_left<R: Wait + Clock, K: Kern, G: Gate>(
     verdicts: Verdicts<'_>,
 ) -> u64 {
     let mut filed = 0u64;
-    for writer in shared.writers {
-        let Some(left) = writer.file_left(shared) else {
+    for place in 0..shared.writers.len() {
+        let Some(left) = file_left_of(shared, place) else {
             continue;
         };
         let offered = Offered {
@@ -115,4 +122,12 @@ pub fn file_left<R: Wait + Clock, K: Kern, G: Gate>(
         }
     }
     filed
+}
+
+/// Files the block that the session of the writer at this place has left, if it has left one.
+fn file_left_of<R: Wait + Clock, K: Kern, G: Gate>(
+    shared: &Shared<'_, R, K, G>,
+    place: usize,
+) -> Option<FiledBlock> {
+    shared.writers.get(place)?.file_left(shared)
 }

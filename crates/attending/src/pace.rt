@@ -87,18 +87,13 @@ impl Pace {
         }
     }
 
-    /// The commit is made.
-    pub(crate) fn end<R: Clock>(&self, rt: &R) {
-        let Some(mut times) = self.times.try_lock() else {
-            return;
-        };
+    /// The commit is made. Answers how long it took, if the clock could be read.
+    pub(crate) fn end<R: Clock>(&self, rt: &R) -> Option<Duration> {
+        let mut times = self.times.try_lock()?;
         times.made = Instant::now(rt).ok();
-        let Some(since) = times.since else {
-            return;
-        };
-        if let Ok(took) = since.elapsed(rt) {
-            times.commits.note(took);
-        }
+        let took = times.since?.elapsed(rt).ok()?;
+        times.commits.note(took);
+        Some(took)
     }
 
     /// The callers that the last commit released have come again, or are no longer waited for.

@@ -28,19 +28,21 @@ pub struct Verdicts<'a> {
 
 impl<'a> Verdicts<'a> {
     /// Tells of a post or a transfer that was answered. Of one that was taken the log tells once it is durable. No thread
-    /// holds the kernel meanwhile, but for a look at what keeps an article from being filed. Nothing is read for a log that
-    /// leaves such lines out.
+    /// holds the kernel meanwhile, but for a look at what keeps an article from being filed. A log that leaves such lines out
+    /// counts them.
     pub fn tell<R: Wait + Clock, K: Kern, G>(
         &self,
         shared: &Shared<'_, R, K, G>,
         offered: Offered<'_>,
         answered: ExecOutcome,
     ) {
-        if self.log.is_quiet() {
-            return;
-        }
         match answered.accepted {
-            Some(serial) => self.tell_taken(shared, offered, serial),
+            Some(serial) => {
+                self.log.count_taken(shared.rt);
+                if !self.log.is_quiet() {
+                    self.tell_taken(shared, offered, serial);
+                }
+            }
             None => {
                 let cause = self.cause_of(shared, offered, answered.mark);
                 self.tell_refused(

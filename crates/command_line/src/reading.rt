@@ -6,10 +6,10 @@ use clap::ArgMatches;
 use clap::error::{Error, ErrorKind};
 use command_table::table::{
     ALLOW, BLOCKS, CACHE, CRLF, DESCRIPTION, DRY_RUN, FORMAT, HOST, IN_PLACE, INODES, JSON, Kind,
-    LISTEN, MOMENT, MOST_FROM, NAME, NEW, NUMBER, OLD, OLDER_THAN, PATH, PORT, PROXIED, QUIET,
-    STATUS, SUBCOMMANDS, Subcommand, Word,
+    LISTEN, METRICS, MOMENT, MOST_FROM, NAME, NEW, NUMBER, OLD, OLDER_THAN, PATH, PORT, PROXIED,
+    QUIET, SESSIONS, STATUS, SUBCOMMANDS, Subcommand, Word,
 };
-use command_table::{Grammar, command_syntax, days_from, most_from};
+use command_table::{Grammar, command_syntax, session_number};
 use names::{GroupName, GroupRequest, is_host};
 use networks::{Network, read_endpoint};
 use new_volume::{FORMAT_1, FORMAT_2, SMALL_BLOCKS, SMALL_INODES, VolumePlan, are_sizes};
@@ -67,8 +67,12 @@ pub struct ServeOptions<'a> {
     pub proxied: Vec<SocketAddr>,
     /// The networks from which callers are let in, besides the loopback networks.
     pub networks: Vec<Network>,
+    /// The most sessions at a time.
+    pub sessions: usize,
     /// The most sessions of callers of one address, if that is given.
     pub most_from: Option<usize>,
+    /// The file that is written for a monitor, if there is one.
+    pub metrics: Option<&'a str>,
     /// The beginnings, posts and ends of sessions are not logged.
     pub is_quiet: bool,
 }
@@ -374,7 +378,7 @@ fn read_aged_expiry<'a>(
     Ok(AgedExpiry {
         path: word(words, PATH)?,
         wildmat,
-        days: days_from(days.as_bytes()).ok_or(Failure::Bad)?,
+        days: script::days(days.as_bytes()).ok_or(Failure::Bad)?,
         is_dry: words.get_flag(DRY_RUN),
     })
 }
@@ -394,7 +398,9 @@ fn read_service<'a>(alloc: Global, words: &ArgMatches<'a>) -> Result<ServeOption
         endpoints: read_endpoints(alloc, words)?,
         proxied: read_proxied(alloc, words)?,
         networks: read_networks(alloc, words)?,
-        most_from: read_most(words)?,
+        sessions: read_sessions(words)?,
+        most_from: read_number(words, MOST_FROM)?,
+        metrics: words.get_str(METRICS),
         is_quiet: words.get_flag(QUIET),
     })
 }
@@ -420,12 +426,17 @@ fn read_proxied(alloc: Global, words: &ArgMatches<'_>) -> Result<Vec<SocketAddr>
     Ok(endpoints)
 }
 
-/// The most sessions of callers of one address, if that is given.
-fn read_most(words: &ArgMatches<'_>) -> Result<Option<usize>, Failure> {
-    let Some(most) = words.get_str(MOST_FROM) else {
+/// The most sessions, which are given or have a default.
+fn read_sessions(words: &ArgMatches<'_>) -> Result<usize, Failure> {
+    read_number(words, SESSIONS)?.ok_or(Failure::Bad)
+}
+
+/// The number of sessions that an option gives, if it is given.
+fn read_number(words: &ArgMatches<'_>, name: &str) -> Result<Option<usize>, Failure> {
+    let Some(most) = words.get_str(name) else {
         return Ok(None);
     };
-    match most_from(most.as_bytes()) {
+    match session_number(most.as_bytes()) {
         Some(most) => Ok(Some(most)),
         None => Err(Failure::Bad),
     }

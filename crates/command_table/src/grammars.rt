@@ -3,12 +3,11 @@
 ghost use Rattle.std.specs.Prelude.{◌≡◌, ◌≤◌, ℕ, Some, IfSome, IfNone};
 ghost use Rattle.script.specs.Words.{number_of};
 
-use expiring::MOST_DAYS;
 use names::{is_description, is_group_name, is_host, is_wildmat, number_of};
 use networks::{Network, is_loopback, read_endpoint};
 use new_volume::{FEWEST_INODES, MOST_BLOCKS, are_sizes};
-use script::{moment, number, status};
-use shared_kernel::SESSIONS;
+use script::{days, moment, number, status};
+use shared_kernel::MOST_SESSIONS;
 
 /// What a word may be.
 #[derive(Clone, Copy)]
@@ -64,11 +63,11 @@ impl Grammar {
             Grammar::Description => is_description(octets),
             Grammar::Article => number_of(octets).is_some(),
             Grammar::Wildmat => is_wildmat(octets),
-            Grammar::Days => days_from(octets).is_some(),
+            Grammar::Days => days(octets).is_some(),
             Grammar::Endpoint => read_endpoint(word).is_some(),
             Grammar::OwnEndpoint => read_endpoint(word).is_some_and(|at| is_loopback(at.ip())),
             Grammar::Network => Network::read(word).is_some(),
-            Grammar::Seats => most_from(octets).is_some(),
+            Grammar::Seats => session_number(octets).is_some(),
         }
     }
 
@@ -90,29 +89,18 @@ impl Grammar {
             Grammar::Endpoint => "is no ADDRESS:PORT",
             Grammar::OwnEndpoint => "is no ADDRESS:PORT of 127.0.0.0/8 or ::1",
             Grammar::Network => "is no ADDRESS or ADDRESS/LENGTH",
-            Grammar::Seats => "is no number from 1 to 64",
+            Grammar::Seats => "is no number from 1 to 4096",
         }
     }
 }
 
-/// The most sessions of callers of one address that a word names: a number from 1 to `SESSIONS`.
-pub fn most_from(word: &[u8]) -> Option<usize>
-    ensures some { IfSome result (λ most. (number_of word.now ≡ Some most) × (1 ≤ most) × (most ≤ 64)) }
-    ensures none { IfNone result ((most : ℕ) → number_of word.now ≡ Some most → 1 ≤ most → most ≤ 64 → ⊥) }
+/// The number of sessions that a word names: one from 1 to `MOST_SESSIONS`.
+pub fn session_number(word: &[u8]) -> Option<usize>
+    ensures some { IfSome result (λ most. (number_of word.now ≡ Some most) × (1 ≤ most) × (most ≤ 4096)) }
+    ensures none { IfNone result ((most : ℕ) → number_of word.now ≡ Some most → 1 ≤ most → most ≤ 4096 → ⊥) }
 {
     match number(word) {
-        Some(most) if most >= 1 && most <= SESSIONS as u64 => Some(most as usize),
-        _ => None,
-    }
-}
-
-/// The days that a word names: a number from 1 to `MOST_DAYS`.
-pub fn days_from(word: &[u8]) -> Option<u64>
-    ensures some { IfSome result (λ days. (number_of word.now ≡ Some days) × (1 ≤ days) × (days ≤ 36500)) }
-    ensures none { IfNone result ((days : ℕ) → number_of word.now ≡ Some days → 1 ≤ days → days ≤ 36500 → ⊥) }
-{
-    match number(word) {
-        Some(days) if days >= 1 && days <= MOST_DAYS => Some(days),
+        Some(most) if most >= 1 && most <= MOST_SESSIONS as u64 => Some(most as usize),
         _ => None,
     }
 }

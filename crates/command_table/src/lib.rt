@@ -5,5 +5,5 @@ mod grammars;
 mod syntax;
 pub mod table;
 
-pub use grammars::{Grammar, days_from, most_from};
+pub use grammars::{Grammar, session_number};
 pub use syntax::{VERSION, command_syntax};

@@ -26,6 +26,10 @@ pub const ALLOW: &str = "allow";
 
 pub const MOST_FROM: &str = "most-from";
 
+pub const SESSIONS: &str = "sessions";
+
+pub const METRICS: &str = "metrics";
+
 pub const QUIET: &str = "quiet";
 
 pub const NAME: &str = "name";
@@ -165,12 +169,15 @@ Prints `listening ADDRESS:PORT` for each address, that of --port first. One serv
 A caller from 127.0.0.0/8 or ::1 is always let in, any other only from a network of --allow. Else it is told `502 Access denied`. \
 A connection to an address of --proxied begins with a line of the PROXY protocol, version 1, as that of stunnel with \
 `protocol = proxy`; the address in it counts as the caller's. \
-At most 64 sessions are served at one time; the next caller is told `400 Service ends`. So is one whose address has as many \
-sessions as are free, or as --most-from permits. \
-Copy the volume for a backup while the server is stopped.
+At most 64 sessions are served at one time, or as many as --sessions says; the next caller is told `400 Service ends`. So is one \
+whose address has as many sessions as are free, or as --most-from permits. \
+Copy the volume for a backup while the server is stopped. \
+The file of --metrics is in the text format of Prometheus; each time one beside it is written, whose name ends in .part, and renamed.
 
 Standard input takes these lines. `group NAME STATUS MOMENT DESCRIPTION` makes a group, and `expire NAME N` takes the \
-articles of a group up to that number out of it; the serial is printed once it is durable, or the refusal. `status` prints the \
+articles of a group up to that number out of it; the serial is printed once it is durable, or the refusal. `expire-older DAYS` or \
+`expire-older DAYS WILDMAT` takes out what `newsd expire --older-than` would, and prints `SERIAL expire NAME N` for each group, then \
+`articles COUNT`; `list-older` prints the same without serials, and takes nothing out. `status` prints the \
 state of the volume and of the server on one line, `sessions` a line for each session and their number; `drop N` disconnects the one \
 with this number, `drop NETWORK` those of the callers there. `stop` commits what was accepted, prints `stopped` and ends the server with \
 status 0. Where the device fails, the next caller is told `400 Service ends` and the server ends with `E1 Fault`, status 1. \
@@ -326,11 +333,25 @@ pub const SUBCOMMANDS: &[Subcommand] = &[
                 grammar: Grammar::Network,
             },
             Word {
+                id: SESSIONS,
+                value: "N",
+                help: "At most so many sessions at one time, 1 to 4096",
+                kind: Kind::Default("64"),
+                grammar: Grammar::Seats,
+            },
+            Word {
                 id: MOST_FROM,
                 value: "N",
-                help: "At most so many sessions for the callers of one address, 1 to 64",
+                help: "At most so many sessions for the callers of one address, 1 to 4096",
                 kind: Kind::Option,
                 grammar: Grammar::Seats,
+            },
+            Word {
+                id: METRICS,
+                value: "FILE",
+                help: "Writes what a monitor wants to know into this file, each 15 seconds",
+                kind: Kind::Option,
+                grammar: Grammar::Any,
             },
             Word {
                 id: QUIET,

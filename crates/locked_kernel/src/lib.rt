@@ -1,7 +1,9 @@
 //! A kernel under its lock, as threads share it.
 #![tactic(auto)]
 
+mod large;
 mod locked;
 mod obstacles;
+mod turns;
 
 pub use locked::Locked;

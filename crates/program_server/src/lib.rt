@@ -19,8 +19,8 @@ use model::Moment;
 use networks::Network;
 use opening::Opened;
 use printing::CommandError;
-use program_files::{VolumeDisk, new_counts};
-use server::{Limits, ServeError, Server};
+use program_files::{VolumeDisk, VolumeFile, new_counts};
+use server::{Limits, MetricsFile, ServeError, Server};
 use shared_kernel::NoGate;
 use std::alloc::{AllocError, Global};
 use std::fs::File;
@@ -43,8 +43,12 @@ pub struct Offer<'a> {
     pub proxied: &'a [SocketAddr],
     /// The networks from which callers are let in, besides the loopback networks.
     pub networks: &'a [Network],
+    /// The most sessions at a time.
+    pub sessions: usize,
     /// The most sessions of callers of one address. Where it is not given, an address may have as many as are free.
     pub most_from: Option<usize>,
+    /// The file that is written for a monitor, if there is one.
+    pub metrics: Option<&'a str>,
     pub verbosity: Verbosity,
 }
 
@@ -105,8 +109,9 @@ fn open_and_serve<
     lines: L,
     mut answers: A,
 ) -> Result<(), CommandError> {
-    let counts = new_counts(alloc)?;
-    let opened = open_told(rt, alloc, offer.path, log, &counts)?;
+    let volume = OwnVolume::new(alloc, offer)?;
+    let opened = open_told(rt, alloc, volume.file(), log)?;
+    let metrics = metrics_file(rt, alloc, offer.metrics)?;
     let listeners = listen(rt, alloc, offer.endpoints)?;
     let proxied = listen(rt, alloc, offer.proxied)?;
     announce(offer, &mut answers)?;
@@ -114,10 +119,40 @@ fn open_and_serve<
         listeners: listeners.as_slice(),
         proxied: proxied.as_slice(),
         networks: offer.networks,
+        sessions: offer.sessions,
         most_from: offer.most_from,
         log,
+        metrics: &metrics,
     };
-    run(rt, alloc, entrance, opened, counts, lines, answers)
+    let outcome = run(rt, alloc, entrance, opened, &volume.counts, lines, answers);
+    volume.file().outcome(outcome)
+}
+
+/// The volume that is served.
+#[derive(Drop)]
+struct OwnVolume {
+    path: String,
+    counts: Arc<Counts, Global>,
+    sessions: usize,
+}
+
+impl OwnVolume {
+    /// Refused only for want of memory.
+    fn new(alloc: Global, offer: &Offer<'_>) -> Result<OwnVolume, AllocError> {
+        Ok(OwnVolume {
+            path: String::from_str(alloc, offer.path)?,
+            counts: new_counts(alloc)?,
+            sessions: offer.sessions,
+        })
+    }
+
+    fn file(&self) -> VolumeFile<'_> {
+        VolumeFile {
+            path: self.path.as_str(),
+            counts: &self.counts,
+            sessions: self.sessions,
+        }
+    }
 }
 
 /// Where callers come in.
@@ -126,8 +161,26 @@ struct Entrance<'a> {
     listeners: &'a [TcpListener],
     proxied: &'a [TcpListener],
     networks: &'a [Network],
+    sessions: usize,
     most_from: Option<usize>,
     log: &'a Log,
+    metrics: &'a Option<MetricsFile>,
+}
+
+/// The file for a monitor. It is made empty, so that a file that can't be written is refused before anybody is served.
+fn metrics_file<R: Files<File = File>>(
+    rt: &R,
+    alloc: Global,
+    path: Option<&str>,
+) -> Result<Option<MetricsFile>, CommandError> {
+    let Some(path) = path else {
+        return Ok(None);
+    };
+    let file = MetricsFile::at(alloc, path)?;
+    match file.put(rt, b"") {
+        Ok(()) => Ok(Some(file)),
+        Err(error) => Err(CommandError::NoMetrics(error)),
+    }
 }
 
 /// Listens on all endpoints. The refusal names the first on which that fails.
@@ -183,7 +236,8 @@ struct Parts<'a> {
 
 /// Serves an opened volume.
 fn run<
-    R: Net<Listener = TcpListener, Stream = TcpStream>
+    R: Files<File = File>
+        + Net<Listener = TcpListener, Stream = TcpStream>
         + Threads
         + Wait
         + Clock
@@ -198,7 +252,7 @@ fn run<
     alloc: Global,
     entrance: Entrance<'_>,
     opened: Opened<VolumeDisk>,
-    counts: Arc<Counts, Global>,
+    counts: &Arc<Counts, Global>,
     lines: L,
     answers: A,
 ) -> Result<(), CommandError>
@@ -215,7 +269,7 @@ fn run<
     let Ok(marks) = BitmapMarks::read(&mut journal) else {
         return Err(CommandError::Fault);
     };
-    let tally = Tally::new(marks.all(), counts);
+    let tally = Tally::new(marks.all(), Arc::try_clone(counts)?);
     let newest = newest_moment(kernel.spool());
     let kern = Locked::new(kernel);
     let parts = Parts {
@@ -237,7 +291,8 @@ fn run<
 
 /// Serves these parts.
 fn serve_parts<
-    R: Net<Listener = TcpListener, Stream = TcpStream>
+    R: Files<File = File>
+        + Net<Listener = TcpListener, Stream = TcpStream>
         + Threads
         + Wait
         + Clock
@@ -272,6 +327,7 @@ fn serve_parts<
         listeners: entrance.listeners,
         proxied: entrance.proxied,
         networks: entrance.networks,
+        sessions: entrance.sessions,
         most_from: entrance.most_from,
         log: entrance.log,
         journal,
@@ -285,6 +341,7 @@ fn serve_parts<
         newest,
         gate: &NoGate,
         limits: Limits::standard(),
+        metrics: entrance.metrics.as_ref(),
     };
     match server::serve(rt, alloc, server, lines, answers) {
         Ok(()) => Ok(()),

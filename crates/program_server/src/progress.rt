@@ -6,14 +6,14 @@ ghost use Rattle.journal.specs.Journal.{IsReady};
 use counting::Counts;
 use crossbeam_channel::{Receiver, RecvTimeoutError, bounded};
 use logging::{Log, LogEvent, OpeningStep};
-use opening::Opened;
+use opening::{OpenError, Opened, Refused};
 use printing::CommandError;
-use program_files::{VolumeDisk, block_octets, find, open_counted};
+use program_files::{VolumeDisk, VolumeFile, block_octets, find, refusal_of};
 use std::alloc::Global;
 use std::fs::File;
 use std::rt::Files;
+use std::sync::Wait;
 use std::sync::atomic::Ordering;
-use std::sync::{Arc, Wait};
 use std::thread::{self, Threads};
 use std::time::{Clock, Duration, Instant};
 
@@ -36,32 +36,63 @@ struct Told<'a> {
 pub(crate) fn open_told<R: Files<File = File> + Threads + Wait + Clock + Sync>(
     rt: &R,
     alloc: Global,
-    path: &str,
+    file: VolumeFile<'_>,
     log: &Log,
-    counts: &Arc<Counts, Global>,
 ) -> Result<Opened<VolumeDisk>, CommandError>
     ensures { IfOk result (λ opened. IsReady opened.journal) }
 {
-    let disk = find(rt, alloc, path)?;
-    let (opening, ended) = bounded::<(), Global>(alloc, 1)?;
-    let own = Arc::try_clone(counts)?;
+    let disk = find(rt, alloc, file.path)?;
+    let (under_way, ended) = bounded::<(), Global>(alloc, 1)?;
     let told = Told {
         log,
-        counts,
+        counts: file.counts,
         octets: block_octets(&disk),
     };
+    let (device, sessions) = (file.collecting(alloc, disk)?, file.sessions);
     let ((), opened) = thread::join(
         rt,
         || tell(rt, told, &ended),
-        move || -> Result<Opened<VolumeDisk>, CommandError>
+        move || -> Result<Opened<VolumeDisk>, Refused<VolumeDisk>>
             ensures { IfOk result (λ opened. IsReady opened.journal) }
         {
-            let opened = open_counted(rt, alloc, path, disk, own);
-            drop(opening);
+            let opened = opening::open(alloc, device, sessions);
+            drop(under_way);
             opened
         },
     );
-    opened
+    match opened {
+        Ok(opened) => Ok(opened),
+        Err(refused) => {
+            let Refused { disk, error } = refused;
+            // so that the file is no longer locked
+            drop(disk);
+            Err(look_told(rt, alloc, file, error, told))
+        }
+    }
+}
+
+/// Looks why the volume in a file can't be opened, which reads it once more. While that lasts, the log is told how far it is, as
+/// it is of an opening.
+fn look_told<R: Files<File = File> + Threads + Wait + Clock + Sync>(
+    rt: &R,
+    alloc: Global,
+    file: VolumeFile<'_>,
+    error: OpenError,
+    told: Told<'_>,
+) -> CommandError {
+    let Ok((under_way, ended)) = bounded::<(), Global>(alloc, 1) else {
+        return refusal_of(rt, alloc, file, error);
+    };
+    let ((), refusal) = thread::join(
+        rt,
+        || tell(rt, told, &ended),
+        move || {
+            let refusal = refusal_of(rt, alloc, file, error);
+            drop(under_way);
+            refusal
+        },
+    );
+    refusal
 }
 
 /// Notes every two seconds how far an opening is, until it has ended, which disconnects this channel. Without a clock it

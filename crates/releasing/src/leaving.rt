@@ -12,6 +12,7 @@ use model::{Message, Moment};
 use shared_kernel::{Asked, Bells, ExecError, ExecOutcome, Gate, Kern};
 use std::sync::Wait;
 use std::thread;
+use std::time::Clock;
 
 /// The thread that flushes is not told yet of a block that was left. It has no `Drop`, so it must be.
 pub struct Untold(());
@@ -91,7 +92,7 @@ impl ReplyWriter {
     /// became of it. Only the thread that flushes calls this. It waits for no lock: between its look and the lock the
     /// session's thread may take the block back and begin a long write. As long as a block is left, whoever has the lock
     /// has it for a short time.
-    pub fn file_left<R: Wait, K: Kern, G: Gate>(
+    pub fn file_left<R: Wait + Clock, K: Kern, G: Gate>(
         &self,
         shared: &Shared<'_, R, K, G>,
     ) -> Option<FiledBlock> {
@@ -107,7 +108,7 @@ impl ReplyWriter {
         unreachable!()
     }
 
-    fn file_in<R: Wait, K: Kern, G: Gate>(
+    fn file_in<R: Wait + Clock, K: Kern, G: Gate>(
         &self,
         shared: &Shared<'_, R, K, G>,
         mut turn: Turn<'_>,
@@ -121,7 +122,7 @@ impl ReplyWriter {
 
     /// Has the kernel answer the block that was left, and writes what is ready at once. A block that is refused because too
     /// many blocks are dirty stays left: then this turn takes a batch, and the next one files it.
-    fn file<R: Wait, K: Kern, G: Gate>(
+    fn file<R: Wait + Clock, K: Kern, G: Gate>(
         &self,
         shared: &Shared<'_, R, K, G>,
         turn: &mut Turn<'_>,

@@ -8,6 +8,7 @@ mod releaser;
 mod shared;
 mod turns;
 mod writer;
+mod writers;
 
 pub use delivering::{Limits, give_short_writes};
 pub use leaving::{FiledBlock, TakenBack, Untold};
@@ -15,3 +16,4 @@ pub use outgoing::{Cut, Delivery};
 pub use releaser::{release_all, release_committed};
 pub use shared::Shared;
 pub use writer::{Released, ReplyWriter};
+pub use writers::Writers;

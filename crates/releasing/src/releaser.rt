@@ -1,7 +1,7 @@
 //! After each commit the replies that waited for it are released: by the thread that flushes, and where many wait, or a
 //! caller is slow, by the releaser too. At the server's end the releaser disconnects the callers.
 
-use crate::Shared;
+use crate::{Shared, Writers};
 use shared_kernel::{Gate, Kern};
 use std::net::Shutdown;
 use std::sync::Wait;
@@ -20,15 +20,13 @@ const FEW: usize = 12;
 /// that once took less than was written to the releaser, since each write to them may cost it a tick, and has the releaser
 /// help where many wait.
 pub fn release_committed<R: Wait, K: Kern, G: Gate>(shared: &Shared<'_, R, K, G>) {
-    let waiting = shared
-        .writers
-        .iter()
-        .filter(|writer| writer.is_waiting())
-        .count();
-    if waiting > FEW {
+    if count_waiting(shared.writers) > FEW {
         shared.bells.releaser.unpark();
     }
-    for writer in shared.writers {
+    for place in 0..shared.writers.len() {
+        let Some(writer) = shared.writers.get(place) else {
+            return;
+        };
         if writer.is_waiting() && writer.is_slow() {
             shared.bells.releaser.unpark();
         } else {
@@ -37,14 +35,23 @@ pub fn release_committed<R: Wait, K: Kern, G: Gate>(shared: &Shared<'_, R, K, G>
     }
 }
 
+/// The number of sessions that may wait for a commit.
+fn count_waiting(writers: &Writers) -> usize {
+    let mut waiting = 0usize;
+    for place in 0..writers.len() {
+        if writers.get(place).is_some_and(|writer| writer.is_waiting()) {
+            waiting = waiting.saturating_add(1);
+        }
+    }
+    waiting
+}
+
 /// Each time that it is woken, releases the replies that waited for a commit, until the server's end begins. Then it
 /// disconnects the callers. It begins with the last session, since the thread that flushes begins with the first.
 pub fn release_all<R: Wait, K: Kern, G: Gate>(shared: &Shared<'_, R, K, G>) {
     for _ in shared.rt.forever() {
         let is_last = shared.closing.has_begun();
-        for writer in shared.writers.iter().rev() {
-            writer.release_waiting(shared);
-        }
+        release_from_last(shared);
         if is_last {
             break;
         }
@@ -53,12 +60,19 @@ pub fn release_all<R: Wait, K: Kern, G: Gate>(shared: &Shared<'_, R, K, G>) {
     end_callers(shared);
 }
 
+/// Releases the replies that waited for a commit, those of the last session first.
+fn release_from_last<R: Wait, K: Kern, G: Gate>(shared: &Shared<'_, R, K, G>) {
+    for place in (0..shared.writers.len()).rev() {
+        if let Some(writer) = shared.writers.get(place) {
+            writer.release_waiting(shared);
+        }
+    }
+}
+
 /// Stops reading from the callers, so that their threads release what is ready and leave. A caller that takes nothing
 /// meanwhile is cut off.
 fn end_callers<R: Wait, K: Kern, G: Gate>(shared: &Shared<'_, R, K, G>) {
-    for writer in shared.writers {
-        writer.shut_down(shared.rt, Shutdown::Read);
-    }
+    shut_down_all(shared, Shutdown::Read);
     for _ in 0..PAUSES {
         if are_free(shared) {
             return;
@@ -68,15 +82,26 @@ fn end_callers<R: Wait, K: Kern, G: Gate>(shared: &Shared<'_, R, K, G>) {
             .releaser
             .park_timeout(shared.rt, Duration::from_millis(PAUSE_MILLIS));
     }
-    for writer in shared.writers {
-        writer.shut_down(shared.rt, Shutdown::Both);
+    shut_down_all(shared, Shutdown::Both);
+}
+
+/// Shuts down the sockets of all callers.
+fn shut_down_all<R: Wait, K, G>(shared: &Shared<'_, R, K, G>, how: Shutdown) {
+    for place in 0..shared.writers.len() {
+        if let Some(writer) = shared.writers.get(place) {
+            writer.shut_down(shared.rt, how);
+        }
     }
 }
 
 /// Whether no writer has a caller.
-fn are_free<R: Wait, K: Kern, G: Gate>(shared: &Shared<'_, R, K, G>) -> bool {
-    shared
-        .writers
-        .iter()
-        .all(|writer| writer.is_free(shared.rt))
+fn are_free<R: Wait, K, G>(shared: &Shared<'_, R, K, G>) -> bool {
+    for place in 0..shared.writers.len() {
+        if let Some(writer) = shared.writers.get(place)
+            && !writer.is_free(shared.rt)
+        {
+            return false;
+        }
+    }
+    true
 }

@@ -1,9 +1,11 @@
 //! What the threads of a server share.
 
-use crate::ReplyWriter;
+use crate::Writers;
 use delivering::Limits;
+use metrics::LongestTime;
 use shared_kernel::{Asking, Bells, Closing};
 use std::alloc::Global;
+use std::time::{Clock, Instant};
 
 /// What each thread knows of the server.
 pub struct Shared<'a, R, K, G> {
@@ -12,11 +14,13 @@ pub struct Shared<'a, R, K, G> {
     pub kern: &'a K,
     pub gate: &'a G,
     pub bells: &'a Bells,
-    /// One for each session's thread.
-    pub writers: &'a [ReplyWriter],
+    /// One for each session's thread that was started.
+    pub writers: &'a Writers,
     pub closing: &'a Closing,
     pub asking: &'a Asking,
     pub limits: Limits,
+    /// The longest that a message waited for its answer.
+    pub longest: &'a LongestTime,
 }
 
 impl<'a, R, K, G> Drop for Shared<'a, R, K, G> {
@@ -31,6 +35,7 @@ impl<'a, R, K, G> Drop for Shared<'a, R, K, G> {
             closing: _,
             asking: _,
             limits: _,
+            longest: _,
         } = self;
     }
 }
@@ -42,8 +47,22 @@ impl<'a, R, K, G> Shared<'a, R, K, G> {
         self.closing.begin();
         self.bells.later.ring();
         self.bells.releaser.unpark();
-        for writer in self.writers {
-            writer.wake_all();
+        for place in 0..self.writers.len() {
+            if let Some(writer) = self.writers.get(place) {
+                writer.wake_all();
+            }
+        }
+    }
+}
+
+impl<'a, R: Clock, K, G> Shared<'a, R, K, G> {
+    /// Notes that a message was answered that was asked at this time. Without a clock nothing is noted.
+    pub(crate) fn note_answered(&self, since: Option<Instant>) {
+        let Some(since) = since else {
+            return;
+        };
+        if let Ok(took) = since.elapsed(self.rt) {
+            self.longest.note(took);
         }
     }
 }

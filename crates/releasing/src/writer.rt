@@ -13,7 +13,7 @@ use std::alloc::{AllocError, Global};
 use std::net::{Shutdown, TcpStream};
 use std::sync::{Arc, Wait};
 use std::thread::Parker;
-use std::time::Clock;
+use std::time::{Clock, Instant};
 
 /// Writes the replies of one session's thread, which serves one caller after another.
 #[derive(Drop)]
@@ -89,7 +89,7 @@ impl ReplyWriter {
 
     /// Has a message answered, and takes what is ready. What does not fit is written before anything else is served.
     /// The thread that calls this has no block left, and calls `send` or `release` before it waits.
-    pub fn answer<R: Wait, K: Kern, G: Gate>(
+    pub fn answer<R: Wait + Clock, K: Kern, G: Gate>(
         &self,
         shared: &Shared<'_, R, K, G>,
         message: &Message,
@@ -109,8 +109,8 @@ impl ReplyWriter {
         answered
     }
 
-    /// Has the kernel answer a message, and takes what is ready.
-    pub(crate) fn answer_into<R: Wait, K: Kern, G: Gate>(
+    /// Has the kernel answer a message, and takes what is ready. How long that took is noted.
+    pub(crate) fn answer_into<R: Wait + Clock, K: Kern, G: Gate>(
         &self,
         shared: &Shared<'_, R, K, G>,
         turn: &mut Turn<'_>,
@@ -122,6 +122,7 @@ impl ReplyWriter {
             return Err(ExecError::NoSession);
         }
         self.desk.note_taking();
+        let since = Instant::now(shared.rt).ok();
         let answer = shared.kern.answer(
             shared.rt,
             shared.alloc,
@@ -130,6 +131,7 @@ impl ReplyWriter {
             moment,
             &mut outgoing.ready,
         );
+        shared.note_answered(since);
         match answer {
             Ok(answered) => self.desk.note_waiting(answered.is_held),
             // nothing was taken, whatever a commit found before

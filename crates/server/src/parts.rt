@@ -3,6 +3,7 @@
 ghost use Rattle.std.specs.Prelude.{◌≡◌};
 ghost use Rattle.journal.specs.Journal.{IsIdle};
 
+use crate::MetricsFile;
 use disk::Disk;
 use flusher::{FlushError, TurnSeat};
 use journal::Journal;
@@ -27,6 +28,8 @@ pub struct Server<'a, D: Disk, K, G> {
     pub proxied: &'a [TcpListener],
     /// The networks from which callers are let in, besides the loopback networks.
     pub networks: &'a [Network],
+    /// The most sessions at a time, as the kernel was told.
+    pub sessions: usize,
     /// The most sessions of callers of one address. Where it is not given, an address may have as many as are free.
     pub most_from: Option<usize>,
     pub log: &'a Log,
@@ -43,6 +46,8 @@ pub struct Server<'a, D: Disk, K, G> {
     pub newest: Moment,
     pub gate: &'a G,
     pub limits: Limits,
+    /// The file that is written for a monitor, if there is one.
+    pub metrics: Option<&'a MetricsFile>,
     ghost idle: { IsIdle journal },
     ghost flushes: { flush_seat.mark ≡ mark.now },
     ghost looks: { seat.mark ≡ mark.now },

@@ -3,27 +3,34 @@
 ghost use Rattle.std.specs.Prelude.{◌≡◌};
 ghost use Rattle.journal.specs.Journal.{IsIdle};
 
+use crate::monitoring::{Monitor, Written, write, write_all};
+use crate::staff::{Recruiter, Staff, Started, Wanted};
 use crate::{ServeError, Server};
 use accepting::{Acceptor, Caller, Doors, FAREWELLS, Parting, Way, linger_all};
-use answering::SessionThread;
 use attending::{Attending, Reserve, Verdicts, Watching, file_left};
 use crossbeam_channel::{Receiver, Sender, bounded};
 use disk::Disk;
 use flusher::{FlushError, Flusher, FlusherEnd, flush_all};
-use logging::{Log, LogEvent, Moments};
+use logging::{Cause, Log, LogEvent, Moments};
 use mark::{Mark, Seat};
+use metrics::LongestTime;
 use networks::Guests;
 use operator::Operator;
-use releasing::{ReplyWriter, Shared, release_all};
-use shared_kernel::{Asking, Bells, Closing, Gate, Kern, SESSIONS, halt};
+use releasing::{Shared, Writers, release_all};
+use shared_kernel::{Asking, Bells, Closing, Gate, Kern, halt};
 use std::alloc::{AllocError, Global};
+use std::fs::File;
 use std::io::{BufRead, Write};
 use std::net::{Net, TcpListener, TcpStream};
-use std::sync::Wait;
+use std::rt::Files;
+use std::sync::{Mutex, Wait};
 use std::thread::{self, JoinHandle, Scope, Threads};
 use std::time::{Clock, Duration, Instant};
 use usage::{Tally, VolumeFacts};
 use volume::BatchBuf;
+
+/// The most callers who are on the way to their sessions' threads. There is a thread for each, so none of them waits.
+const CALLS: usize = 64;
 
 /// After a refused turn of the flusher the server waits so many seconds for one more caller.
 const LAST_CALL_SECS: u64 = 5;
@@ -33,7 +40,8 @@ const LAST_CALL_SECS: u64 = 5;
 /// and the result says why: `Ok` after a stop. After a refusal the server ends with the next caller that is let in, once
 /// the operator asks for it, or after some seconds; a stop that the operator asked for before waits for no caller either.
 pub fn serve<
-    R: Net<Listener = TcpListener, Stream = TcpStream>
+    R: Files<File = File>
+        + Net<Listener = TcpListener, Stream = TcpStream>
         + Threads
         + Wait
         + Clock
@@ -41,7 +49,7 @@ pub fn serve<
         + Send
         + Sync
         + 'static,
-    D: Disk + Drop,
+    D: Disk + Drop + Send,
     K: Kern + Sync,
     G: Gate + Sync,
     L: BufRead + Send + Drop + 'static,
@@ -58,6 +66,7 @@ pub fn serve<
         listeners,
         proxied,
         networks,
+        sessions,
         most_from,
         log,
         journal,
@@ -71,27 +80,29 @@ pub fn serve<
         newest,
         gate,
         limits,
+        metrics,
     } = server;
-    let guests = Guests::new(alloc, SESSIONS, most_from)?;
+    let guests = Guests::new(alloc, sessions, most_from)?;
     let doors = Doors::new(alloc, listeners, proxied, networks, guests).ok_or(ServeError::Memory)?;
     let Parts {
         batch,
         writers,
         channels,
         caller,
-        acceptors,
-    } = Parts::make(rt, alloc, lines, answers)?;
+    } = Parts::make(rt, alloc, sessions, lines, answers)?;
     let moments = Moments::new(newest);
+    let longest = LongestTime::new();
     let shared = Shared {
         rt,
         alloc,
         kern,
         gate,
         bells: &bells,
-        writers: writers.as_slice(),
+        writers: &writers,
         closing: &closing,
         asking: &asking,
         limits,
+        longest: &longest,
     };
     let flusher = Flusher {
         journal,
@@ -112,67 +123,119 @@ pub fn serve<
         log,
         host: facts.host,
     };
+    let monitor = match metrics {
+        Some(file) => Some(Monitor {
+            file,
+            log,
+            tally,
+            facts,
+        }),
+        None => None,
+    };
+    let started = Mutex::new(Started::none());
+    let recruiting = Mutex::new(());
     let hall = Hall {
         shared: &shared,
+        started: &started,
+        asking: &recruiting,
         channels: &channels,
         moments: &moments,
         doors: &doors,
         reserve: &reserve,
         verdicts,
         log,
+        monitor,
     };
-    run(&hall, flusher, looker, Acceptors { caller, acceptors })
+    let outcome = run_and_watch(&hall, flusher, looker, caller);
+    if let Some(monitor) = monitor {
+        write(&shared, monitor, &mut Written::nothing());
+    }
+    outcome
 }
 
 /// The parts that take memory before the threads start.
 #[derive(Drop)]
 struct Parts {
     batch: BatchBuf,
-    writers: Vec<ReplyWriter>,
+    writers: Writers,
     channels: Channels,
     caller: Sender<Caller>,
-    acceptors: Vec<JoinHandle<()>>,
 }
 
 /// The channels between the threads.
 #[derive(Drop)]
-struct Channels {
-    calls: Receiver<Caller>,
-    parting: Sender<Parting>,
+pub(crate) struct Channels {
+    pub(crate) calls: Receiver<Caller>,
+    pub(crate) parting: Sender<Parting>,
     partings: Receiver<Parting>,
     operator: Operator,
+    /// It is sent to once the monitor is to be told no more.
+    unwatched: Sender<()>,
+    watched: Receiver<()>,
+    /// How many sessions are to have threads, and whether they have.
+    pub(crate) wanted: Sender<Wanted>,
+    pub(crate) asked: Receiver<Wanted>,
+    pub(crate) staffed: Sender<bool>,
+    pub(crate) told: Receiver<bool>,
+}
+
+impl Channels {
+    /// Refused only for want of memory.
+    fn new(
+        alloc: Global,
+        calls: Receiver<Caller>,
+        operator: Operator,
+    ) -> Result<Channels, AllocError> {
+        let (parting, partings) = bounded(alloc, FAREWELLS)?;
+        let (unwatched, watched) = bounded(alloc, 1)?;
+        let (wanted, asked) = bounded(alloc, 1)?;
+        let (staffed, told) = bounded(alloc, 1)?;
+        Ok(Channels {
+            calls,
+            parting,
+            partings,
+            operator,
+            unwatched,
+            watched,
+            wanted,
+            asked,
+            staffed,
+            told,
+        })
+    }
 }
 
 /// What the threads of a server share.
-struct Hall<'a, R, K, G> {
-    shared: &'a Shared<'a, R, K, G>,
-    channels: &'a Channels,
-    moments: &'a Moments,
-    doors: &'a Doors<'a>,
-    reserve: &'a Reserve<'a>,
-    verdicts: Verdicts<'a>,
-    log: &'a Log,
+pub(crate) struct Hall<'a, R, K, G> {
+    pub(crate) shared: &'a Shared<'a, R, K, G>,
+    /// The threads of sessions that were started.
+    pub(crate) started: &'a Mutex<Started>,
+    /// Held by the acceptor that asks for threads.
+    pub(crate) asking: &'a Mutex<()>,
+    pub(crate) channels: &'a Channels,
+    pub(crate) moments: &'a Moments,
+    pub(crate) doors: &'a Doors<'a>,
+    pub(crate) reserve: &'a Reserve<'a>,
+    pub(crate) verdicts: Verdicts<'a>,
+    pub(crate) log: &'a Log,
+    pub(crate) monitor: Option<Monitor<'a>>,
 }
 
 impl<'a, R, K, G> Drop for Hall<'a, R, K, G> {
     fn drop(self) {
         let Hall {
             shared: _,
+            started: _,
+            asking: _,
             channels: _,
             moments: _,
             doors: _,
             reserve: _,
             verdicts: _,
             log: _,
+            monitor: _,
         } = self;
     }
-}
-
-/// The way to the sessions' threads, and room for the threads of the acceptors.
-#[derive(Drop)]
-struct Acceptors {
-    caller: Sender<Caller>,
-    acceptors: Vec<JoinHandle<()>>,
 }
 
 /// What the operator's thread looks at.
@@ -191,36 +254,54 @@ impl Parts {
         R: Threads + Wait + Copy + Send + 'static,
         L: BufRead + Send + Drop + 'static,
         A: Write + Send + Drop + 'static,
-    >(rt: &R, alloc: Global, lines: L, answers: A) -> Result<Parts, ServeError> {
+    >(rt: &R, alloc: Global, sessions: usize, lines: L, answers: A) -> Result<Parts, ServeError> {
         let batch = BatchBuf::new(alloc)?;
-        let writers = make_writers(alloc)?;
-        let acceptors = Vec::new(alloc);
-        let (caller, calls) = bounded(alloc, SESSIONS)?;
-        let (parting, partings) = bounded(alloc, FAREWELLS)?;
+        let writers = Writers::new(alloc, sessions)?;
+        let (caller, calls) = bounded(alloc, CALLS)?;
         let operator = Operator::start(rt, alloc, lines, answers)?;
-        let channels = Channels {
-            calls,
-            parting,
-            partings,
-            operator,
-        };
+        let channels = Channels::new(alloc, calls, operator)?;
         Ok(Parts {
             batch,
             writers,
             channels,
             caller,
-            acceptors,
         })
     }
 }
 
-/// Makes one writer for each session's thread.
-fn make_writers(alloc: Global) -> Result<Vec<ReplyWriter>, AllocError> {
-    let mut writers = Vec::new(alloc);
-    for _ in 0..SESSIONS {
-        writers.push(ReplyWriter::new(alloc)?)?;
-    }
-    Ok(writers)
+/// Runs all threads except the two that wait for the operator. If a monitor is told of the server, the calling thread writes
+/// for it meanwhile: of all threads it alone may make files.
+fn run_and_watch<
+    'a,
+    R: Files<File = File>
+        + Net<Listener = TcpListener, Stream = TcpStream>
+        + Threads
+        + Wait
+        + Clock
+        + Sync,
+    D: Disk + Drop + Send,
+    K: Kern + Sync,
+    G: Gate + Sync,
+>(
+    hall: &'a Hall<'a, R, K, G>,
+    flusher: Flusher<'a, D>,
+    looker: Looker<'a>,
+    caller: Sender<Caller>,
+) -> Result<(), ServeError> {
+    let Some(monitor) = hall.monitor else {
+        return run(hall, flusher, looker, caller);
+    };
+    let rt = hall.shared.rt;
+    let (outcome, ()) = thread::join(
+        rt,
+        move || {
+            let outcome = run(hall, flusher, looker, caller);
+            let _ = hall.channels.unwatched.try_send(rt, ());
+            outcome
+        },
+        || write_all(hall.shared, monitor, &hall.channels.watched),
+    );
+    outcome
 }
 
 /// Runs all threads except the two that wait for the operator. The calling thread flushes.
@@ -234,7 +315,7 @@ fn run<
     hall: &'a Hall<'a, R, K, G>,
     flusher: Flusher<'a, D>,
     looker: Looker<'a>,
-    acceptors: Acceptors,
+    caller: Sender<Caller>,
 ) -> Result<(), ServeError> {
     let Shared { rt, .. } = hall.shared;
     thread::scope(
@@ -242,12 +323,10 @@ fn run<
         *rt,
         move |scope| -> Result<(), ServeError> {
             let facts = looker.facts;
-            let has_sessions = start_sessions(scope, hall);
+            // so a server that can't start a thread ends at once
+            let has_sessions = Staff { scope, hall }.start_up_to(1);
             let has_others = start_others(scope, hall, looker);
-            let Acceptors {
-                caller,
-                mut acceptors,
-            } = acceptors;
+            let mut acceptors = Vec::new(hall.shared.alloc);
             let has_acceptors = has_sessions
                 && has_others
                 && start_accepting(scope, hall, &caller, Way::Direct, &mut acceptors)
@@ -273,28 +352,19 @@ fn run<
     )
 }
 
-/// Starts the threads of all sessions. Answers false if the system cannot start all.
-fn start_sessions<'s, E, R: Wait + Clock + Sync, K: Kern + Sync, G: Gate + Sync>(
-    scope: &Scope<'s, E>,
-    hall: &'s Hall<'s, R, K, G>,
-) -> bool {
-    let mut is_started = true;
-    for writer in hall.shared.writers {
-        is_started &= start_session(scope, hall, writer);
-    }
-    is_started
-}
-
-/// Starts the releaser, the thread that lingers and the operator's. Answers false if the system cannot start all.
+/// Starts the releaser, the thread that lingers, the operator's, and the one that starts the threads of sessions. Answers
+/// false if the system cannot start all.
 fn start_others<'s, E, R: Wait + Clock + Sync, K: Kern + Sync, G: Gate + Sync>(
-    scope: &Scope<'s, E>,
+    scope: &'s Scope<'s, E>,
     hall: &'s Hall<'s, R, K, G>,
     looker: Looker<'s>,
 ) -> bool {
+    let staff = Staff { scope, hall };
     let releaser = scope.spawn(move || release_all(hall.shared));
     let lingerer = scope.spawn(move || linger(hall));
     let operator = scope.spawn(move || answer_lines(hall, looker));
-    releaser.is_ok() && lingerer.is_ok() && operator.is_ok()
+    let starter = scope.spawn(move || staff.start_as_asked());
+    releaser.is_ok() && lingerer.is_ok() && operator.is_ok() && starter.is_ok()
 }
 
 /// Starts an acceptor for each listener to which callers come in this way. Answers false if the system cannot start all.
@@ -303,9 +373,9 @@ fn start_accepting<
     E,
     R: Net<Listener = TcpListener, Stream = TcpStream> + Wait + Clock + Sync,
     K: Kern + Sync,
-    G: Sync,
+    G: Gate + Sync,
 >(
-    scope: &Scope<'s, E>,
+    scope: &'s Scope<'s, E>,
     hall: &'s Hall<'s, R, K, G>,
     caller: &Sender<Caller>,
     way: Way,
@@ -321,6 +391,7 @@ fn start_accepting<
             log: hall.log,
             way,
             calls,
+            crew: Recruiter { hall },
         };
         let Ok(thread) = scope.spawn(move || acceptor.accept_all(listener)) else {
             return false;
@@ -338,29 +409,6 @@ fn linger<R: Wait + Clock, K, G>(hall: &Hall<'_, R, K, G>) {
     linger_all(*rt, limits.linger, &hall.channels.partings)
 }
 
-/// Starts a session's thread and the one that finishes its writes. Answers false if the system cannot start both.
-fn start_session<'s, E, R: Wait + Clock + Sync, K: Kern + Sync, G: Gate + Sync>(
-    scope: &Scope<'s, E>,
-    hall: &'s Hall<'s, R, K, G>,
-    writer: &'s ReplyWriter,
-) -> bool {
-    let rests = scope.spawn(move || writer.write_rests(hall.shared));
-    let session = scope.spawn(move || {
-        let thread = SessionThread {
-            shared: hall.shared,
-            writer,
-            moments: hall.moments,
-            log: hall.log,
-            doors: hall.doors,
-            partings: &hall.channels.parting,
-            reserve: hall.reserve,
-            verdicts: hall.verdicts,
-        };
-        thread.serve_calls(&hall.channels.calls)
-    });
-    rests.is_ok() && session.is_ok()
-}
-
 /// Makes the changes that the operator's lines ask for, and has them answered.
 fn answer_lines<R: Wait + Clock, K: Kern, G>(hall: &Hall<'_, R, K, G>, looker: Looker<'_>) {
     let Shared {
@@ -369,6 +417,7 @@ fn answer_lines<R: Wait + Clock, K: Kern, G>(hall: &Hall<'_, R, K, G>, looker: L
         kern,
         bells,
         writers,
+        asking,
         ..
     } = hall.shared;
     let Looker {
@@ -386,6 +435,7 @@ fn answer_lines<R: Wait + Clock, K: Kern, G>(hall: &Hall<'_, R, K, G>, looker: L
         tally,
         facts,
         writers: *writers,
+        asking: *asking,
     };
     hall.channels.operator.answer_all(&service, seat)
 }
@@ -404,23 +454,24 @@ fn flush<R: Wait + Clock, D: Disk + Drop, K: Kern, G: Gate>(
     } = hall.shared;
     let watching = Watching::new(hall.shared, hall.log, flusher.tally, facts, hall.reserve);
     watching.look();
-    let attending = Attending::new(hall.shared, &watching, hall.verdicts);
+    let attending = Attending::new(hall.shared, &watching, hall.verdicts, flusher.tally);
+    let tally = flusher.tally;
     let end = flush_all(*rt, flusher, *kern, &attending, *bells);
     // a batch may be durable, and fail before it was looked at
     hall.log.note_durable(*rt, kern.counts(*rt).durable);
     match end {
         FlusherEnd::Stopped => Ok(()),
         FlusherEnd::Failed(error) => {
-            hall.log.note(*rt, event_of(error));
+            hall.log.note(*rt, event_of(error, tally));
             Err(ServeError::from(error))
         }
     }
 }
 
 /// What the log reports of a refused turn.
-fn event_of(error: FlushError) -> LogEvent {
+fn event_of(error: FlushError, tally: &Tally) -> LogEvent {
     match error {
-        FlushError::Fault => LogEvent::Fault,
+        FlushError::Fault => LogEvent::Fault(tally.cause().unwrap_or(Cause::Other)),
         FlushError::Halted => LogEvent::Halted,
     }
 }
@@ -472,5 +523,6 @@ fn end<R: Wait, K, G>(hall: &Hall<'_, R, K, G>) {
     let Shared { rt, .. } = hall.shared;
     hall.channels.operator.end(*rt);
     hall.shared.close();
+    let _ = hall.channels.wanted.send(*rt, Wanted::Nobody);
     let _ = hall.channels.parting.send(*rt, Parting::End);
 }

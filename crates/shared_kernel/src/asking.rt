@@ -1,12 +1,13 @@
-//! How the thread that files blocks makes room for the sessions' threads.
+//! How a thread that takes the kernel's lock again and again makes room for the sessions' threads.
 
 use std::sync::atomic::{AtomicU64, Ordering};
 use std::thread;
 
-/// The thread that files blocks lets others run so many times between two of them, until a message was answered.
+/// Such a thread lets others run so many times before it takes the lock again, until a message was answered.
 const YIELDS: u32 = 32;
 
-/// The sessions' threads that have a message answered: the thread that files blocks makes room for them.
+/// The sessions' threads that have a message answered: a thread that takes the kernel's lock again and again makes room for
+/// them.
 #[derive(Drop)]
 pub struct Asking {
     /// How many have a message answered at the moment.
@@ -35,8 +36,8 @@ impl Asking {
         self.answered.fetch_add(1, Ordering::SeqCst);
     }
 
-    /// Lets other threads run where one of them has a message answered, until one message was. Otherwise the thread that
-    /// files block after block would have the kernel's lock again before anyone who waits for it is awake.
+    /// Lets other threads run where one of them has a message answered, until one message was. Otherwise a thread that files
+    /// block after block, or counts part after part, would have the kernel's lock again before anyone who waits for it is awake.
     pub fn make_room(&self) {
         let seen = self.answered.load(Ordering::SeqCst);
         for _ in 0..YIELDS {

@@ -18,6 +18,6 @@ pub use bells::{Bell, Bells, Ringing};
 pub use closing::{Closing, Look};
 pub use errors::{AdminError, ExecError, ExpireError, JoinError, Stale};
 pub use gate::{Gate, NoGate};
-pub use kern::{Asked, ExecOutcome, Kern, KernelCounts, Obstacle, SESSIONS};
+pub use kern::{Asked, ExecOutcome, Kern, KernelCounts, MOST_SESSIONS, Obstacle, SESSIONS};
 pub use receipts::{Halted, Receipt, Told, halt, halt_if_clean, tell};
 pub use ticket::Ticket;

@@ -4,6 +4,7 @@ use crate::devices::Device;
 use disk::DiskCall;
 use memdisk::Pick;
 use outbox::ReadyBuf;
+use shared_kernel::SESSIONS;
 use std::alloc::Global;
 use std::marker::Model;
 use world::{Event, OpenError, Refused, Spool, StepAnswer, StepError, World};
@@ -39,7 +40,7 @@ impl<D: Device> Closed<D> {
 
     /// Opens it. A refusal returns it.
     pub(crate) fn open(self, alloc: Global) -> Result<Sim<D>, (Closed<D>, OpenError)> {
-        match World::open(alloc, self.disk) {
+        match World::open(alloc, self.disk, SESSIONS) {
             Ok(world) => Ok(Sim { world }),
             Err(Refused { disk, error }) => Err((Closed { disk }, error)),
         }

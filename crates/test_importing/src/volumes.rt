@@ -9,7 +9,7 @@ use names::{Description, GroupName, GroupRequest, is_host};
 use new_volume::{FORMAT_1, FORMAT_2, VolumePlan, are_sizes, device_octets};
 use opening::{OpenError, Opened};
 use rnews::entry;
-use shared_kernel::{Kern, NoGate};
+use shared_kernel::{Kern, NoGate, SESSIONS};
 use std::alloc::{AllocError, Global};
 use std::sync::Wait;
 use test_support_rows::Octets;
@@ -51,7 +51,7 @@ pub(crate) fn formatted(alloc: Global, blocks: u64, inodes: u64, format: u32) ->
 /// A device whose volume has the groups, in closed segments: an opening writes nothing.
 pub(crate) fn device<R: Wait>(rt: &R, alloc: Global, blocks: u64, inodes: u64) -> Option<MemDisk> {
     let disk = with_groups(rt, alloc, formatted(alloc, blocks, inodes, FORMAT_2)?)?;
-    match opening::open(alloc, disk) {
+    match opening::open(alloc, disk, SESSIONS) {
         Ok(Opened { journal, kernel: _ }) => Some(journal.into_disk()),
         Err(_) => None,
     }
@@ -74,7 +74,7 @@ fn with_groups<R: Wait>(rt: &R, alloc: Global, disk: MemDisk) -> Option<MemDisk>
             mut journal,
             kernel,
         },
-    ) = opening::open(alloc, disk)
+    ) = opening::open(alloc, disk, SESSIONS)
     else {
         return None;
     };

@@ -9,6 +9,7 @@ use memdisk::MemDisk;
 use model::Status;
 use names::{Description, GroupName, GroupRequest, is_host};
 use new_volume::{FORMAT_2, VolumePlan, are_sizes, device_octets, format};
+use shared_kernel::SESSIONS;
 use std::alloc::Global;
 use std::sync::{Mutex, Wait};
 use std::thread::{Threads, join};
@@ -57,7 +58,7 @@ fn new_kernel(alloc: Global) -> Option<Kernel> {
     let Ok(mut journal) = Journal::open(alloc, disk) else {
         return None;
     };
-    Kernel::open(alloc, &mut journal).ok()
+    Kernel::open(alloc, &mut journal, SESSIONS).ok()
 }
 
 /// Whether the group `x.a` was made, and its change is durable.

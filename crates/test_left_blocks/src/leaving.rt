@@ -63,6 +63,7 @@ pub(crate) fn leave<R: Net<Listener = TcpListener, Stream = TcpStream> + Wait + 
     let session = Session {
         shared: &shared,
         stage: &stage,
+        writer: stage.writer()?,
         journal: &store.journal,
         batch: &store.batch,
     };
@@ -94,7 +95,7 @@ pub(crate) fn leave<R: Net<Listener = TcpListener, Stream = TcpStream> + Wait + 
 
 /// The flusher's next turn: it files what is left, and commits what changed. Whether something was filed, and something
 /// committed.
-fn turn<R: Wait, K: Kern, G: Gate>(session: &Session<'_, R, K, G>) -> Option<(bool, bool)> {
+fn turn<R: Wait + Clock, K: Kern, G: Gate>(session: &Session<'_, R, K, G>) -> Option<(bool, bool)> {
     let is_filed = session.files();
     let mut batch = session.batch.lock(session.rt());
     let Some(ticket) = session.takes(&mut *batch) else {
@@ -105,7 +106,7 @@ fn turn<R: Wait, K: Kern, G: Gate>(session: &Session<'_, R, K, G>) -> Option<(bo
     Some((is_filed, true))
 }
 
-fn is_filed<R: Wait, K: Kern, G: Gate>(
+fn is_filed<R: Wait + Clock, K: Kern, G: Gate>(
     session: &Session<'_, R, K, G>,
     caller: &mut Caller,
     fate: Fate,
@@ -129,7 +130,7 @@ fn is_filed<R: Wait, K: Kern, G: Gate>(
     Some(is_left && is_read && was_filed && caller.reads(DATED))
 }
 
-fn is_taken_back<R: Wait, K: Kern, G: Gate>(
+fn is_taken_back<R: Wait + Clock, K: Kern, G: Gate>(
     session: &Session<'_, R, K, G>,
     caller: &mut Caller,
     number: u64,
@@ -141,7 +142,7 @@ fn is_taken_back<R: Wait, K: Kern, G: Gate>(
     Some(is_left && is_once && caller.reads(REPLIES[1]) && caller.reads(DATED))
 }
 
-fn is_put_off<R: Wait, K: Kern, G: Gate>(
+fn is_put_off<R: Wait + Clock, K: Kern, G: Gate>(
     session: &Session<'_, R, K, G>,
     caller: &mut Caller,
     stop: &Stop,
@@ -161,7 +162,7 @@ fn is_put_off<R: Wait, K: Kern, G: Gate>(
 }
 
 /// Whether a block is not left, with nothing changed.
-fn is_kept<R: Wait, K: Kern, G: Gate>(
+fn is_kept<R: Wait + Clock, K: Kern, G: Gate>(
     session: &Session<'_, R, K, G>,
     fate: Fate,
     number: u64,
@@ -188,7 +189,7 @@ fn is_kept<R: Wait, K: Kern, G: Gate>(
 }
 
 /// Whether the caller learns at once that its article is not taken.
-fn is_refused<R: Wait, K: Kern, G: Gate>(
+fn is_refused<R: Wait + Clock, K: Kern, G: Gate>(
     session: &Session<'_, R, K, G>,
     caller: &mut Caller,
     fate: Fate,

@@ -145,8 +145,12 @@ fn describe<W: Write>(output: &mut W, service: &ServeOptions<'_>) -> Result<()> 
     let networks = service.networks.len();
     let quiet = if service.is_quiet { ", quiet" } else { "" };
     write!(output, ", networks {networks}{quiet}")?;
+    write!(output, ", sessions {}", service.sessions)?;
     if let Some(most) = service.most_from {
         write!(output, ", most {most}")?;
+    }
+    if let Some(path) = service.metrics {
+        write!(output, ", metrics {path}")?;
     }
     writeln!(output)?;
     Ok(())

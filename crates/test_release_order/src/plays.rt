@@ -44,7 +44,7 @@ pub(crate) struct Order {
 }
 
 /// The session's thread.
-fn serve<R: Wait, K: Kern, G: Gate>(
+fn serve<R: Wait + Clock, K: Kern, G: Gate>(
     session: &Session<'_, R, K, G>,
     stop: &Stop,
     order: Order,
@@ -78,7 +78,10 @@ fn serve<R: Wait, K: Kern, G: Gate>(
 }
 
 /// Waits until nothing is held.
-fn finish<R: Wait, K: Kern, G: Gate>(session: &Session<'_, R, K, G>, stop: &Stop) -> Option<()> {
+fn finish<R: Wait + Clock, K: Kern, G: Gate>(
+    session: &Session<'_, R, K, G>,
+    stop: &Stop,
+) -> Option<()> {
     for _ in 0..WAITS {
         if !session.writer().release(session.shared).is_held {
             return Some(());
@@ -91,7 +94,7 @@ fn finish<R: Wait, K: Kern, G: Gate>(session: &Session<'_, R, K, G>, stop: &Stop
 }
 
 /// Has the next message answered, while the other thread is stopped in a release.
-fn ask_for_date<R: Wait, K: Kern, G: Gate>(
+fn ask_for_date<R: Wait + Clock, K: Kern, G: Gate>(
     session: &Session<'_, R, K, G>,
     stop: &Stop,
 ) -> Option<()> {
@@ -105,7 +108,7 @@ fn ask_for_date<R: Wait, K: Kern, G: Gate>(
 }
 
 /// The steps of the other thread: it commits and releases, or ends the server.
-fn commit<R: Wait, K: Kern, G: Gate>(
+fn commit<R: Wait + Clock, K: Kern, G: Gate>(
     session: &Session<'_, R, K, G>,
     stop: &Stop,
     order: Order,
@@ -130,7 +133,7 @@ fn commit<R: Wait, K: Kern, G: Gate>(
 }
 
 /// Then it reads the caller's replies, and the caller sends nothing more. The session's thread must end before the server.
-fn commit_and_read<R: Wait, K: Kern, G: Gate>(
+fn commit_and_read<R: Wait + Clock, K: Kern, G: Gate>(
     session: &Session<'_, R, K, G>,
     caller: Caller,
     stop: &Stop,
@@ -160,10 +163,14 @@ pub(crate) fn play<
     let Some((stage, caller)) = Stage::new(rt, alloc, &store.kernel, Limits::standard()) else {
         return false;
     };
+    let Some(writer) = stage.writer() else {
+        return false;
+    };
     let shared = stage.shared(rt, &kern, &gate);
     let session = Session {
         shared: &shared,
         stage: &stage,
+        writer,
         journal: &store.journal,
         batch: &store.batch,
     };
@@ -171,7 +178,7 @@ pub(crate) fn play<
 }
 
 /// The threads of a play. The third one finishes what the releaser could not write.
-fn run<'a, R: Threads + Wait + Sync, K: Kern + Sync, G: Gate + Sync>(
+fn run<'a, R: Threads + Wait + Clock + Sync, K: Kern + Sync, G: Gate + Sync>(
     session: &'a Session<'a, R, K, G>,
     caller: Caller,
     stop: &'a Stop,

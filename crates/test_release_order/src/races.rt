@@ -29,6 +29,7 @@ pub(crate) fn race<
     let session = Session {
         shared: &shared,
         stage: &stage,
+        writer: stage.writer()?,
         journal: &store.journal,
         batch: &store.batch,
     };
@@ -36,7 +37,7 @@ pub(crate) fn race<
 }
 
 /// The two threads of the race.
-fn run<'a, R: Threads + Wait + Sync, K: Kern + Sync, G: Gate + Sync>(
+fn run<'a, R: Threads + Wait + Clock + Sync, K: Kern + Sync, G: Gate + Sync>(
     session: &'a Session<'a, R, K, G>,
     caller: Caller,
 ) -> Option<()> {
@@ -50,7 +51,7 @@ fn run<'a, R: Threads + Wait + Sync, K: Kern + Sync, G: Gate + Sync>(
 }
 
 /// The session's thread. It reads its caller's replies before the caller sends the next article.
-fn post_all<R: Wait, K: Kern, G: Gate>(
+fn post_all<R: Wait + Clock, K: Kern, G: Gate>(
     session: &Session<'_, R, K, G>,
     caller: Caller,
 ) -> Option<()> {
@@ -85,7 +86,7 @@ fn post_all<R: Wait, K: Kern, G: Gate>(
 }
 
 /// The other thread.
-fn commit_all<R: Wait, K: Kern, G: Gate>(session: &Session<'_, R, K, G>) -> Option<()> {
+fn commit_all<R: Wait + Clock, K: Kern, G: Gate>(session: &Session<'_, R, K, G>) -> Option<()> {
     let mut batch = BatchBuf::new(session.shared.alloc).ok()?;
     for round in 0..ROUNDS {
         let ticket = next_ticket(session, &mut batch)?;
@@ -99,7 +100,7 @@ fn commit_all<R: Wait, K: Kern, G: Gate>(session: &Session<'_, R, K, G>) -> Opti
 }
 
 /// Takes the changed blocks as soon as there are any.
-fn next_ticket<R: Wait, K: Kern, G: Gate>(
+fn next_ticket<R: Wait + Clock, K: Kern, G: Gate>(
     session: &Session<'_, R, K, G>,
     batch: &mut BatchBuf,
 ) -> Option<Ticket> {

@@ -56,6 +56,7 @@ pub(crate) fn lets_go<R: Net<Listener = TcpListener, Stream = TcpStream> + Wait 
     let session = Session {
         shared: &shared,
         stage: &stage,
+        writer: stage.writer()?,
         journal: &store.journal,
         batch: &store.batch,
     };
@@ -86,6 +87,7 @@ pub(crate) fn keeps<
     let session = Session {
         shared: &shared,
         stage: &stage,
+        writer: stage.writer()?,
         journal: &store.journal,
         batch: &store.batch,
     };
@@ -93,7 +95,7 @@ pub(crate) fn keeps<
 }
 
 /// The two threads of such a play.
-fn run<'a, R: Threads + Wait + Sync, K: Kern + Sync, G: Gate + Sync>(
+fn run<'a, R: Threads + Wait + Clock + Sync, K: Kern + Sync, G: Gate + Sync>(
     session: &'a Session<'a, R, K, G>,
     caller: Caller,
     stop: &'a Stop,
@@ -108,7 +110,7 @@ fn run<'a, R: Threads + Wait + Sync, K: Kern + Sync, G: Gate + Sync>(
 }
 
 /// Asks for the same again and again once the socket is full, and answers how many octets the caller has to take.
-fn send_much<R: Wait, K: Kern, G: Gate>(
+fn send_much<R: Wait + Clock, K: Kern, G: Gate>(
     session: &Session<'_, R, K, G>,
     stop: &Stop,
 ) -> Option<u64> {
@@ -130,7 +132,7 @@ fn send_much<R: Wait, K: Kern, G: Gate>(
 }
 
 /// The number of octets in the reply to that.
-fn reply_octets<R: Wait, K: Kern, G: Gate>(session: &Session<'_, R, K, G>) -> Option<u64> {
+fn reply_octets<R: Wait + Clock, K: Kern, G: Gate>(session: &Session<'_, R, K, G>) -> Option<u64> {
     let Shared {
         rt,
         alloc,

@@ -8,7 +8,9 @@ use model::Message;
 use server::{Limits, ServeError};
 use shared_kernel::{ExecError, NoGate};
 use std::alloc::{AllocError, Global};
+use std::fs::File;
 use std::net::{Net, TcpListener, TcpStream};
+use std::rt::Files;
 use std::sync::atomic::{AtomicBool, Ordering};
 use std::sync::{Arc, Wait};
 use std::thread::{Threads, join};
@@ -94,7 +96,8 @@ impl Props {
 
 /// Serves until the operator stops the server, or its device fails.
 fn run<
-    R: Net<Listener = TcpListener, Stream = TcpStream>
+    R: Files<File = File>
+        + Net<Listener = TcpListener, Stream = TcpStream>
         + Threads
         + Wait
         + Clock
@@ -141,7 +144,8 @@ fn run<
 
 /// Runs a server and its callers to their end.
 pub(crate) fn play<
-    R: Net<Listener = TcpListener, Stream = TcpStream>
+    R: Files<File = File>
+        + Net<Listener = TcpListener, Stream = TcpStream>
         + Threads
         + Wait
         + Clock
@@ -164,10 +168,11 @@ pub(crate) fn play<
         answers: &props.answers,
         logged: &props.logged,
     };
-    let (ended, is_good) = join(
+    // the calling thread alone may make files, as a server does
+    let (is_good, ended) = join(
         rt,
-        || run(rt, alloc, &listeners, &props, scene),
         || leave_after(&visit, &props, scene),
+        || run(rt, alloc, &listeners, &props, scene),
     );
     Some(Outcome {
         is_good,

@@ -147,7 +147,7 @@ impl<'a, R: Net<Listener = TcpListener, Stream = TcpStream> + Wait + Clock> Visi
             },
             // the volume is full, a caller is refused, and each session begins and ends
             Scene::Crowd => self.crowd() && self.logged.are(self.rt, 2 * SESSIONS + 2),
-            Scene::Fault => self.tells(" event=fault")
+            Scene::Fault => self.tells(" event=fault error=other")
                 && self.is_told()
                 && self.tells(" why=halted times=1"),
         }

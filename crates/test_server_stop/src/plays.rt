@@ -10,7 +10,9 @@ use mark::Mark;
 use memdisk::{MemDisk, Pick};
 use server::Limits;
 use std::alloc::Global;
+use std::fs::File;
 use std::net::{Net, TcpListener, TcpStream};
+use std::rt::Files;
 use std::slice::from_ref;
 use std::sync::atomic::Ordering;
 use std::sync::{Arc, Mutex, Wait};
@@ -53,7 +55,8 @@ pub(crate) struct Left {
 
 /// Serves callers and the operator's lines to the end.
 fn serve<
-    R: Net<Listener = TcpListener, Stream = TcpStream>
+    R: Files<File = File>
+        + Net<Listener = TcpListener, Stream = TcpStream>
         + Threads
         + Wait
         + Clock
@@ -107,7 +110,8 @@ fn changes_on(alloc: Global, disk: MemDisk) -> Option<u64> {
 
 /// Runs a server, its callers and its operator to their end.
 pub(crate) fn stop<
-    R: Net<Listener = TcpListener, Stream = TcpStream>
+    R: Files<File = File>
+        + Net<Listener = TcpListener, Stream = TcpStream>
         + Threads
         + Wait
         + Clock
@@ -125,10 +129,11 @@ pub(crate) fn stop<
         address: listener.local_addr().ok()?,
         props: &props,
     };
-    let (served, are_good) = join(
+    // the calling thread alone may make files, as a server does
+    let (are_good, served) = join(
         rt,
-        || serve(rt, alloc, &listener, &props, play),
         || visit.call(play.callers),
+        || serve(rt, alloc, &listener, &props, play),
     );
     look(&visit, play, served?, are_good)
 }

@@ -15,8 +15,10 @@ use memdisk::MemDisk;
 use server::{Limits, ServeError};
 use shared_kernel::{Kern, Receipt, Stale, Ticket};
 use std::alloc::Global;
+use std::fs::File;
 use std::io::{self, Write};
 use std::net::{Net, TcpListener, TcpStream};
+use std::rt::Files;
 use std::slice::from_ref;
 use std::sync::atomic::{AtomicU64, Ordering};
 use std::sync::{Arc, Wait};
@@ -140,7 +142,8 @@ fn lines(holds: Holds) -> &'static [u8] {
 
 /// Serves callers until a commit or the device fails.
 fn serve<
-    R: Net<Listener = TcpListener, Stream = TcpStream>
+    R: Files<File = File>
+        + Net<Listener = TcpListener, Stream = TcpStream>
         + Threads
         + Wait
         + Clock
@@ -234,7 +237,8 @@ pub(crate) fn tell<R: Wait>(rt: &R, alloc: Global) -> Option<[Result<(), Stale>;
 
 /// Runs a server and its callers to their end.
 pub(crate) fn play<
-    R: Net<Listener = TcpListener, Stream = TcpStream>
+    R: Files<File = File>
+        + Net<Listener = TcpListener, Stream = TcpStream>
         + Threads
         + Wait
         + Clock
@@ -251,10 +255,11 @@ pub(crate) fn play<
     plan_fault(&mut scene.stage, holds);
     let listener = listen(rt)?;
     let address = listener.local_addr().ok()?;
-    let (ended, is_read) = join(
+    // the calling thread alone may make files, as a server does
+    let (is_read, ended) = join(
         rt,
-        || serve(rt, alloc, scene, &listener, holds),
         || call(rt, alloc, address, &flags, holds),
+        || serve(rt, alloc, scene, &listener, holds),
     );
     Some(Outcome {
         is_read,

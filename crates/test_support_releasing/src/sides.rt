@@ -1,9 +1,10 @@
 //! A kernel under its lock, before and after whose calls a thread stops.
 
 use crate::stops::{Point, Stop};
+use expiring::{AgedGroup, GonePart};
 use locked_kernel::Locked;
 use model::{Message, Mode, Moment, Text};
-use names::{GroupName, GroupRequest};
+use names::{GroupName, GroupRequest, Wildmat};
 use outbox::ReadyBuf;
 use shared_kernel::{
     AdminError, ExecError, ExecOutcome, ExpireError, JoinError, Kern, KernelCounts, Obstacle,
@@ -68,6 +69,14 @@ impl<'a> Kern for Side<'a> {
 
     fn expire<R: Wait>(&self, rt: &R, name: &GroupName, number: u32) -> Result<u64, ExpireError> {
         self.inner.expire(rt, name, number)
+    }
+
+    fn aged<R: Wait>(&self, rt: &R, place: usize, wildmat: &Wildmat, since: u64) -> AgedGroup {
+        self.inner.aged(rt, place, wildmat, since)
+    }
+
+    fn gone_part<R: Wait>(&self, rt: &R, first: u64) -> GonePart {
+        self.inner.gone_part(rt, first)
     }
 
     fn leave<R: Wait>(&self, rt: &R, sid: u64) {

@@ -8,15 +8,15 @@ use journal::Journal;
 use kernel::Kernel;
 use locked_kernel::Locked;
 use memdisk::MemDisk;
+use metrics::LongestTime;
 use model::{Message, Moment, Status, Text};
 use names::{Description, GroupName, GroupRequest, is_host};
 use new_volume::{FORMAT_2, VolumePlan, are_sizes, device_octets, format};
-use releasing::{Limits, ReplyWriter, Shared, TakenBack, Untold, give_short_writes};
+use releasing::{Limits, ReplyWriter, Shared, TakenBack, Untold, Writers, give_short_writes};
 use roster::Guest;
-use shared_kernel::{Asked, Asking, Bells, Closing, Gate, Kern, Receipt, Ticket};
+use shared_kernel::{Asked, Asking, Bells, Closing, Gate, Kern, Receipt, SESSIONS, Ticket};
 use std::alloc::{AllocError, Global};
 use std::net::{Net, TcpListener, TcpStream};
-use std::slice::from_ref;
 use std::sync::{Arc, Mutex, Wait};
 use std::time::Clock;
 use volume::BatchBuf;
@@ -41,7 +41,9 @@ pub struct Stage {
     bells: Bells,
     closing: Closing,
     asking: Asking,
-    writer: ReplyWriter,
+    longest: LongestTime,
+    /// There is one.
+    writers: Writers,
     pub sid: u64,
     pub near: Arc<TcpStream, Global>,
 }
@@ -59,7 +61,8 @@ impl Stage {
         let near = Arc::new(alloc, near).ok()?;
         let writing = Arc::try_clone(&near).ok()?;
         let ending = Arc::try_clone(&near).ok()?;
-        let writer = ReplyWriter::new(alloc).ok()?;
+        let writers = Writers::new(alloc, 1).ok()?;
+        let writer = writers.make(rt, alloc)?;
         let guest = Guest {
             session: sid,
             peer: near.peer_addr().ok()?,
@@ -73,11 +76,17 @@ impl Stage {
             bells: Bells::new(),
             closing: Closing::new(),
             asking: Asking::new(),
-            writer,
+            longest: LongestTime::new(),
+            writers,
             sid,
             near,
         };
         Some((stage, caller))
+    }
+
+    /// The session's writer.
+    pub fn writer(&self) -> Option<&ReplyWriter> {
+        self.writers.get(0)
     }
 
     pub fn shared<'a, R, K, G>(
@@ -92,10 +101,11 @@ impl Stage {
             kern,
             gate,
             bells: &self.bells,
-            writers: from_ref(&self.writer),
+            writers: &self.writers,
             closing: &self.closing,
             asking: &self.asking,
             limits: self.limits,
+            longest: &self.longest,
         }
     }
 }
@@ -142,7 +152,7 @@ fn new_kernel(alloc: Global, blocks: u64, inodes: u64) -> Option<(Kernel, Journa
     let Ok(mut journal) = Journal::open(alloc, disk) else {
         return None;
     };
-    let kernel = Kernel::open(alloc, &mut journal).ok()?;
+    let kernel = Kernel::open(alloc, &mut journal, SESSIONS).ok()?;
     Some((kernel, journal))
 }
 
@@ -191,6 +201,7 @@ fn written<R: Wait>(
 pub struct Session<'a, R, K, G> {
     pub shared: &'a Shared<'a, R, K, G>,
     pub stage: &'a Stage,
+    pub writer: &'a ReplyWriter,
     pub journal: &'a Mutex<Journal<MemDisk>>,
     pub batch: &'a Mutex<BatchBuf>,
 }
@@ -200,19 +211,20 @@ impl<'a, R, K, G> Drop for Session<'a, R, K, G> {
         let Session {
             shared: _,
             stage: _,
+            writer: _,
             journal: _,
             batch: _,
         } = self;
     }
 }
 
-impl<'a, R: Wait, K: Kern, G: Gate> Session<'a, R, K, G> {
+impl<'a, R: Wait + Clock, K: Kern, G: Gate> Session<'a, R, K, G> {
     pub fn rt(&self) -> &R {
         self.shared.rt
     }
 
     pub fn writer(&self) -> &ReplyWriter {
-        &self.stage.writer
+        self.writer
     }
 
     /// Has a command answered.

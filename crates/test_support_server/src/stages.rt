@@ -11,11 +11,13 @@ use journal::Journal;
 use logging::{Log, Verbosity, beginning_of_1970};
 use mark::{FlushSeat, Mark, Seat};
 use new_volume::FORMAT_2;
-use server::{Limits, ServeError, Server, serve};
+use server::{Limits, MetricsFile, ServeError, Server, serve};
 use shared_kernel::{Gate, Kern, KernelCounts, NoGate, SESSIONS};
 use std::alloc::{AllocError, Global};
+use std::fs::File;
 use std::io::{self, BufRead, Write};
 use std::net::{Net, TcpListener, TcpStream};
+use std::rt::Files;
 use std::sync::{Arc, Wait};
 use std::thread::Threads;
 use std::time::Clock;
@@ -79,7 +81,7 @@ impl<'a, D: Faults, K> Stage<'a, D, K> {
     }
 }
 
-impl<'a, D: Disk + Drop, K: Kern + Sync + Drop> Stage<'a, D, K> {
+impl<'a, D: Disk + Drop + Send, K: Kern + Sync + Drop> Stage<'a, D, K> {
     pub fn new(
         journal: Journal<D>,
         kern: K,
@@ -136,7 +138,8 @@ impl<'a, D: Disk + Drop, K: Kern + Sync + Drop> Stage<'a, D, K> {
 
     /// Serves callers and the operator's lines to the end.
     pub fn serve<
-        R: Net<Listener = TcpListener, Stream = TcpStream>
+        R: Files<File = File>
+            + Net<Listener = TcpListener, Stream = TcpStream>
             + Threads
             + Wait
             + Clock
@@ -206,7 +209,8 @@ struct Parts<'a, D: Disk, K, G> {
 
 /// Serves these parts.
 fn serve_parts<
-    R: Net<Listener = TcpListener, Stream = TcpStream>
+    R: Files<File = File>
+        + Net<Listener = TcpListener, Stream = TcpStream>
         + Threads
         + Wait
         + Clock
@@ -214,7 +218,7 @@ fn serve_parts<
         + Send
         + Sync
         + 'static,
-    D: Disk + Drop,
+    D: Disk + Drop + Send,
     K: Kern + Sync,
     G: Gate + Sync,
     L: BufRead + Send + Drop + 'static,
@@ -250,6 +254,7 @@ fn serve_parts<
         listeners,
         proxied: &[],
         networks: &[],
+        sessions: SESSIONS,
         // all callers of a test are of one address
         most_from: Some(SESSIONS),
         log,
@@ -264,6 +269,12 @@ fn serve_parts<
         newest: beginning_of_1970(),
         gate,
         limits,
+        metrics: for_nobody(),
     };
     serve(rt, alloc, server, lines, answers)
+}
+
+/// No file for a monitor.
+fn for_nobody<'a>() -> Option<&'a MetricsFile> {
+    None
 }

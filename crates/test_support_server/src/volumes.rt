@@ -10,7 +10,7 @@ use memdisk::MemDisk;
 use model::{Moment, Status};
 use names::{Description, GroupName, GroupRequest, is_host};
 use new_volume::{FORMAT_2, VolumePlan, are_sizes, device_octets, format};
-use shared_kernel::Kern;
+use shared_kernel::{Kern, SESSIONS};
 use std::alloc::Global;
 use std::sync::Wait;
 
@@ -56,7 +56,7 @@ pub fn open<D: Disk + Drop>(alloc: Global, disk: D) -> Option<(Journal<D>, Kerne
     let Ok(mut journal) = Journal::open(alloc, disk) else {
         return None;
     };
-    match Kernel::open(alloc, &mut journal) {
+    match Kernel::open(alloc, &mut journal, SESSIONS) {
         Ok(kernel) => Some((journal, kernel)),
         Err(_) => None,
     }

@@ -2,7 +2,7 @@
 
 use crate::moments::moment_at;
 use logging::{
-    EndedSession, Ending, LogEntry, LogEvent, OpeningStep, PostRefusal, RefusedCallers,
+    Cause, EndedSession, Ending, LogEntry, LogEvent, OpeningStep, PostRefusal, RefusedCallers,
     RefusedPost, SessionCounts, SessionRefusal, TakenPost, UsedPart, line,
 };
 use std::alloc::Global;
@@ -78,7 +78,7 @@ fn read_event(call: &str, arguments: &mut Arguments<'_>) -> Result<LogEvent, Row
             let times = arguments.number()?;
             Ok(LogEvent::Refused(RefusedCallers { peer, why, times }))
         }
-        "fault" => Ok(LogEvent::Fault),
+        "fault" => Ok(LogEvent::Fault(fault_of(arguments.word()?)?)),
         "halted" => Ok(LogEvent::Halted),
         "clock" => Ok(LogEvent::Clock),
         "full" => {
@@ -150,6 +150,22 @@ fn ending_of(word: &str) -> Result<Ending, RowError> {
         "Full" => Ok(Ending::Full),
         "Memory" => Ok(Ending::Memory),
         "Stopped" => Ok(Ending::Stopped),
+        _ => Err(RowError::Unreadable),
+    }
+}
+
+fn fault_of(word: &str) -> Result<Cause, RowError> {
+    match word {
+        "NoSpace" => Ok(Cause::NoSpace),
+        "Quota" => Ok(Cause::Quota),
+        "ReadOnly" => Ok(Cause::ReadOnly),
+        "TooLarge" => Ok(Cause::TooLarge),
+        "Io" => Ok(Cause::Io),
+        "Denied" => Ok(Cause::Denied),
+        "Missing" => Ok(Cause::Missing),
+        "Stale" => Ok(Cause::Stale),
+        "Short" => Ok(Cause::Short),
+        "Other" => Ok(Cause::Other),
         _ => Err(RowError::Unreadable),
     }
 }

@@ -1,7 +1,7 @@
 //! The queues of sessions 1 and 2.
 
 use crate::released::{answer_edges, answer_entries};
-use outbox::{Outgoing, Queue, ReadyBuf};
+use outbox::{Lines, Outgoing, Queue, ReadyBuf};
 use std::alloc::{AllocError, Global};
 use test_support_data::{Answer, Area, Arguments, RowError};
 
@@ -53,6 +53,30 @@ impl Queues {
         }
         let octets = Outgoing::numbered(octets, first, count)?;
         self.put(number, octets, arguments)
+    }
+
+    /// `lines SESSION OCTETS COUNT DEPENDENCY ENDS`: octets, and lines of a source after them, which have so many octets.
+    fn lines(
+        &mut self,
+        arguments: &mut Arguments<'_>,
+        answer: &mut Answer,
+    ) -> Result<(), RowError> {
+        let number = arguments.number()?;
+        let octets = arguments.octets()?;
+        let lines = Lines {
+            group: 0,
+            next: 1,
+            end: 1,
+            octets: arguments.number()?,
+        };
+        match Outgoing::lined(octets, lines) {
+            Ok(octets) => self.put(number, octets, arguments),
+            Err(_) => {
+                let _dependency = arguments.number()?;
+                let _ends = arguments.is()?;
+                Ok(answer.word("refused")?)
+            }
+        }
     }
 
     fn put(
@@ -110,7 +134,7 @@ fn give(
     if ready.len() >= MOST_ENTRIES {
         return Err(RowError::Unreadable);
     }
-    Ok(queue.give(number, durable, ready))
+    Ok(test_support_lines::give(queue, number, durable, ready))
 }
 
 impl Area for Queues {
@@ -128,6 +152,9 @@ impl Area for Queues {
         }
         if call == "number" {
             return self.number(arguments);
+        }
+        if call == "lines" {
+            return self.lines(arguments, answer);
         }
         let number = arguments.number()?;
         match call {

@@ -1,7 +1,7 @@
 //! How the lines of a script are read, and how octets are printed.
 
 use model::Status;
-use script::{Line, ParseError, escaped, number, parse};
+use script::{Line, ParseError, days, escaped, number, parse};
 use std::alloc::{AllocError, Global};
 use test_support_data::{Answer, Area, Arguments, RowError};
 
@@ -9,7 +9,7 @@ use test_support_data::{Answer, Area, Arguments, RowError};
 pub struct ScriptLines;
 
 impl Area for ScriptLines {
-    /// `parse LINE`: what the line asks for. `number WORD`. `escaped OCTETS`: the octets as they are printed.
+    /// `parse LINE`: what the line asks for. `number WORD`, `days WORD`. `escaped OCTETS`: the octets as they are printed.
     fn answer(
         &mut self,
         alloc: Global,
@@ -21,6 +21,7 @@ impl Area for ScriptLines {
         match call {
             "parse" => answer_parsed(alloc, octets.as_slice(), answer),
             "number" => Ok(answer.found(number(octets.as_slice()))?),
+            "days" => Ok(answer.found(days(octets.as_slice()))?),
             "escaped" => Ok(answer.octets(escaped(alloc, octets.as_slice())?.as_slice())?),
             _ => Err(RowError::Unreadable),
         }
