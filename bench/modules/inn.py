@@ -43,9 +43,12 @@ class Inn:
 
     def __init__(self, directory, groups):
         self.top, self.port = directory, free_port()
-        self.news = pwd.getpwnam(USER)
-        self.write_settings(free_port(), groups)
+        self.news, self.feed_port = pwd.getpwnam(USER), free_port()
+        self.write_settings(self.feed_port, groups)
         self.run("makedbz", "-i", "-o", "-s", "100000")
+        self.start()
+
+    def start(self):
         script = '"$0"/innd -f -N & exec "$0"/nnrpd -D -f -4 127.0.0.1 -p %d' % self.port
         self.process = subprocess.Popen(["sh", "-c", script, PROGRAMS], start_new_session=True, **self.given())
         self.wait()
@@ -97,21 +100,41 @@ class Inn:
     def call(self):
         return Caller(self.port)
 
-    def processor_seconds(self):
-        """Of all its processes, with those that have ended."""
-        ticks = 0
+    def processes(self):
+        """The number of each of its processes, and what the system says of it."""
         for number in filter(str.isdigit, os.listdir("/proc")):
             with contextlib.suppress(OSError), open("/proc/%s/stat" % number) as stat:
                 fields = stat.read().rsplit(")", 1)[1].split()
                 if int(fields[3]) == self.process.pid:
-                    ticks += sum(map(int, fields[11:15]))
-        return ticks / os.sysconf("SC_CLK_TCK")
+                    yield number, fields
+
+    def processor_seconds(self):
+        """Of all its processes, with those that have ended."""
+        return sum(sum(map(int, fields[11:15])) for _, fields in self.processes()) / os.sysconf("SC_CLK_TCK")
+
+    def memory(self):
+        """The octets of its processes, each of those that they share once."""
+        kilobytes = 0
+        for number, _ in self.processes():
+            with contextlib.suppress(OSError), open("/proc/%s/smaps_rollup" % number) as sizes:
+                kilobytes += sum(int(line.split()[1]) for line in sizes if line.startswith("Pss:"))
+        return 1024 * kilobytes
 
     def kill(self):
         """Both are of the group of processes that was started here."""
         with contextlib.suppress(ProcessLookupError):
             os.killpg(self.process.pid, signal.SIGKILL)
         self.process.wait(SECONDS)
+
+    def start_again(self):
+        """Has it end in order, and starts it."""
+        self.run("ctlinnd", "shutdown", "it is started again")
+        end = time.monotonic() + SECONDS
+        while os.path.exists(os.path.join(self.top, "run", "innd.pid")):
+            assert time.monotonic() < end, "INN doesn't end"
+            time.sleep(0.01)
+        self.kill()
+        self.start()
 
 
 def started(directory, groups):

@@ -53,8 +53,9 @@ class Processors:
 
 
 class Bench:
-    def __init__(self, program, directory, seconds):
-        self.program, self.directory, self.seconds = program, directory, seconds
+    def __init__(self, program, directory, seconds, words=ALL_FROM_ONE):
+        """Its servers have these further words."""
+        self.program, self.directory, self.seconds, self.words = program, directory, seconds, words
         self.load = self.build("load", ["-pthread"])
         self.counter = self.build("device_calls", ["-shared", "-fPIC", "-ldl"])
         self.counts_path = os.path.join(directory, "counts")
@@ -82,7 +83,7 @@ class Bench:
         if not has_syncs:
             os.environ["NEWSD_NO_SYNC"] = "1"
         try:
-            return volume.serve(words=ALL_FROM_ONE)
+            return volume.serve(words=self.words)
         finally:
             for name in ("LD_PRELOAD", "NEWSD_COUNTS", "NEWSD_NO_SYNC"):
                 os.environ.pop(name, None)
