@@ -34,6 +34,7 @@ use Rattle.model.proofs.Ids.{no_cause}
 use Rattle.renewed.proofs.Texts.{AreFew, few_groups}
 use Rattle.model.proofs.Growing.{filter_distinct}
 use Rattle.model.proofs.HoldsOne.{carried_cause}
+use Rattle.model.proofs.LawfulLaws.{next_follows}
 
 -- ---- what is left of the articles that pass a test
 
@@ -522,15 +523,5 @@ renewed_at S k c is =
     ∙ ap (option_map (renewed_change S)) (entry_there 1 S k c is)
 
 -- each change of a lawful spool may follow those before it
-pub next_follows : (host : Octets) (before cs : Spool) (k : ℕ) (c : Change) → IsLawfulAfter host before cs → slice_get cs k ≡ Some c
-    → MayFollow host (before ++ take k cs) c
-next_follows host before [] k c lawful is = absurd (cc)
-next_follows host before (d ∷ cs) zero c lawful is =
-    let one : d ≡ c = cc in
-    subst (λ (R : Spool). MayFollow host R c) (sym (append-nil before)) (subst (MayFollow host before) one lawful.0)
-next_follows host before (d ∷ cs) (suc k) c lawful is =
-    subst (λ (R : Spool). MayFollow host R c) (append_assoc before (d ∷ []) (take k cs))
-    (next_follows host (before ++ d ∷ []) cs k c lawful.1 is)
-
 pub renewed_follows : RenewedFollows
 renewed_follows host S k c lawful is = next_follows host [] (renewed S) k c (renewed_lawful host S lawful) is

@@ -8,7 +8,8 @@ use Rattle.model.specs.declared.change.Change.TheVariants.{Article}
 use Rattle.model.specs.declared.change.Filing.{Filing}
 use Rattle.lookups.specs.Held.{gone_with}
 use Rattle.renewed.specs.Renewed.{husk_of, renewed, renewed_change}
-use Rattle.renewed.proofs.Renewing.{entry_there, next_follows, renewed_at}
+use Rattle.model.proofs.LawfulLaws.{next_follows}
+use Rattle.renewed.proofs.Renewing.{entry_there, renewed_at}
 use Rattle.spool.specs.Laws.{changes_lawful}
 use Rattle.spool.specs.View.{SpoolView}
 
