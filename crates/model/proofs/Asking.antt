@@ -16,13 +16,13 @@ use Rattle.model.specs.Spool.{is_here, news_article, news_group, status_octet}
 use Rattle.model.specs.Records.{group_record, article_record, expiry_record, largest_record}
 use Rattle.model.specs.SpoolFiles.{numbers_name, overview_name, number_record, number_records, numbers_of, numbers_file, overview_file}
 use Rattle.model.specs.FileCalls.{next_line, next_record, FileCall, Create, Append, filing_calls}
-use Rattle.model.specs.SpoolFiles.{overview_lines, change_file, files_of}
+use Rattle.model.specs.SpoolFiles.{overview_lines, change_file}
 use Rattle.model.specs.FileCalls.{making_calls}
-use Rattle.model.specs.Files.{indirect_for, largest_file, largest_file_one, most_inodes}
+use Rattle.model.specs.Files.{free_blocks, free_inodes, indirect_for, largest_file, largest_file_one, most_inodes}
 use Rattle.model.specs.Asked.{blocks_appended, blocks_changed, blocks_filed, blocks_for_more, blocks_fresh}
 use Rattle.model.specs.Room.{blocks_asked, blocks_for}
 use Rattle.model.specs.Asked.{blocks_taken}
-use Rattle.model.specs.Room.{content_blocks, extends_large, files_made, free_blocks_beside, free_inodes_beside}
+use Rattle.model.specs.Room.{content_blocks, extends_large, files_made}
 use Rattle.model.specs.Asked.{pointers_put}
 use Rattle.model.specs.Room.{has_all_groups, is_full_for, is_large, octets_asked}
 use Rattle.model.specs.Lawful.{MayFile, IsLawfulAfter, IsLawful}
@@ -354,8 +354,8 @@ pub not_full_room : NotFullHasRoom
 unfolding is_full_for
 not_full_room host blocks inodes S c few lawful may room =
     let asks = changes_ask_few host S c few lawful may in
-    let free = free_blocks_beside blocks inodes (files_of S) in
-    let left = free_inodes_beside inodes (files_of S) in
+    let free = free_blocks blocks in
+    let left = free_inodes inodes blocks in
     let first = or_parts (nat_lt free blocks_asked) (nat_lt left (files_made c) || (extends_large S c || has_all_groups S c)) room in
     let second = or_parts (nat_lt left (files_made c)) (extends_large S c || has_all_groups S c) first.1 in
     let third = or_parts (extends_large S c) (has_all_groups S c) second.1 in

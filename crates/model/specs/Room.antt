@@ -4,9 +4,9 @@ use Rattle.std.specs.Prelude.{ℕ, ◌+◌, ◌-◌, ◌/◌, Bool, false, ◌||
 use Rattle.std.specs.Prelude.{None}
 use Rattle.std.specs.List.{list_any, sum_by}
 use Rattle.model.specs.Stream.{Octets}
-use Rattle.model.specs.Files.{File, first_data, indirect_for, largest_file}
+use Rattle.model.specs.Files.{File, first_data, free_blocks, free_inodes, indirect_for, largest_file}
 use Rattle.model.specs.Spool.{Spool, groups}
-use Rattle.model.specs.SpoolFiles.{files_of, numbers_file, overview_file}
+use Rattle.model.specs.SpoolFiles.{numbers_file, overview_file}
 use Rattle.model.specs.declared.change.Change.{Change}
 use Rattle.model.specs.declared.change.Change.TheVariants.{Group, Article, Expire}
 
@@ -69,12 +69,12 @@ has_all_groups S (Group g) = nat_le most_groups (length (groups S))
 has_all_groups S (Article f) = false
 has_all_groups S (Expire e) = false
 
+-- whether there is no room for this change where this many blocks and inodes are free
 unfoldable pub is_full_for : ℕ → ℕ → Spool → Change → Bool
 is_full_for blocks inodes S c =
-    nat_lt (free_blocks_beside blocks inodes (files_of S)) blocks_asked
-    || (nat_lt (free_inodes_beside inodes (files_of S)) (files_made c) || (extends_large S c || has_all_groups S c))
+    nat_lt blocks blocks_asked || (nat_lt inodes (files_made c) || (extends_large S c || has_all_groups S c))
 
--- whether there is no room for this change in a volume with these numbers of blocks and inodes
-abbrev pub is_full : ℕ → ℕ → Spool → Option Change → Bool
+-- whether there is no room for this change in a volume of these blocks, with this many inodes
+abbrev pub is_full : List Octets → ℕ → Spool → Option Change → Bool
 is_full blocks inodes S None = false
-is_full blocks inodes S (Some c) = is_full_for blocks inodes S c
+is_full blocks inodes S (Some c) = is_full_for (free_blocks blocks) (free_inodes inodes blocks) S c
