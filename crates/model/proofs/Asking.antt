@@ -18,7 +18,8 @@ use Rattle.model.specs.SpoolFiles.{numbers_name, overview_name, number_record, n
 use Rattle.model.specs.FileCalls.{next_line, next_record, FileCall, Create, Append, filing_calls}
 use Rattle.model.specs.SpoolFiles.{overview_lines, change_file}
 use Rattle.model.specs.FileCalls.{making_calls}
-use Rattle.model.specs.Files.{free_blocks, free_inodes, indirect_for, largest_file, largest_file_one, most_inodes}
+use Rattle.model.specs.Files.{free_blocks, free_inodes, indirect_for, largest_file, largest_file_one}
+use Rattle.model.specs.Packs.{most_changes}
 use Rattle.model.specs.Asked.{blocks_appended, blocks_changed, blocks_filed, blocks_for_more, blocks_fresh}
 use Rattle.model.specs.Room.{blocks_asked, blocks_for}
 use Rattle.model.specs.Asked.{blocks_taken}
@@ -209,7 +210,7 @@ put_two fresh end few = omega (arith, few, put_most fresh end)
 
 -- ---- one group
 
-module _ (S : Spool) (text : Octets) (few : length S ≤ most_inodes) (carried : cause Carried text ≡ None) where
+module _ (S : Spool) (text : Octets) (few : length S ≤ most_changes) (carried : cause Carried text ≡ None) where
   short_line : (g : Octets) → length (next_line S text g) ≤ 8191
   short_line g = line_short (length (filed_in S g) + 1) text (omega (arith, high_few S g, few)) carried
 

@@ -2,8 +2,9 @@
 use Rattle.std.specs.Prelude.{◌≡◌, ℕ, ◌+◌, ◌≤◌, false, List, Some, length}
 use Rattle.std.specs.List.{Contains, sum_by}
 use Rattle.model.specs.Stream.{Octets}
-use Rattle.model.specs.Files.{File, HasRoom, HoldsFiles, free_blocks, free_inodes, largest_file, most_inodes}
+use Rattle.model.specs.Files.{File, HasRoom, HoldsFiles, free_blocks, free_inodes, largest_file}
 use Rattle.model.specs.Lawful.{IsLawful, MayFollow}
+use Rattle.model.specs.Packs.{most_changes}
 use Rattle.model.specs.Records.{largest_record}
 use Rattle.model.specs.Asked.{blocks_changed, blocks_for_more, blocks_taken}
 use Rattle.model.specs.Room.{blocks_for, files_made, free_blocks_beside}
@@ -41,7 +42,7 @@ pub record AsksFew (S : Spool) (c : Change) : Type 0 where
 
 -- What a change asks for is within what was free before it.
 abbrev pub ChangesAskFew : Type 0
-ChangesAskFew = (host : Octets) (S : Spool) (c : Change) → length S ≤ most_inodes → IsLawful host S → MayFollow host S c → AsksFew S c
+ChangesAskFew = (host : Octets) (S : Spool) (c : Change) → length S ≤ most_changes → IsLawful host S → MayFollow host S c → AsksFew S c
 
 -- a change finds all the room that its calls ask for
 pub record HasRoomForChange (blocks : List Octets) (inodes : ℕ) (S : Spool) (c : Change) : Type 0 where
@@ -53,5 +54,5 @@ pub record HasRoomForChange (blocks : List Octets) (inodes : ℕ) (S : Spool) (c
 
 -- So if the spool is not full, none of a change's calls meets a full file system.
 abbrev pub NotFullHasRoom : Type 0
-NotFullHasRoom = (host : Octets) (blocks : List Octets) (inodes : ℕ) (S : Spool) (c : Change) → length S ≤ most_inodes → IsLawful host S
+NotFullHasRoom = (host : Octets) (blocks : List Octets) (inodes : ℕ) (S : Spool) (c : Change) → length S ≤ most_changes → IsLawful host S
     → MayFollow host S c → is_full blocks inodes S (Some c) ≡ false → HasRoomForChange blocks inodes S c
