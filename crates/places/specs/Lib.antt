@@ -1,2 +1,3 @@
+pub mod Viewed
 pub mod Places
 pub mod Laws

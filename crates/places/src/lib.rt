@@ -1,9 +1,10 @@
-//! The places of a spool's files: the inode of each change's file by serial, and the inodes of the numbers and the
-//! overview of each group. Inodes are found in memory, so no call searches the directory for a name.
+//! The places of a spool's files: that of each change's file by serial, and the inodes of the numbers and the overview of
+//! each group. They are found in memory, so no call searches the directory for a name.
 #![tactic(auto)]
 
-ghost use Rattle.std.specs.Prelude.{◌≡◌, ℕ, [], OnErr, OnOk};
-ghost use Rattle.model.specs.Indexed.{FilePlaces};
+ghost use Rattle.std.specs.Prelude.{◌≡◌, ℕ, [], map, OnErr, OnOk};
+ghost use Rattle.model.specs.Indexed.{ChangePlace as PlaceView, FilePlaces};
+ghost use Rattle.places.specs.Viewed.{place_of};
 ghost use Rattle.places.specs.Places.{with_change, with_group};
 
 mod laws;
@@ -12,20 +13,31 @@ pub use laws::{places_are_by_name, places_grow_with_the_spool};
 use std::alloc::{AllocError, Global};
 use std::marker::Model;
 
-/// The inodes of a spool's files.
+/// Where the file of a change is.
+#[derive(Clone, Copy, Drop)]
+pub enum ChangePlace {
+    /// It is the file of this inode.
+    Alone(u32),
+    /// It stands in the pack, the file of this inode, from this octet on, in this many octets.
+    Packed { inode: u32, from: u32, size: u32 },
+}
+
+/// The places of a spool's files.
 #[derive(Drop)]
 pub struct Places {
-    changes: Vec<u32>,
+    changes: Vec<ChangePlace>,
     numbers: Vec<u32>,
     overviews: Vec<u32>,
 }
 
 impl Model for Places {
     ghost use Rattle.model.specs.Indexed.{FilePlaces};
+    ghost use Rattle.std.specs.Prelude.{map};
+    ghost use Rattle.places.specs.Viewed.{place_of};
 
     ghost Value = { FilePlaces };
 
-    ghost view = { λ p. record { changes = p.changes.items; numbers = p.numbers.items; overviews = p.overviews.items } };
+    ghost view = { λ p. record { changes = map place_of p.changes.items; numbers = p.numbers.items; overviews = p.overviews.items } };
 }
 
 impl Places {
@@ -40,9 +52,9 @@ impl Places {
         }
     }
 
-    /// The inode of each change's file, by serial.
-    pub fn changes(&self) -> &[u32]
-        ensures { result.now ≡ self.now.changes }
+    /// The place of each change's file, by serial.
+    pub fn changes(&self) -> &[ChangePlace]
+        ensures { map place_of result.now ≡ self.now.changes }
     {
         self.changes.as_slice()
     }
@@ -63,8 +75,8 @@ impl Places {
 
     /// Adds the place of the file of an article or an expiry. Refused only for want of memory, and then nothing
     /// changes.
-    pub fn push_change(&mut self, at: u32) -> Result<(), AllocError>
-        ensures ok { OnOk result (self.new ≡ with_change at self.old) }
+    pub fn push_change(&mut self, at: ChangePlace) -> Result<(), AllocError>
+        ensures ok { OnOk result (self.new ≡ with_change (place_of at) self.old) }
         ensures err { OnErr result (self.new ≡ self.old) }
     {
         self.changes.push(at)?;
@@ -83,7 +95,7 @@ impl Places {
         let Ok(()) = self.numbers.push(numbers) else {
             unreachable!()
         };
-        let Ok(()) = self.changes.push(at) else {
+        let Ok(()) = self.changes.push(ChangePlace::Alone(at)) else {
             unreachable!()
         };
         Ok(())
@@ -91,7 +103,7 @@ impl Places {
 
     /// Removes what the last `push_change` added.
     pub fn pop_change(&mut self)
-        ensures { (old : FilePlaces) (at : ℕ) → self.old ≡ with_change at old → self.new ≡ old }
+        ensures { (old : FilePlaces) (at : PlaceView) → self.old ≡ with_change at old → self.new ≡ old }
     {
         let _ = self.changes.pop();
     }
