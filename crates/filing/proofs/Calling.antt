@@ -1,8 +1,8 @@
 -- The calls of the file system, as calls on lists of files.
 use Rattle.std.proofs.Common.{◌≡◌, ◌≢◌, inl, inr, ◌<◌, ◌≤◌, ℕ, suc, ◌+◌, List, [], ◌∷◌, ◌++◌, length, get_or, set, refl, sym, ◌∙◌, ap}
 use Rattle.std.proofs.Common.{subst, arith}
-use Rattle.std.specs.Prelude.{Option, Some, None, option_map, IsPermutation}
-use Rattle.std.proofs.lemmas.List.{get_or-set_same, get_or-set_other}
+use Rattle.std.specs.Prelude.{Option, Some, None, IsPermutation}
+use Rattle.std.proofs.lemmas.List.{append-nil, append_assoc, get_or-set_same, get_or-set_other}
 use Rattle.std.proofs.lemmas.List.Sums.{sum_by-append}
 use Rattle.std.proofs.lemmas.Bool.{cases_eq}
 use Rattle.model.specs.Stream.{Octets}
@@ -22,9 +22,15 @@ use Rattle.fs_layout.specs.Marks.{NoneFreeBelow}
 use Rattle.fs_layout.proofs.Tables.{length-table, named_from_there}
 use Rattle.filing.specs.Calls.{AppendsAt, AreUsed, Calls, CreatesAt, IsKnown, MakesAt, SameFilesBut, blocks_for_more}
 use Rattle.filing.specs.declared.Free.{Free}
-use Rattle.places.specs.Places.{KeepsNames, name_of}
+use Rattle.model.specs.Indexed.{KeepsFiles}
 
 -- ---- calls after calls
+
+kept_twice : (old mid new : List (Option File)) → KeepsFiles old mid → KeepsFiles mid new → KeepsFiles old new
+kept_twice old mid new first second k f there =
+    let one = first k f there in
+    let two = second k (record { name = f.name; content = f.content ++ one.0 }) one.1 in
+    (one.0 ++ two.0, two.1 ∙ ap (λ (o : Octets). Some (record { name = f.name; content = o })) (append_assoc f.content one.0 two.0))
 
 pub calls_then : (inodes : ℕ) (calls more : List FileCall) (old mid new : List Octets) → Calls inodes calls old mid
     → Calls inodes more mid new → Calls inodes (calls ++ more) old new
@@ -34,7 +40,7 @@ calls_then inodes calls more old mid new first second = record {
   rule = second.rule;
   files = λ files same. subst (λ (fs : List File). IsPermutation (files_in (table inodes new)) fs) (sym (calls_after files calls more))
       (second.files (after_calls files calls) (first.files files same));
-  names = λ k name named. second.names k name (first.names k name named);
+  keeps = kept_twice (table inodes old) (table inodes mid) (table inodes new) first.keeps second.keeps;
   marks = λ b low is. second.marks b (omega (arith, low, first.count)) (first.marks b low is);
   free = omega (arith, first.free, second.free, sum_by-append blocks_taken calls more);
 }
@@ -45,7 +51,7 @@ no_calls inodes blocks room rule = record {
   room = room;
   rule = rule;
   files = λ files same. same;
-  names = λ k name named. named;
+  keeps = λ k f there. ([], there ∙ ap (λ (o : Octets). Some (record { name = f.name; content = o })) (sym (append-nil f.content)));
   marks = λ b low is. is;
   free = omega arith;
 }
@@ -68,23 +74,27 @@ here : (inodes at : ℕ) (file : File) (old new : List Octets) → table inodes 
 here inodes at file old new is low = ap (λ (t : List (Option File)). get_or t at None) is
     ∙ get_or-set_same (table inodes old) at (Some file) None low
 
-named_others : (inodes at : ℕ) (old new : List Octets) → SameFilesBut inodes at old new
-    → ((name : Octets) → name_of (table inodes old) at ≡ Some name → name_of (table inodes new) at ≡ Some name)
-    → KeepsNames (table inodes old) (table inodes new)
-named_others inodes at old new others its k name named = elim (cases_eq k at) [
-  | inl same ↦ subst (λ (j : ℕ). name_of (table inodes new) j ≡ Some name) (sym same)
-      (its name (subst (λ (j : ℕ). name_of (table inodes old) j ≡ Some name) same named))
-  | inr other ↦ ap (option_map (λ (f : File). f.name)) (others k other) ∙ named
+kept_others : (inodes at : ℕ) (old new : List Octets) → SameFilesBut inodes at old new
+    → ((f : File) → get_or (table inodes old) at None ≡ Some f
+    → (more : Octets) × (get_or (table inodes new) at None ≡ Some (record { name = f.name; content = f.content ++ more })))
+    → KeepsFiles (table inodes old) (table inodes new)
+kept_others inodes at old new others its k f there = elim (cases_eq k at) [
+  | inl same ↦ subst
+      (λ (j : ℕ). (more : Octets) × (get_or (table inodes new) j None ≡ Some (record { name = f.name; content = f.content ++ more })))
+      (sym same) (its f (subst (λ (j : ℕ). get_or (table inodes old) j None ≡ Some f) same there))
+  | inr other ↦ (
+    [],
+    others k other ∙ there ∙ ap (λ (o : Octets). Some (record { name = f.name; content = o })) (sym (append-nil f.content)),
+  )
 ]
 
 -- an inode that has a file keeps it
-pub still_used : (n : ℕ) (old new : List (Option File)) → KeepsNames old new → AreUsed n old → AreUsed n new
+pub still_used : (n : ℕ) (old new : List (Option File)) → KeepsFiles old new → AreUsed n old → AreUsed n new
 still_used n old new keeps used k less none = by_file (get_or old k None) refl where
   by_file : (o : Option File) → get_or old k None ≡ o → ⊥
   by_file None is = used k less is
   by_file (Some f) is =
-      let named = keeps k f.name (ap (option_map (λ (h : File). h.name)) is) in
-      let it : None ≡ Some f.name = sym (ap (option_map (λ (h : File). h.name)) none) ∙ named in
+      let kept = (keeps k f is).1 in
       cc
 
 -- ---- a new file
@@ -101,8 +111,7 @@ created inodes name at old new made marks =
         rule = made.makes.rule;
         files = λ files same. subst (λ (t : List (Option File)). IsPermutation (files_in t) (after_call files (Create name)))
             (sym made.makes.files_are) (creates_one files (table inodes old) at name low made.free same);
-        names = named_others inodes at old new others
-            (λ q named. absurd (let none : None ≡ Some q = ap (option_map (λ (f : File). f.name)) (sym made.free) ∙ named in cc));
+        keeps = kept_others inodes at old new others (λ f there. absurd (let free = made.free in cc));
         marks = λ b low is. marks.marks b low ∙ is;
         free = omega (
           arith,
@@ -169,8 +178,12 @@ appended inodes at octets old new rule grown =
         rule = grown.makes.rule;
         files = λ files same. subst (λ (t : List (Option File)). IsPermutation (files_in t) (after_call files (Append grown.name octets)))
             (sym grown.makes.files_are) (appends_to_one files inodes old at grown.name grown.was octets rule grown.there same);
-        names = named_others inodes at old new others (λ q named. ap (option_map (λ (f : File). f.name)) now
-            ∙ sym (ap (option_map (λ (f : File). f.name)) grown.there) ∙ named);
+        keeps = kept_others inodes at old new others (λ f there.
+            let both : Some f ≡ Some (record { name = grown.name; content = grown.was }) = sym there ∙ grown.there in
+            let one : f ≡ record { name = grown.name; content = grown.was } = cc in (
+              octets,
+              now ∙ ap (λ (g : File). Some (record { name = g.name; content = g.content ++ octets })) (sym one),
+            ));
         marks = grown.kept;
         free = omega (arith, grown.free, files_grow_by_blocks (length grown.was) (length octets));
       };
@@ -194,7 +207,7 @@ known_created inodes name at free old new made marks known =
 pub known_appended : (inodes at : ℕ) (octets : Octets) (free : Free) (left : ℕ) (old new : List Octets) → AppendsAt inodes at octets old new
     → left ≡ free_blocks new → IsKnown inodes free old → IsKnown inodes (record free { blocks = left }) new
 known_appended inodes at octets free left old new appends is known = record {
-  used = still_used free.inode (table inodes old) (table inodes new) appends.calls.names known.used;
+  used = still_used free.inode (table inodes old) (table inodes new) appends.calls.keeps known.used;
   none = still_none free.block inodes (Append appends.name octets ∷ []) old new appends.calls known.none;
   count = is;
 }
@@ -212,5 +225,5 @@ made inodes at name octets old mid new creates appends =
       there = subst (λ (q : Octets). IsFileAt (table inodes new) at q octets) named
           (subst (λ (o : Octets). IsFileAt (table inodes new) at appends.name (o ++ octets)) empty appends.there);
       others = λ k other. appends.others k other ∙ creates.others k other;
-      used = still_used at (table inodes mid) (table inodes new) appends.calls.names creates.used;
+      used = still_used at (table inodes mid) (table inodes new) appends.calls.keeps creates.used;
     }

@@ -11,18 +11,19 @@ use Rattle.fs.specs.Calls.{IsFileAt}
 use Rattle.fs.specs.Growing.{KeepsMarks}
 use Rattle.fs.specs.Touches.{touched_by_growth}
 use Rattle.fs_layout.specs.Marks.{NoneFreeBelow}
-use Rattle.places.specs.Places.{KeepsNames, name_of}
+use Rattle.model.specs.Indexed.{KeepsFiles}
+use Rattle.places.specs.Places.{name_of}
 use Rattle.filing.specs.declared.Free.{Free}
 use Rattle.filing.specs.declared.Piece.{Piece}
 
--- these calls were made on the files; each file keeps its inode and its name
+-- these calls were made on the files; each file stays in its inode, and grows only at its end
 pub record Calls (inodes : ℕ) (calls : List FileCall) (old new : List Octets) : Type 0 where
   pub count : length new ≡ length old
   pub room : HasRoom inodes new
   pub rule : IsFileSystem inodes new
   pub files : (files : List File) → IsPermutation (files_in (table inodes old)) files
       → IsPermutation (files_in (table inodes new)) (after_calls files calls)
-  pub names : KeepsNames (table inodes old) (table inodes new)
+  pub keeps : KeepsFiles (table inodes old) (table inodes new)
   pub marks : KeepsMarks old new
   -- they took at most this many blocks
   pub free : free_blocks old ≤ free_blocks new + sum_by blocks_taken calls
