@@ -29,7 +29,7 @@ first_is : (f : File) (octet : ℕ) (rest : Octets) → f.name ≡ octet ∷ res
 first_is f octet rest named = ap (λ (o : Octets). get_or o 0 0) named
 
 -- a packed file is named as an article's or an expiry's
-not_of_index : (f : File) (octet : ℕ) (rest : Octets) → IsMember f → octet ≢ 97 → octet ≢ 120 → f.name ≢ octet ∷ rest
+pub not_of_index : (f : File) (octet : ℕ) (rest : Octets) → IsMember f → octet ≢ 97 → octet ≢ 120 → f.name ≢ octet ∷ rest
 not_of_index f octet rest one article expiry named =
     elim (or_cases (eqb (get_or f.name 0 0) 97) (eqb (get_or f.name 0 0) 120) one.kind) [
       | inl is ↦ article (sym (first_is f octet rest named) ∙ eqb-true (get_or f.name 0 0) 97 is)

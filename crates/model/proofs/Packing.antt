@@ -89,15 +89,19 @@ module _ (stored files : List File) (s : StandFor stored files) where
         | inr pack ↦ absurd (other (ap (λ (g : File). g.name) (is_pack s.packed f pack)))
       ]
 
+  -- the pack that is stored says what is packed
+  pub pack_said : (content : Octets) → Contains stored (record { name = pack_name; content = content }) → content ≡ pack_octets s.packed
+  pack_said content has =
+      let f : File = record { name = pack_name; content = content } in
+      elim (is_either f has) [
+        | inl there ↦ absurd (All-contains (λ (g : File). g.name ≢ pack_name) s.plain f s.no_pack there refl)
+        | inr pack ↦ ap (λ (g : File). g.content) (is_pack s.packed f pack)
+      ]
+
   -- the pack that is stored is the one
   pub pack_stored : (members : List File) → All IsMember members
       → Contains stored (record { name = pack_name; content = pack_octets members }) → members ≡ s.packed
-  pack_stored members each has =
-      let f : File = record { name = pack_name; content = pack_octets members } in
-      elim (is_either f has) [
-        | inl there ↦ absurd (All-contains (λ (g : File). g.name ≢ pack_name) s.plain f s.no_pack there refl)
-        | inr pack ↦ pack_read members s.packed each s.members (ap (λ (g : File). g.content) (is_pack s.packed f pack))
-      ]
+  pack_stored members each has = pack_read members s.packed each s.members (pack_said (pack_octets members) has)
 
   pub is_meant : (f : File) → f.name ≢ pack_name → IsStored stored f → Contains files f
   is_meant f other (inl has) =
@@ -121,6 +125,14 @@ module _ (stored files : List File) (s : StandFor stored files) where
               (Contains-append_right s.plain (pack_of s.packed) (record { name = pack_name; content = pack_octets s.packed })
               (has_pack s.packed f packed)),
         )
+      ]
+
+  -- a file that may not be packed is stored as it is
+  pub stored_beside : (f : File) → Contains files f → ¬ (IsMember f) → Contains stored f
+  stored_beside f has other =
+      elim (is_stored f has) [
+        | inl there ↦ there
+        | inr packed ↦ absurd (other (All-contains IsMember packed.0 f packed.1 packed.2))
       ]
 
 -- files that are stored stand for the same files
@@ -408,3 +420,26 @@ is_at inodes (q ∷ places) (g ∷ files) zero p f are here is =
     let file : g ≡ f = cc in
     subst (λ (x : ChangePlace × File). IsAt inodes x.0 x.1) (λ i. (place i, file i)) are.0
 is_at inodes (q ∷ places) (g ∷ files) (suc n) p f are here is = is_at inodes places files n p f are.1 here is
+
+-- as many places as files
+pub are_many : (inodes : List (Option File)) (places : List ChangePlace) (files : List File) → AreAt inodes places files
+    → length places ≡ length files
+are_many inodes [] [] are = refl
+are_many inodes [] (f ∷ files) are = absurd are
+are_many inodes (p ∷ places) [] are = absurd are
+are_many inodes (p ∷ places) (f ∷ files) are = omega (arith, are_many inodes places files are.1)
+
+-- the octets of a packed file before its content
+abbrev pub member_front : File → Octets
+member_front f = length f.name ∷ f.name ++ little_bytes 4 (length f.content)
+
+pub member_parts : (f : File) → member_octets f ≡ member_front f ++ f.content
+member_parts f = sym (append_assoc (length f.name ∷ f.name) (little_bytes 4 (length f.content)) f.content)
+
+pub front_size : (f : File) → length (member_front f) ≡ 5 + length f.name
+front_size f =
+    omega (
+      arith,
+      length-append (length f.name ∷ f.name) (little_bytes 4 (length f.content)),
+      length-little 4 (length f.content),
+    )
