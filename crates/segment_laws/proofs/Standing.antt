@@ -11,8 +11,8 @@ use Rattle.byteorder.specs.Numbers.{little_from-take}
 use Rattle.disk.specs.Image.{Torn, part}
 use Rattle.disk.proofs.Images.{get_or-part, part-torn_apart, same_parts}
 use Rattle.model.specs.Volume.{AreDistinct, Batch, IsDescriptor, IsSuperblock, StandsFor, all_laid_over, batch_in, block, blocks_from}
-use Rattle.model.specs.Volume.{descriptor_place, format_at, gate_place, home, home_place, home_size, image_place, insert, is_open, label_of}
-use Rattle.model.specs.Volume.{listed, number_at, open_segments, rising, segment_count}
+use Rattle.model.specs.Volume.{descriptor_place, format_2_at, gate_place, home, home_place, home_size, image_place, insert, is_open}
+use Rattle.model.specs.Volume.{label_of, listed, number_at, open_segments, rising, segment_count}
 use Rattle.segment_laws.specs.Batches.{AgreeBut, AreFull, HaveNone, IsNoneOf}
 use Rattle.segment_laws.specs.Held.{AreHeld, AreOpen, HeldBatch}
 use Rattle.segment_laws.specs.Images.{IsHomeOfOpen, IsInside, IsOpenIn, SameBut, open_batches}
@@ -293,25 +293,25 @@ module _ (x c label : List ℕ) (blocks : List (List ℕ)) (stands : StandsFor x
   pub torn_open : (held : List HeldBatch) → AreOpen held x → AreOpen held c
   torn_open = are_open_kept x c label blocks stands (head_same x c torn_zeroth same.size) torn_gates torn_inside
 
--- the gate of the format is not read
-module _ (x c label : List ℕ) (blocks : List (List ℕ)) (stands : StandsFor x label blocks) (tears : Torn format_at 1 x c) where
+-- the gates of the format are not read
+module _ (x c label : List ℕ) (blocks : List (List ℕ)) (stands : StandsFor x label blocks) (tears : Torn format_2_at 2 x c) where
   zeroth_size : length (block 0 c) ≡ length (block 0 x)
   zeroth_size = omega (arith, length-take 4096 (drop 0 c), length-take 4096 (drop 0 x), length-drop 0 c, length-drop 0 x, tears.size)
 
-  octet_kept : (k : ℕ) → k ≢ 148 → k < 4096 → get_or (block 0 c) k 0 ≡ get_or (block 0 x) k 0
+  octet_kept : (k : ℕ) → (k < 148) ⊎ (150 ≤ k) → k < 4096 → get_or (block 0 c) k 0 ≡ get_or (block 0 x) k 0
   octet_kept k other within =
       let from_c : get_or (block 0 c) k 0 ≡ get_or c (0 + k) 0 = get_or-part 0 4096 c k 0 within in
       let from_x : get_or (block 0 x) k 0 ≡ get_or x (0 + k) 0 = get_or-part 0 4096 x k 0 within in
-      from_c ∙ elim (cases_lt k 148) [
+      from_c ∙ elim other [
         | inl below ↦ tears.below (0 + k) (omega (arith, below))
-        | inr above ↦ tears.above (0 + k) (omega (arith, above, other))
+        | inr above ↦ tears.above (0 + k) (omega (arith, above))
       ] ∙ sym from_x
 
-  part_kept : (at n : ℕ) → (at + n ≤ 148) ⊎ (149 ≤ at) → at + n ≤ 4096 → part at n (block 0 c) ≡ part at n (block 0 x)
+  part_kept : (at n : ℕ) → (at + n ≤ 148) ⊎ (150 ≤ at) → at + n ≤ 4096 → part at n (block 0 c) ≡ part at n (block 0 x)
   part_kept at n apart within = same_parts 0 at n (block 0 x) (block 0 c) zeroth_size
       (λ k low high. octet_kept k (elim apart [
-        | inl before ↦ (λ is. absurd (omega (arith, before, high, is)))
-        | inr behind ↦ (λ is. absurd (omega (arith, behind, low, is)))
+        | inl before ↦ inl (omega (arith, before, high))
+        | inr behind ↦ inr (omega (arith, behind, low))
       ]) (omega arith))
 
   number_kept : (at n : ℕ) → at + n ≤ 148 → number_at at n (block 0 c) ≡ number_at at n (block 0 x)
@@ -319,15 +319,15 @@ module _ (x c label : List ℕ) (blocks : List (List ℕ)) (stands : StandsFor x
       number_at-part at n (block 0 c) ∙ ap (λ (ys : List ℕ). little_number n ys) (part_kept at n (inl low) (omega arith))
       ∙ sym (number_at-part at n (block 0 x))
 
-  zeros_kept : All (λ o. o ≡ 0) (drop 149 (block 0 x)) → All (λ o. o ≡ 0) (drop 149 (block 0 c))
-  zeros_kept zeros = All-from_get_or (λ o. o ≡ 0) (drop 149 (block 0 c)) 0 each where
-    each : (k : ℕ) → k < length (drop 149 (block 0 c)) → get_or (drop 149 (block 0 c)) k 0 ≡ 0
+  zeros_kept : All (λ o. o ≡ 0) (drop 150 (block 0 x)) → All (λ o. o ≡ 0) (drop 150 (block 0 c))
+  zeros_kept zeros = All-from_get_or (λ o. o ≡ 0) (drop 150 (block 0 c)) 0 each where
+    each : (k : ℕ) → k < length (drop 150 (block 0 c)) → get_or (drop 150 (block 0 c)) k 0 ≡ 0
     each k within =
-        let few : 149 + k < 4096 = omega (arith, within, length-drop 149 (block 0 c), length-take 4096 (drop 0 c)) in
-        let there : k < length (drop 149 (block 0 x)) =
-        omega (arith, within, length-drop 149 (block 0 c), length-drop 149 (block 0 x), zeroth_size) in
-        get_or-drop 149 (block 0 c) k 0 ∙ octet_kept (149 + k) (λ is. absurd (omega (arith, is))) few
-        ∙ sym (get_or-drop 149 (block 0 x) k 0) ∙ All-get_or (λ o. o ≡ 0) (drop 149 (block 0 x)) k 0 there zeros
+        let few : 150 + k < 4096 = omega (arith, within, length-drop 150 (block 0 c), length-take 4096 (drop 0 c)) in
+        let there : k < length (drop 150 (block 0 x)) =
+        omega (arith, within, length-drop 150 (block 0 c), length-drop 150 (block 0 x), zeroth_size) in
+        get_or-drop 150 (block 0 c) k 0 ∙ octet_kept (150 + k) (inr (omega arith)) few
+        ∙ sym (get_or-drop 150 (block 0 x) k 0) ∙ All-get_or (λ o. o ≡ 0) (drop 150 (block 0 x)) k 0 there zeros
 
   superblock_kept : IsSuperblock (block 0 x) (length x) → IsSuperblock (block 0 c) (length c)
   superblock_kept valid =
@@ -352,7 +352,7 @@ module _ (x c label : List ℕ) (blocks : List (List ℕ)) (stands : StandsFor x
   }
 
   block_kept : (k : ℕ) → 0 < k → block k c ≡ block k x
-  block_kept k some = part-torn_apart 148 1 x c tears (4096 * k) 4096 (inr (omega arith))
+  block_kept k some = part-torn_apart 148 2 x c tears (4096 * k) 4096 (inr (omega arith))
 
   format_gates : (s : ℕ) → s < segment_count x → is_open s c ≡ is_open s x
   format_gates s there = gate_same s x c (block_kept (gate_place s) (omega arith))

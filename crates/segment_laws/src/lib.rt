@@ -9,8 +9,8 @@ ghost use Rattle.disk.specs.Image.{Torn, overwritten};
 ghost use Rattle.model.specs.News.{Stands};
 ghost use Rattle.model.specs.Spool.{Spool};
 ghost use Rattle.model.specs.Volume.{Batch, IsDescriptor, IsSuperblock, StandsFor, all_laid_over, batch_in, block, descriptor_place};
-ghost use Rattle.model.specs.Volume.{format_at, format_number, gate_place, home, home_place, home_size, is_open, label_of, laid_over};
-ghost use Rattle.model.specs.Volume.{logical_blocks, number_at, segment_count};
+ghost use Rattle.model.specs.Volume.{format_2_at, format_3_at, format_number, gate_place, home, home_place, home_size, is_open, label_of};
+ghost use Rattle.model.specs.Volume.{laid_over, logical_blocks, number_at, segment_count};
 ghost use Rattle.segment_laws.specs.Held.{AreOpen, HaveLess, HeldBatch, IsHomeOfHeld};
 ghost use Rattle.segment_laws.specs.Held.{IsHomeOnTheWay, IsWrittenIn, batch_of, batches_of, held_in};
 ghost use Rattle.segment_laws.specs.Images.{IsCarried, IsHomeOfOpen, IsInside, IsOpenIn, SameBut, open_batches};
@@ -36,21 +36,21 @@ pub fn a_volume_is_judged_by_its_segments()
         → StandsFor image (label_of image) (logical_blocks image) }
 {}
 
-/// The gate of the format is not read. So a crash while it is opened leaves the same blocks.
-pub fn the_gate_of_the_format_is_not_read()
-    ensures stands { (old new label : List ℕ) (blocks : List (List ℕ)) → StandsFor old label blocks → Torn format_at 1 old new
+/// The two gates of the format are not read. So a crash while one is opened leaves the same blocks.
+pub fn the_gates_of_the_format_are_not_read()
+    ensures stands { (old new label : List ℕ) (blocks : List (List ℕ)) → StandsFor old label blocks → Torn format_2_at 2 old new
         → StandsFor new label blocks }
     ensures open { (old new label : List ℕ) (blocks : List (List ℕ)) (held : List HeldBatch) → StandsFor old label blocks
-        → Torn format_at 1 old new → AreOpen held old → AreOpen held new }
+        → Torn format_2_at 2 old new → AreOpen held old → AreOpen held new }
 {}
 
-/// So an image stands for the same spool after the gate of its format is opened, and has format 2. An image of format 1
+/// So an image stands for the same spool after the gate of format 3 is opened, and has format 3. An image of format 1 or 2
 /// also stands for the same spool after a crash during that write, whatever the crash leaves of the gate.
 pub fn an_opened_format_keeps_the_spool()
     ensures opened { (host image : List ℕ) (S : Spool) → Stands host image S
-        → Stands host (overwritten format_at (2 ∷ []) image) S × (format_number (overwritten format_at (2 ∷ []) image) ≡ 2) }
-    ensures torn { (host old new : List ℕ) (S : Spool) → Stands host old S → format_number old ≡ 1 → Torn format_at 1 old new
-        → Stands host new S }
+        → Stands host (overwritten format_3_at (3 ∷ []) image) S × (format_number (overwritten format_3_at (3 ∷ []) image) ≡ 3) }
+    ensures torn { (host old new : List ℕ) (S : Spool) → Stands host old S → format_number old ≤ 2 → Torn format_3_at 1 old new
+        → Stands host new S × (format_number old ≤ format_number new) }
 {}
 
 /// A closed segment is not read. So a crash while its descriptor and images are written leaves the volume as it was.

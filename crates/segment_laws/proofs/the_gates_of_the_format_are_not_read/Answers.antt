@@ -1,5 +1,5 @@
 use Rattle.segment_laws.proofs.Standing.{format_open, format_unread}
-use Rattle.segment_laws.proofs.the_gate_of_the_format_is_not_read.Goals as goal
+use Rattle.segment_laws.proofs.the_gates_of_the_format_are_not_read.Goals as goal
 
 pub returns-clause-stands : goal.returns-clause-stands
 returns-clause-stands c old new label blocks stands tears = format_unread old new label blocks stands tears
