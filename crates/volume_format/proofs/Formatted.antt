@@ -27,7 +27,7 @@ is_zero_block xs size zero =
     ∙ ap (λ (n : ℕ). replicate n 0) size
 
 -- the superblock, written part by part
-module _ (old label : List ℕ) (segments blocks gate : ℕ) (counts : (segments ≡ 1) ⊎ (segments ≡ 8)) (whole : length old ≡ 4096)
+module _ (old label : List ℕ) (segments blocks gate_2 gate_3 : ℕ) (counts : (segments ≡ 1) ⊎ (segments ≡ 8)) (whole : length old ≡ 4096)
     (zero : All IsZero old) (label_size : length label ≡ 128) (low : 1024 ≤ blocks) (high : blocks ≤ 4194304) where
   abbrev first : List ℕ
   first = overwritten 0 magic old
@@ -45,7 +45,7 @@ module _ (old label : List ℕ) (segments blocks gate : ℕ) (counts : (segments
   fifth = overwritten 20 label fourth
 
   abbrev pub superblock : List ℕ
-  superblock = overwritten 148 (gate ∷ []) fifth
+  superblock = overwritten 148 (gate_2 ∷ gate_3 ∷ []) fifth
 
   size1 : length first ≡ 4096
   size1 = length-overwritten 0 magic old (omega (arith, whole)) ∙ whole
@@ -66,11 +66,11 @@ module _ (old label : List ℕ) (segments blocks gate : ℕ) (counts : (segments
   size5 = length-overwritten 20 label fourth fits ∙ size4
 
   pub length-superblock : length superblock ≡ 4096
-  length-superblock = length-overwritten 148 (gate ∷ []) fifth (omega (arith, size5)) ∙ size5
+  length-superblock = length-overwritten 148 (gate_2 ∷ gate_3 ∷ []) fifth (omega (arith, size5)) ∙ size5
 
   begins : take 8 superblock ≡ magic
   begins =
-      part-overwritten_apart 148 (gate ∷ []) fifth (omega (arith, size5)) 0 8 (inl (omega arith))
+      part-overwritten_apart 148 (gate_2 ∷ gate_3 ∷ []) fifth (omega (arith, size5)) 0 8 (inl (omega arith))
       ∙ part-overwritten_apart 20 label fourth fits 0 8 (inl (omega arith))
       ∙ part-overwritten_apart 16 (little_bytes 4 segments) third (omega (arith, size3)) 0 8 (inl (omega arith))
       ∙ part-overwritten_apart 12 (little_bytes 4 blocks) second (omega (arith, size2)) 0 8 (inl (omega arith))
@@ -79,7 +79,7 @@ module _ (old label : List ℕ) (segments blocks gate : ℕ) (counts : (segments
 
   version_is : number_at 8 4 superblock ≡ 1
   version_is =
-      number_at_apart 148 (gate ∷ []) fifth (omega (arith, size5)) 8 4 (inl (omega arith))
+      number_at_apart 148 (gate_2 ∷ gate_3 ∷ []) fifth (omega (arith, size5)) 8 4 (inl (omega arith))
       ∙ number_at_apart 20 label fourth fits 8 4 (inl (omega arith))
       ∙ number_at_apart 16 (little_bytes 4 segments) third (omega (arith, size3)) 8 4 (inl (omega arith))
       ∙ number_at_apart 12 (little_bytes 4 blocks) second (omega (arith, size2)) 8 4 (inl (omega arith))
@@ -87,7 +87,7 @@ module _ (old label : List ℕ) (segments blocks gate : ℕ) (counts : (segments
 
   pub blocks_are : number_at 12 4 superblock ≡ blocks
   blocks_are =
-      number_at_apart 148 (gate ∷ []) fifth (omega (arith, size5)) 12 4 (inl (omega arith))
+      number_at_apart 148 (gate_2 ∷ gate_3 ∷ []) fifth (omega (arith, size5)) 12 4 (inl (omega arith))
       ∙ number_at_apart 20 label fourth fits 12 4 (inl (omega arith))
       ∙ number_at_apart 16 (little_bytes 4 segments) third (omega (arith, size3)) 12 4 (inl (omega arith))
       ∙ number_at_written 12 4 blocks second (omega (arith, size2)) (omega (arith, high))
@@ -100,34 +100,37 @@ module _ (old label : List ℕ) (segments blocks gate : ℕ) (counts : (segments
 
   pub segments_are : number_at 16 4 superblock ≡ segments
   segments_are =
-      number_at_apart 148 (gate ∷ []) fifth (omega (arith, size5)) 16 4 (inl (omega arith))
+      number_at_apart 148 (gate_2 ∷ gate_3 ∷ []) fifth (omega (arith, size5)) 16 4 (inl (omega arith))
       ∙ number_at_apart 20 label fourth fits 16 4 (inl (omega arith))
       ∙ number_at_written 16 4 segments third (omega (arith, size3)) (omega (arith, few))
 
   pub label_is : part 20 128 superblock ≡ label
   label_is =
-      part-overwritten_apart 148 (gate ∷ []) fifth (omega (arith, size5)) 20 128 (inl (omega arith))
+      part-overwritten_apart 148 (gate_2 ∷ gate_3 ∷ []) fifth (omega (arith, size5)) 20 128 (inl (omega arith))
       ∙ ap (λ (n : ℕ). part 20 n fifth) (sym label_size) ∙ part-overwritten 20 label fourth fits
 
-  pub gate_is : get_or superblock 148 0 ≡ gate
-  gate_is = overwritten_inside 148 (gate ∷ []) fifth (omega (arith, size5)) 148 0 (omega arith) (omega arith)
+  pub second_is : get_or superblock 148 0 ≡ gate_2
+  second_is = overwritten_inside 148 (gate_2 ∷ gate_3 ∷ []) fifth (omega (arith, size5)) 148 0 (omega arith) (omega arith)
+
+  pub third_is : get_or superblock 149 0 ≡ gate_3
+  third_is = overwritten_inside 148 (gate_2 ∷ gate_3 ∷ []) fifth (omega (arith, size5)) 149 0 (omega arith) (omega arith)
 
   -- the octets after those that are used
-  zeros_stay : All IsZero (drop 149 superblock)
-  zeros_stay = All-from_get_or IsZero (drop 149 superblock) 0 each
+  zeros_stay : All IsZero (drop 150 superblock)
+  zeros_stay = All-from_get_or IsZero (drop 150 superblock) 0 each
     where
-      each : (i : ℕ) → i < length (drop 149 superblock) → IsZero (get_or (drop 149 superblock) i 0)
+      each : (i : ℕ) → i < length (drop 150 superblock) → IsZero (get_or (drop 150 superblock) i 0)
       each i within =
-          let inside : 149 + i < length old =
-          omega (arith, Rattle.std.proofs.Common.length-drop 149 superblock, length-superblock, whole) in
-          get_or-drop 149 superblock i 0
-          ∙ overwritten_above 148 (gate ∷ []) fifth (omega (arith, size5)) (149 + i) 0 (omega arith)
-          ∙ overwritten_above 20 label fourth fits (149 + i) 0 (omega (arith, label_size))
-          ∙ overwritten_above 16 (little_bytes 4 segments) third (omega (arith, size3)) (149 + i) 0 (omega arith)
-          ∙ overwritten_above 12 (little_bytes 4 blocks) second (omega (arith, size2)) (149 + i) 0 (omega arith)
-          ∙ overwritten_above 8 (little_bytes 4 1) first (omega (arith, size1)) (149 + i) 0 (omega arith)
-          ∙ overwritten_above 0 magic old (omega (arith, whole)) (149 + i) 0 (omega arith)
-          ∙ All-get_or IsZero old (149 + i) 0 inside zero
+          let inside : 150 + i < length old =
+          omega (arith, Rattle.std.proofs.Common.length-drop 150 superblock, length-superblock, whole) in
+          get_or-drop 150 superblock i 0
+          ∙ overwritten_above 148 (gate_2 ∷ gate_3 ∷ []) fifth (omega (arith, size5)) (150 + i) 0 (omega arith)
+          ∙ overwritten_above 20 label fourth fits (150 + i) 0 (omega (arith, label_size))
+          ∙ overwritten_above 16 (little_bytes 4 segments) third (omega (arith, size3)) (150 + i) 0 (omega arith)
+          ∙ overwritten_above 12 (little_bytes 4 blocks) second (omega (arith, size2)) (150 + i) 0 (omega arith)
+          ∙ overwritten_above 8 (little_bytes 4 1) first (omega (arith, size1)) (150 + i) 0 (omega arith)
+          ∙ overwritten_above 0 magic old (omega (arith, whole)) (150 + i) 0 (omega arith)
+          ∙ All-get_or IsZero old (150 + i) 0 inside zero
 
   pub superblock_valid : IsSuperblock superblock (4096 * home_place segments blocks)
   superblock_valid = record {
@@ -233,12 +236,27 @@ pub format_formatted : (format : ℕ) (super old new : List ℕ) → 4096 ≤ le
 format_formatted format super old new size super_size format_is is =
     ap format_number is ∙ ap format_in (block-overwritten 0 super old super_size (omega (arith, super_size, size))) ∙ format_is
 
--- the octet at the gate says the format
-gate_for : ℕ → ℕ
-gate_for format = cond (eqb format 2) 2 0
+-- the octets at the gates say the format
+abbrev second_for : ℕ → ℕ
+second_for format = cond (eqb format 1) 0 2
 
-pub told_by_gate : (format : ℕ) (super : List ℕ) → (format ≡ 1) ⊎ (format ≡ 2) → get_or super 148 0 ≡ cond (eqb format 2) 2 0
-    → format_in super ≡ format
-unfolding gate_for
-told_by_gate format super (inl one) is = ap (λ (n : ℕ). cond (eqb n 2) 2 1) (is ∙ ap gate_for one) ∙ sym one
-told_by_gate format super (inr two) is = ap (λ (n : ℕ). cond (eqb n 2) 2 1) (is ∙ ap gate_for two) ∙ sym two
+abbrev third_for : ℕ → ℕ
+third_for format = cond (eqb format 3) 3 0
+
+abbrev told_by : ℕ → ℕ → ℕ
+told_by second third = cond (eqb third 3) 3 (cond (eqb second 2) 2 1)
+
+pub told_by_gates : (format : ℕ) (super : List ℕ) → 1 ≤ format → format ≤ 3 → get_or super 148 0 ≡ second_for format
+    → get_or super 149 0 ≡ third_for format → format_in super ≡ format
+told_by_gates format super low high second third = elim (cases_eq format 1) [
+  | inl one ↦ told 1 one ∙ sym one
+  | inr more ↦ elim (cases_eq format 2) [
+    | inl two ↦ told 2 two ∙ sym two
+    | inr last ↦ let three : format ≡ 3 = omega (arith, low, high, more, last) in told 3 three ∙ sym three
+  ]
+] where
+  told : (n : ℕ) → format ≡ n → format_in super ≡ told_by (second_for n) (third_for n)
+  told n is =
+      let its_second : get_or super 148 0 ≡ second_for n = second ∙ ap (λ (f : ℕ). second_for f) is in
+      let its_third : get_or super 149 0 ≡ third_for n = third ∙ ap (λ (f : ℕ). third_for f) is in
+      ap (λ (n : ℕ). told_by n (get_or super 149 0)) its_second ∙ ap (λ (m : ℕ). told_by (second_for n) m) its_third

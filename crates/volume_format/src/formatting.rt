@@ -15,7 +15,7 @@ use octet_numbers::zeros;
 use std::alloc::Global;
 
 /// Writes a volume of zeroed logical blocks with this label, eight closed segments and this format, and syncs. `label`
-/// has 128 octets, which the journal does not read. The volume has 1,024 to 4,194,304 blocks. `format` is 1 or 2.
+/// has 128 octets, which the journal does not read. The volume has 1,024 to 4,194,304 blocks. `format` is 1 to 3.
 ///
 /// `Fault` or `Memory` may leave anything on the device.
 pub fn format<D: Disk>(
@@ -28,7 +28,7 @@ pub fn format<D: Disk>(
     requires low { 1024 ≤ blocks }
     requires high { blocks ≤ 4194304 }
     requires label { length label.now ≡ 128 }
-    requires format { (format ≡ 1) ⊎ (format ≡ 2) }
+    requires format { (1 ≤ format) × (format ≤ 3) }
     requires size { (D.device disk.old).size ≡ 4096 * home_place 8 blocks }
     ensures volume { IsTrue (D.device disk.old).tells → OnOk result (StandsFor (D.device disk.new).content label.now (zeroed blocks)) }
     ensures count { IsTrue (D.device disk.old).tells → OnOk result (segment_count (D.device disk.new).content ≡ 8) }
@@ -54,7 +54,7 @@ pub fn format_with<D: Disk>(
     requires low { 1024 ≤ blocks }
     requires high { blocks ≤ 4194304 }
     requires label { length label.now ≡ 128 }
-    requires format { (format ≡ 1) ⊎ (format ≡ 2) }
+    requires format { (1 ≤ format) × (format ≤ 3) }
     requires size { (D.device disk.old).size ≡ 4096 * home_place segments blocks }
     ensures volume { IsTrue (D.device disk.old).tells → OnOk result (StandsFor (D.device disk.new).content label.now (zeroed blocks)) }
     ensures count { IsTrue (D.device disk.old).tells → OnOk result (segment_count (D.device disk.new).content ≡ segments) }
@@ -83,7 +83,7 @@ fn write_volume<D: Disk>(
     requires low { 1024 ≤ blocks }
     requires high { blocks ≤ 4194304 }
     requires label { length label.now ≡ 128 }
-    requires format { (format ≡ 1) ⊎ (format ≡ 2) }
+    requires format { (1 ≤ format) × (format ≤ 3) }
     requires size { (D.device disk.old).size ≡ 4096 * home_place segments blocks }
     requires whole { length octets.items ≡ 4096 }
     requires zero { All (λ octet. octet ≡ 0) octets.items }

@@ -28,14 +28,18 @@ pub const MAGIC: [u8; 8] = [0x58, 0x4e, 0x4e, 0x54, 0x50, 0x46, 0x53, 0x31];
 pub const VERSION: u32 = 1;
 /// Where the label begins in the superblock.
 pub const LABEL_AT: usize = 20;
-/// Where the gate of the format is in the superblock: right after the label.
-pub const FORMAT_AT: usize = 148;
-/// The gate of the format ends the octets that are used; those after it are zero.
-pub const SUPERBLOCK_USED: usize = 149;
-/// The octet at the gate of a volume of format 2.
+/// Where the gate of format 2 is in the superblock: right after the label.
+pub const FORMAT_2_AT: usize = 148;
+/// Where the gate of format 3 is: right after that of format 2.
+pub const FORMAT_3_AT: usize = 149;
+/// The gates of the formats end the octets that are used; those after them are zero.
+pub const SUPERBLOCK_USED: usize = 150;
+/// The octet at the gate of format 2, if it is open.
 pub const IS_FORMAT_2: u8 = 2;
-/// The octet at the gate of a new volume of format 1. Any octet but that of format 2 means format 1.
-pub const IS_FORMAT_1: u8 = 0;
+/// The octet at the gate of format 3, if it is open. Then the volume has format 3, whatever the other gate is.
+pub const IS_FORMAT_3: u8 = 3;
+/// The octet at a gate of a new volume that is not open. Any octet but that of the gate's own format means the same.
+pub const IS_NO_FORMAT: u8 = 0;
 /// The first octet of the gate block of an open segment.
 pub const OPEN: u8 = 1;
 /// The first octet of the gate block of a closed segment, as the journal writes it.

@@ -9,7 +9,7 @@ mod superblock;
 
 pub use descriptor::{are_below, are_distinct, describe_batch, read_descriptor};
 pub use formatting::{format, format_with};
-pub use superblock::{Sizes, read_format, read_superblock};
+pub use superblock::{Sizes, gate_2_of, gate_3_of, read_format, read_superblock};
 use thiserror::Error;
 
 /// Why a volume was not written.

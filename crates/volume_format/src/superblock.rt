@@ -6,8 +6,9 @@ ghost use Rattle.disk.specs.Image.{part};
 ghost use Rattle.model.specs.Volume.{IsSuperblock, format_in, home_place, magic, number_at};
 
 use crate::layout::{
-    FEWEST_BLOCKS, FORMAT_AT, IS_FORMAT_1, IS_FORMAT_2, LABEL_AT, MAGIC, MOST_BLOCKS, ONE_SEGMENT,
-    SEGMENTS, SUPERBLOCK_USED, VERSION, home_block, put_octets, start_of,
+    FEWEST_BLOCKS, FORMAT_2_AT, FORMAT_3_AT, IS_FORMAT_2, IS_FORMAT_3, IS_NO_FORMAT, LABEL_AT,
+    MAGIC, MOST_BLOCKS, ONE_SEGMENT, SEGMENTS, SUPERBLOCK_USED, VERSION, home_block, put_octets,
+    start_of,
 };
 use octet_numbers::{number32, put32};
 
@@ -19,7 +20,7 @@ pub(crate) fn describe_in(
     label: &[u8],
     format: u32,
 )
-    requires format { (format ≡ 1) ⊎ (format ≡ 2) }
+    requires format { (1 ≤ format) × (format ≤ 3) }
     requires segments { (segments ≡ 1) ⊎ (segments ≡ 8) }
     requires low { 1024 ≤ blocks }
     requires high { blocks ≤ 4194304 }
@@ -37,7 +38,7 @@ pub(crate) fn describe_in(
 }
 
 fn describe_volume(octets: &mut [u8], segments: u32, blocks: u32, label: &[u8], format: u32)
-    requires format { (format ≡ 1) ⊎ (format ≡ 2) }
+    requires format { (1 ≤ format) × (format ≤ 3) }
     requires segments { (segments ≡ 1) ⊎ (segments ≡ 8) }
     requires low { 1024 ≤ blocks }
     requires high { blocks ≤ 4194304 }
@@ -56,27 +57,41 @@ fn describe_volume(octets: &mut [u8], segments: u32, blocks: u32, label: &[u8], 
     put32(octets, 12, blocks);
     put32(octets, 16, segments);
     put_octets(octets, LABEL_AT, label);
-    put_octets(octets, FORMAT_AT, &[gate_of(format)]);
+    put_octets(octets, FORMAT_2_AT, &[gate_2_of(format), gate_3_of(format)]);
 }
 
-// The octet at the gate of a new volume of this format.
-fn gate_of(format: u32) -> u8
-    ensures { result ≡ (if format == 2 then 2 else 0) }
+/// The octet at the gate of format 2 in a new volume of this format.
+pub fn gate_2_of(format: u32) -> u8
+    ensures { result ≡ (if format == 1 then 0 else 2) }
 {
-    if format == 2 {
-        IS_FORMAT_2
+    if format == 1 {
+        IS_NO_FORMAT
     } else {
-        IS_FORMAT_1
+        IS_FORMAT_2
     }
 }
 
-/// The format that a superblock says: 2 if the gate of the format is 2, else 1.
-pub fn read_format(octets: &[u8]) -> u32
-    requires { 149 ≤ length octets.now }
-    ensures format { result ≡ format_in octets.now }
-    ensures some { (result ≡ 1) ⊎ (result ≡ 2) }
+/// The octet at the gate of format 3 in a new volume of this format.
+pub fn gate_3_of(format: u32) -> u8
+    ensures { result ≡ (if format == 3 then 3 else 0) }
 {
-    if octets[FORMAT_AT] == IS_FORMAT_2 {
+    if format == 3 {
+        IS_FORMAT_3
+    } else {
+        IS_NO_FORMAT
+    }
+}
+
+/// The format that a superblock says: 3 if the gate of format 3 is 3, else 2 if the gate of format 2 is 2, else 1.
+pub fn read_format(octets: &[u8]) -> u32
+    requires { 150 ≤ length octets.now }
+    ensures format { result ≡ format_in octets.now }
+    ensures some { 1 ≤ result }
+    ensures few { result ≤ 3 }
+{
+    if octets[FORMAT_3_AT] == IS_FORMAT_3 {
+        3
+    } else if octets[FORMAT_2_AT] == IS_FORMAT_2 {
         2
     } else {
         1
@@ -131,8 +146,8 @@ fn has_magic(octets: &[u8]) -> bool
 }
 
 fn has_zeros(octets: &[u8]) -> bool
-    requires { 149 ≤ length octets.now }
-    ensures { IsTrue result ↔ All (λ octet. octet ≡ 0) (drop 149 octets.now) }
+    requires { 150 ≤ length octets.now }
+    ensures { IsTrue result ↔ All (λ octet. octet ≡ 0) (drop 150 octets.now) }
 {
     for at in SUPERBLOCK_USED..octets.len() {
         if octets[at] != 0 {

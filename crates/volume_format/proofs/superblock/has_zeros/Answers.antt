@@ -6,8 +6,8 @@ use Rattle.volume_format.proofs.superblock.has_zeros.Goals as goal
 
 pub returns : goal.returns
 returns c = (
-  λ t. All-from_get_or (λ o. o ≡ 0) (drop 149 c.args.octets.now) 0 (λ k within. get_or-drop 149 c.args.octets.now k 0
-      ∙ c.loop-at.invariant (149 + k) (omega arith) (omega (arith, length-drop 149 c.args.octets.now, c.loop-at-test.false))),
+  λ t. All-from_get_or (λ o. o ≡ 0) (drop 150 c.args.octets.now) 0 (λ k within. get_or-drop 150 c.args.octets.now k 0
+      ∙ c.loop-at.invariant (150 + k) (omega arith) (omega (arith, length-drop 150 c.args.octets.now, c.loop-at-test.false))),
   λ all. refl,
 )
 
@@ -15,11 +15,11 @@ pub returns-then-octets-at-ne0 : goal.returns-then-octets-at-ne0
 returns-then-octets-at-ne0 c = (
   λ t. absurd (false≢true t),
   λ all.
-      let place : 149 + (c.loop-at.at - 149) ≡ c.loop-at.at = omega arith in
-      let zero = All-get_or (λ o. o ≡ 0) (drop 149 c.args.octets.now) (c.loop-at.at - 149) 0
-      (omega (arith, length-drop 149 c.args.octets.now)) all in
+      let place : 150 + (c.loop-at.at - 150) ≡ c.loop-at.at = omega arith in
+      let zero = All-get_or (λ o. o ≡ 0) (drop 150 c.args.octets.now) (c.loop-at.at - 150) 0
+      (omega (arith, length-drop 150 c.args.octets.now)) all in
       let is : get_or c.args.octets.now c.loop-at.at 0 ≡ 0 = ap (λ (n : ℕ). get_or c.args.octets.now n 0) (sym place)
-      ∙ sym (get_or-drop 149 c.args.octets.now (c.loop-at.at - 149) 0) ∙ zero in
+      ∙ sym (get_or-drop 150 c.args.octets.now (c.loop-at.at - 150) 0) ∙ zero in
       absurd (c.if-octets-at-ne0.true is),
 )
 
