@@ -1,6 +1,6 @@
 -- Reads that change nothing, one after the other, and what follows them.
-use Rattle.std.proofs.Common.{◌≡◌, ◌⊎◌, inl, inr, ◌<◌, ◌≤◌, ℕ, ◌+◌, ◌-◌, ◌*◌, Bool, if◌then◌else◌, IsTrue, List, length, Result, refl, sym}
-use Rattle.std.proofs.Common.{◌∙◌, ap, subst, arith}
+use Rattle.std.proofs.Common.{◌≡◌, ◌⊎◌, inl, inr, ◌<◌, ◌≤◌, ℕ, ◌+◌, ◌-◌, ◌*◌, Bool, eqb, if◌then◌else◌, IsTrue, List, length, Result, refl}
+use Rattle.std.proofs.Common.{sym, ◌∙◌, ap, subst, arith}
 use Rattle.std.proofs.lemmas.Bool.{cases_eq, eq-eqb, ne_eqb}
 use Rattle.disk.specs.Device.{Device}
 use Rattle.disk.specs.declared.DiskError.{DiskError}
@@ -44,30 +44,43 @@ seen_then a b c look first second = record {
 
 -- ---- the places of gates
 
-pub gate_of_format : (i : ℕ) → i ≡ 0 → gate_at i ≡ 148
+pub gate_of_format_2 : (i : ℕ) → i ≡ 0 → gate_at i ≡ 148
 unfolding gate_at
-gate_of_format i is = ap (λ (b : Bool). if b then 148 else 4096 * gate_place (i - 1)) (eq-eqb i 0 is)
+gate_of_format_2 i is = ap (λ (b : Bool). if b then 148 else (if eqb i 1 then 149 else 4096 * gate_place (i - 2))) (eq-eqb i 0 is)
 
-pub gate_of_segment : (i : ℕ) → (i ≡ 0 → ⊥) → gate_at i ≡ 4096 * gate_place (i - 1)
+pub gate_of_format_3 : (i : ℕ) → i ≡ 1 → gate_at i ≡ 149
 unfolding gate_at
-gate_of_segment i other = ap (λ (b : Bool). if b then 148 else 4096 * gate_place (i - 1)) (ne_eqb i 0 other)
+gate_of_format_3 i is =
+    ap (λ (b : Bool). if b then 148 else (if eqb i 1 then 149 else 4096 * gate_place (i - 2)))
+    (ne_eqb i 0 (λ none. omega (arith, is, none)))
+    ∙ ap (λ (b : Bool). if b then 149 else 4096 * gate_place (i - 2)) (eq-eqb i 1 is)
+
+pub gate_of_segment : (i : ℕ) → 2 ≤ i → gate_at i ≡ 4096 * gate_place (i - 2)
+unfolding gate_at
+gate_of_segment i high =
+    ap (λ (b : Bool). if b then 148 else (if eqb i 1 then 149 else 4096 * gate_place (i - 2)))
+    (ne_eqb i 0 (λ none. omega (arith, high, none)))
+    ∙ ap (λ (b : Bool). if b then 149 else 4096 * gate_place (i - 2)) (ne_eqb i 1 (λ one. omega (arith, high, one)))
 
 -- the gates of a volume lie within its device
-pub all_within : (segments blocks size : ℕ) → 1024 ≤ blocks → size ≡ 4096 * home_place segments blocks → AreWithin (segments + 1) size
+pub all_within : (segments blocks size : ℕ) → 1024 ≤ blocks → size ≡ 4096 * home_place segments blocks → AreWithin (segments + 2) size
 all_within segments blocks size low is i there = elim (cases_eq i 0) [
-  | inl first ↦ let at = gate_of_format i first in omega (arith, low, is, at)
-  | inr other ↦ let at = gate_of_segment i other in omega (arith, low, is, there, at)
+  | inl first ↦ let at = gate_of_format_2 i first in omega (arith, low, is, at)
+  | inr some ↦ elim (cases_eq i 1) [
+    | inl second ↦ let at = gate_of_format_3 i second in omega (arith, low, is, at)
+    | inr other ↦ let at = gate_of_segment i (omega (arith, some, other)) in omega (arith, low, is, there, at, some, other)
+  ]
 ]
 
 -- the count that a superblock tells
 pub count_of : (device : Device) (superblock : List ℕ) (n : ℕ) → superblock ≡ block 0 device.content → (size : ℕ) → size ≡ device.size
-    → (IsSuperblock superblock size × (n ≡ number_at 16 4 superblock + 1)) ⊎ ((IsSuperblock superblock size → ⊥) × (n ≡ 0))
+    → (IsSuperblock superblock size × (n ≡ number_at 16 4 superblock + 2)) ⊎ ((IsSuperblock superblock size → ⊥) × (n ≡ 0))
     → IsCount n device
 count_of device superblock n is size same (inl told) =
     inl (
       subst (λ (k : ℕ). IsSuperblock (block 0 device.content) k) same (subst (λ (x : List ℕ). IsSuperblock x size) is told.0),
       told.1
-          ∙ ap (λ (x : List ℕ). number_at 16 4 x + 1) is,
+          ∙ ap (λ (x : List ℕ). number_at 16 4 x + 2) is,
     )
 count_of device superblock n is size same (inr none) =
     inr (
@@ -87,11 +100,11 @@ module _ (a b : Device) (look : IsLook a b) (seen : IsSeen a b) (t : IsTrue a.te
       (subst (λ (x : List ℕ). IsSuperblock (block 0 x) a.size) (sym (seen.content t)) is)
 
   pub count_back : (n : ℕ) → IsCount n b → IsCount n a
-  count_back n (inl many) = inl (segments_back many.0, many.1 ∙ ap (λ (x : List ℕ). segment_count x + 1) (seen.content t))
+  count_back n (inl many) = inl (segments_back many.0, many.1 ∙ ap (λ (x : List ℕ). segment_count x + 2) (seen.content t))
   count_back n (inr none) = inr (λ is. none.0 (segments_on is), none.1)
 
   pub count_on : (n : ℕ) → IsCount n a → IsCount n b
-  count_on n (inl many) = inl (segments_on many.0, many.1 ∙ ap (λ (x : List ℕ). segment_count x + 1) (sym (seen.content t)))
+  count_on n (inl many) = inl (segments_on many.0, many.1 ∙ ap (λ (x : List ℕ). segment_count x + 2) (sym (seen.content t)))
   count_on n (inr none) = inr (λ is. none.0 (segments_back is), none.1)
 
   pub gates_back : (octets : List ℕ) → AreGates octets b.content → AreGates octets a.content
@@ -100,7 +113,7 @@ module _ (a b : Device) (look : IsLook a b) (seen : IsSeen a b) (t : IsTrue a.te
   pub gate_back : (k : ℕ) → IsGate b k → IsGate a k
   gate_back k gate = (
     segments_back gate.0,
-    (gate.1.0, (subst (λ (x : List ℕ). gate.1.0 < segment_count x + 1) (seen.content t) gate.1.1.0, gate.1.1.1)),
+    (gate.1.0, (subst (λ (x : List ℕ). gate.1.0 < segment_count x + 2) (seen.content t) gate.1.1.0, gate.1.1.1)),
   )
 
 -- what is written back after them

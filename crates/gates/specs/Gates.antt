@@ -6,11 +6,11 @@ use Rattle.disk.specs.Calls.Call.{Write}
 use Rattle.disk.specs.Device.{Device, Elapses, HasCause, LeavesNoMore, LeftNoMore}
 use Rattle.disk.specs.declared.DiskError.{DiskError}
 use Rattle.disk.specs.declared.DiskError.TheVariants.{Memory}
-use Rattle.model.specs.Volume.{IsSuperblock, block, format_at, gate_place, segment_count}
+use Rattle.model.specs.Volume.{IsSuperblock, block, format_2_at, format_3_at, gate_place, segment_count}
 
--- the place of a gate, which is one octet: first the gate of the format, then that of each segment
+-- the place of a gate, which is one octet: first those of formats 2 and 3, then that of each segment
 unfoldable pub gate_at : ℕ → ℕ
-gate_at i = if i == 0 then format_at else 4096 * gate_place (i - 1)
+gate_at i = if i == 0 then format_2_at else (if i == 1 then format_3_at else 4096 * gate_place (i - 2))
 
 -- the superblock is one of a volume of this size
 abbrev pub HasSegments : Device → Type 0
@@ -22,7 +22,7 @@ AreWithin n size = (i : ℕ) → i < n → gate_at i < size
 
 -- the number of gates on a device: 0 if its superblock is not that of a volume
 abbrev pub IsCount : ℕ → Device → Type 0
-IsCount n device = (HasSegments device × (n ≡ segment_count device.content + 1)) ⊎ ((HasSegments device → ⊥) × (n ≡ 0))
+IsCount n device = (HasSegments device × (n ≡ segment_count device.content + 2)) ⊎ ((HasSegments device → ⊥) × (n ≡ 0))
 
 -- these are the octets of the first gates
 abbrev pub AreGates : List ℕ → List ℕ → Type 0
@@ -49,7 +49,7 @@ pub record IsSeen (old new : Device) : Type 0 where
 -- The octet of each gate was read, and then each was written to its place, in rising order, up to the first refusal.
 pub record WritesThem {D : Type 0} (device : D → Device) (result : Result (Unit {0}) DiskError) (old new : D) : Type 0 where
   pub octets : List ℕ
-  pub few : length octets ≤ 9
+  pub few : length octets ≤ 10
   pub read : D
   pub look : IsLook (device old) (device read)
   pub seen : IsSeen (device old) (device read)
@@ -63,7 +63,7 @@ WritesBack device result old new = WritesThem device result old new ⊎ (IsErr r
 
 -- a place of one of these gates
 abbrev pub IsGate : Device → ℕ → Type 0
-IsGate device k = HasSegments device × ((i : ℕ) × ((i < segment_count device.content + 1) × (k ≡ gate_at i)))
+IsGate device k = HasSegments device × ((i : ℕ) × ((i < segment_count device.content + 2) × (k ≡ gate_at i)))
 
 -- the image with any octets at the gates of that device
 pub record IsTornAtGates (device : Device) (old new : List ℕ) : Type 0 where

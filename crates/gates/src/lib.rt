@@ -1,4 +1,4 @@
-//! Writes the gates of a volume, that of its format and those of its segments, back as they were read. So the first
+//! Writes the gates of a volume, those of its format and those of its segments, back as they were read. So the first
 //! sync of an opening makes them durable. `specs/Gates.antt` says which device calls are made. docs/DECISIONS.md says
 //! where this is needed: over a file.
 #![tactic(auto)]
@@ -12,11 +12,11 @@ ghost use Rattle.gates.specs.Gates.{AreGates, AreWithin, IsCount, IsLook, IsSeen
 use disk::{Disk, DiskError};
 use octet_numbers::zeros;
 use std::alloc::Global;
-use volume_format::layout::{BLOCK, FORMAT_AT, gate_block, start_of};
+use volume_format::layout::{BLOCK, FORMAT_2_AT, FORMAT_3_AT, gate_block, start_of};
 use volume_format::read_superblock;
 
 /// The most gates that a volume has.
-const MOST_GATES: usize = 9;
+const MOST_GATES: usize = 10;
 
 /// Reads the octet of each gate of a volume, with one read each. Then it writes each octet back to its place,
 /// with one write each, in rising order. It never syncs. If the superblock is not that of a volume, it writes nothing
@@ -42,7 +42,7 @@ pub fn write_gates_back<D: Disk>(alloc: Global, disk: &mut D) -> Result<(), Disk
 
 // Reads the octet of each gate, and then writes each back.
 fn write_back<D: Disk>(disk: &mut D, gates: &mut [u8]) -> Result<(), DiskError>
-    requires few { length gates.old ≤ 9 }
+    requires few { length gates.old ≤ 10 }
     requires within { AreWithin (length gates.old) (D.device disk.old).size }
     requires count { IsTrue (D.device disk.old).tells → IsCount (length gates.old) (D.device disk.old) }
     ensures calls { WritesBack D.device result disk.old disk.new }
@@ -57,7 +57,7 @@ fn count_gates<D: Disk>(disk: &mut D, superblock: &mut Vec<u8>) -> Result<usize,
     requires { length superblock.old.items ≡ 4096 }
     ensures look { IsLook (D.device disk.old) (D.device disk.new) }
     ensures seen { OnOk result (IsSeen (D.device disk.old) (D.device disk.new)) }
-    ensures few { IfOk result (λ count. count ≤ 9) }
+    ensures few { IfOk result (λ count. count ≤ 10) }
     ensures within { IfOk result (λ count. AreWithin count (D.device disk.old).size) }
     ensures count { IsTrue (D.device disk.old).tells → IfOk result (λ count. IsCount count (D.device disk.old)) }
     ensures fault { IfErr result (λ error. (error ≡ DiskError.Fault) × ((D.device disk.new).failures ≢ (D.device disk.old).failures)) }
@@ -86,33 +86,35 @@ fn read_first<D: Disk>(disk: &mut D, block: &mut Vec<u8>) -> Result<(), DiskErro
 // The number of gates of the volume with this superblock, on a device of `size` octets.
 fn count_told(superblock: &[u8], size: u64) -> usize
     requires { length superblock.now ≡ 4096 }
-    ensures count { (IsSuperblock superblock.now size × (result ≡ number_at 16 4 superblock.now + 1))
+    ensures count { (IsSuperblock superblock.now size × (result ≡ number_at 16 4 superblock.now + 2))
         ⊎ ((IsSuperblock superblock.now size → ⊥) × (result ≡ 0)) }
-    ensures few { result ≤ 9 }
+    ensures few { result ≤ 10 }
     ensures within { AreWithin result size }
 {
     match read_superblock(superblock, size) {
-        Some(sizes) => sizes.segments as usize + 1,
+        Some(sizes) => sizes.segments as usize + 2,
         None => 0,
     }
 }
 
-// The place of a gate: first that of the format, then those of the segments.
+// The place of a gate: first those of formats 2 and 3, then those of the segments.
 #[tactic(auto, unfolding(crate::specs::Gates::gate_at))]
 fn place_of(gate: u32) -> u64
-    requires { gate < 9 }
+    requires { gate < 10 }
     ensures { result ≡ gate_at gate }
 {
     if gate == 0 {
-        FORMAT_AT as u64
+        FORMAT_2_AT as u64
+    } else if gate == 1 {
+        FORMAT_3_AT as u64
     } else {
-        start_of(gate_block(gate - 1))
+        start_of(gate_block(gate - 2))
     }
 }
 
 // Reads the octet of each gate.
 fn read_gates<D: Disk>(disk: &mut D, gates: &mut [u8]) -> Result<(), DiskError>
-    requires few { length gates.old ≤ 9 }
+    requires few { length gates.old ≤ 10 }
     requires within { AreWithin (length gates.old) (D.device disk.old).size }
     ensures look { IsLook (D.device disk.old) (D.device disk.new) }
     ensures seen { OnOk result (IsSeen (D.device disk.old) (D.device disk.new)) }
@@ -126,7 +128,7 @@ fn read_gates<D: Disk>(disk: &mut D, gates: &mut [u8]) -> Result<(), DiskError>
 }
 
 fn read_gate<D: Disk>(disk: &mut D, gate: u32) -> Result<u8, DiskError>
-    requires low { gate < 9 }
+    requires low { gate < 10 }
     requires within { gate_at gate < (D.device disk.old).size }
     ensures look { IsLook (D.device disk.old) (D.device disk.new) }
     ensures seen { OnOk result (IsSeen (D.device disk.old) (D.device disk.new)) }
@@ -141,7 +143,7 @@ fn read_gate<D: Disk>(disk: &mut D, gate: u32) -> Result<u8, DiskError>
 
 // Writes an octet to each gate.
 fn write_gates<D: Disk>(disk: &mut D, gates: &[u8]) -> Result<(), DiskError>
-    requires few { length gates.now ≤ 9 }
+    requires few { length gates.now ≤ 10 }
     requires within { AreWithin (length gates.now) (D.device disk.old).size }
     ensures { Makes D.device (writes_from 0 gates.now) result disk.old disk.new }
 {
@@ -152,7 +154,7 @@ fn write_gates<D: Disk>(disk: &mut D, gates: &[u8]) -> Result<(), DiskError>
 }
 
 fn write_gate<D: Disk>(disk: &mut D, gate: u32, octet: u8) -> Result<(), DiskError>
-    requires low { gate < 9 }
+    requires low { gate < 10 }
     requires within { gate_at gate < (D.device disk.old).size }
     ensures { Writes (gate_at gate) (octet ∷ []) result (D.device disk.old) (D.device disk.new) }
 {

@@ -12,7 +12,7 @@ write_back-requires-clause-count g c t =
     let look = c.count_gates.ensures.look in
     let told : IsTrue first.tells = subst (λ (b : Bool). IsTrue b) look.time.tells t in
     subst (λ (n : ℕ). IsCount n now)
-    (sym (length-take-le c.in_ok-count-in-Ok.count (0 ∷ 0 ∷ 0 ∷ 0 ∷ 0 ∷ 0 ∷ 0 ∷ 0 ∷ 0 ∷ []) c.in_ok-count-in-Ok.ensures.few))
+    (sym (length-take-le c.in_ok-count-in-Ok.count (0 ∷ 0 ∷ 0 ∷ 0 ∷ 0 ∷ 0 ∷ 0 ∷ 0 ∷ 0 ∷ 0 ∷ []) c.in_ok-count-in-Ok.ensures.few))
     (count_on first now look c.in_ok-count-in-Ok.ensures.seen told c.in_ok-count-in-Ok.count (c.in_ok-count-in-Ok.ensures.count told))
 
 pub returns-in_ok-count-in-Ok-clause-calls : goal.returns-in_ok-count-in-Ok-clause-calls
