@@ -1,4 +1,4 @@
--- The opening of the format's gate: what the journal keeps after it, and what a crash within it leaves.
+-- The opening of the gate of format 3: what the journal keeps after it, and what a crash within it leaves.
 use Rattle.std.proofs.Common.{◌≡◌, ◌≢◌, ◌⊎◌, inl, inr, ⊎_elim, ◌<◌, ◌≤◌, ℕ, ◌+◌, ◌-◌, ◌*◌, Bool, true, false, IsTrue, cond, eqb, List, []}
 use Rattle.std.proofs.Common.{◌∷◌, length, get_or, map, take, refl, sym, ◌∙◌, ap, subst, arith, Result, Ok, Err}
 use Rattle.std.proofs.lemmas.Bool.{true≢false}
@@ -9,7 +9,7 @@ use Rattle.disk.specs.Image.{Torn, overwritten, part}
 use Rattle.segment_laws.specs.Held.{AreOpen}
 use Rattle.segment_laws.specs.Images.{SameBut}
 use Rattle.segment_laws.proofs.Blocks.{same_but_equal}
-use Rattle.segment_laws.proofs.Formats.{gate_opens, overwritten_torn, some_format}
+use Rattle.segment_laws.proofs.Formats.{gate_opens, overwritten_torn, torn_gates, torn_rises}
 use Rattle.segment_laws.proofs.Standing.{format_open, format_unread}
 use Rattle.segment_laws.proofs.Whole.{stands_length}
 use Rattle.journal_segments.specs.Staged.{Staged, held_as}
@@ -31,7 +31,7 @@ at_rest label bs after c (inl stands) = stands
 at_rest label bs after c (inr commits) = let wrong = commits.0 in absurd (cc)
 
 module _ (old : Device) (blocks : ℕ) (superblock : List ℕ) (room : List Staged) (filled : ℕ) (is_last : Bool)
-    (kept : IsKept old blocks superblock Idle false room filled is_last) (first : format_in superblock ≡ 1) where
+    (kept : IsKept old blocks superblock Idle false room filled is_last) (older : format_in superblock ≤ 2) where
   abbrev f : Flight
   f = flight_in room filled is_last
 
@@ -42,16 +42,24 @@ module _ (old : Device) (blocks : ℕ) (superblock : List ℕ) (room : List Stag
   label = part 20 128 superblock
 
   -- an image that the write may leave
-  pub still_stands : IsTrue old.tells → (c : List ℕ) → IsTornImage 148 1 old c → StandsFor c label (logical_blocks x)
+  pub still_stands : IsTrue old.tells → (c : List ℕ) → IsTornImage 149 1 old c → StandsFor c label (logical_blocks x)
   still_stands t c from =
       format_unread from.0 c label (logical_blocks x)
       (at_rest label (logical_blocks x) (laid_over (logical_blocks x) f.batch.numbers f.batch.images) from.0
-      ((kept.told t).admits from.0 from.1)) from.2
+      ((kept.told t).admits from.0 from.1)) (torn_gates from.0 c from.2)
 
-  pub still_admitted : IsTrue old.tells → (c : List ℕ) → IsTornImage 148 1 old c
+  -- it has no lower format, whatever it has at the gate: apart from that it has the superblock of the content
+  no_lower : IsTrue old.tells → (c : List ℕ) → IsTornImage 149 1 old c → format_in superblock ≤ format_number c
+  no_lower t c from =
+      let same : block 0 from.0 ≡ block 0 x = ((kept.told t).same refl from.0 from.1).same 0 (λ none. none) in
+      let was : format_number from.0 ≡ format_in superblock = ap format_in same ∙ kept.format_is t refl in
+      let rises = torn_rises from.0 c from.2 (omega (arith, was, older)) in
+      omega (arith, was, rises)
+
+  pub still_admitted : IsTrue old.tells → (c : List ℕ) → IsTornImage 149 1 old c
       → IsAdmitted Idle label (logical_blocks x) (laid_over (logical_blocks x) f.batch.numbers f.batch.images) c
       × (format_in superblock ≤ format_number c)
-  still_admitted t c from = (inl (still_stands t c from), omega (arith, first, some_format (block 0 c)))
+  still_admitted t c from = (inl (still_stands t c from), no_lower t c from)
 
   same_home : (t : IsTrue old.tells) (c : List ℕ) → StandsFor c label (logical_blocks x) → home_size c ≡ home_size x
   same_home t c stands = sym (stands_length c label (logical_blocks x) stands)
@@ -67,12 +75,12 @@ module _ (old : Device) (blocks : ℕ) (superblock : List ℕ) (room : List Stag
     same_home t c stands,
   )
 
-  torn_size : (t : IsTrue old.tells) (c : List ℕ) → IsTornImage 148 1 old c → length c ≡ length x
+  torn_size : (t : IsTrue old.tells) (c : List ℕ) → IsTornImage 149 1 old c → length c ≡ length x
   torn_size t c from = from.2.size ∙ ((kept.told t).same refl from.0 from.1).size
 
   -- where the write failed, or the sync after it
   module _ (new : Device) (time : Elapses old new) (law : IsTrue new.tells → new.may_leave new.content) (torn : IsTrue old.tells
-      → (c : List ℕ) → new.may_leave c → IsTornImage 148 1 old c) where
+      → (c : List ℕ) → new.may_leave c → IsTornImage 149 1 old c) where
     before : IsTrue new.tells → IsTrue old.tells
     before t = subst (λ (b : Bool). IsTrue b) time.tells t
 
@@ -109,27 +117,27 @@ module _ (old : Device) (blocks : ℕ) (superblock : List ℕ) (room : List Stag
             same = λ runs. absurd (true≢false runs);
           };
       format_is = λ t runs. absurd (true≢false runs);
-      formats = λ t c left. omega (arith, first, some_format (block 0 c));
+      formats = λ t c left. let was = before t in no_lower was c (torn was c left);
     }
 
   -- where both were good
-  module _ (new : Device) (time : Elapses old new) (after : List ℕ) (content : IsTrue old.tells → new.content ≡ overwritten 148 (2 ∷ []) x)
-      (only : IsTrue old.tells → LeavesOnly new (overwritten 148 (2 ∷ []) x))
-      (after_size : length after ≡ 4096) (after_label : part 20 128 after ≡ label) (after_format : format_in after ≡ 2) where
+  module _ (new : Device) (time : Elapses old new) (after : List ℕ) (content : IsTrue old.tells → new.content ≡ overwritten 149 (3 ∷ []) x)
+      (only : IsTrue old.tells → LeavesOnly new (overwritten 149 (3 ∷ []) x))
+      (after_size : length after ≡ 4096) (after_label : part 20 128 after ≡ label) (after_format : format_in after ≡ 3) where
     before_both : IsTrue new.tells → IsTrue old.tells
     before_both t = subst (λ (b : Bool). IsTrue b) time.tells t
 
     abbrev y : List ℕ
-    y = overwritten 148 (2 ∷ []) x
+    y = overwritten 149 (3 ∷ []) x
 
-    fits : IsTrue old.tells → 149 ≤ length x
+    fits : IsTrue old.tells → 150 ≤ length x
     fits t = omega (arith, (kept.told t).stands.has_superblock.exactly)
 
-    tears : IsTrue old.tells → Torn 148 1 x y
-    tears t = overwritten_torn 148 2 x (fits t) (omega arith)
+    tears : IsTrue old.tells → Torn 149 1 x y
+    tears t = overwritten_torn 149 3 x (fits t) (omega arith)
 
     stands_now : (t : IsTrue old.tells) → StandsFor y label (logical_blocks x)
-    stands_now t = format_unread x y label (logical_blocks x) (kept.told t).stands (tears t)
+    stands_now t = format_unread x y label (logical_blocks x) (kept.told t).stands (torn_gates x y (tears t))
 
     pub opened_blocks : IsTrue old.tells → logical_blocks new.content ≡ logical_blocks x
     opened_blocks t = ap logical_blocks (content t) ∙ (stands_now t).has_blocks
@@ -161,7 +169,7 @@ module _ (old : Device) (blocks : ℕ) (superblock : List ℕ) (room : List Stag
             admits = λ c left. inl (subst (λ (z : List ℕ). StandsFor z label (logical_blocks new.content)) (sym (only t c left))
                 (subst (λ (l : List (List ℕ)). StandsFor y label l) (sym (opened_blocks t)) (stands_now t)));
             holds = λ runs. subst (λ (z : List ℕ). AreOpen (left_of f) z) (sym (content t))
-                (format_open x y label (logical_blocks x) was.stands (tears t) (left_of f) (was.holds refl));
+                (format_open x y label (logical_blocks x) was.stands (torn_gates x y (tears t)) (left_of f) (was.holds refl));
             same = λ runs c left. same_but_equal (Touched f Idle) new.content c (only t c left ∙ sym (content t));
           } in
           subst (λ (l : List ℕ). IsTold new blocks l Idle false f) (sym after_label) told;
@@ -220,21 +228,21 @@ module _ {D : Type 0} (device : D → Device) (before later : D) (blocks : ℕ) 
   Asked call result d e = IsAsked call result (device d) (device e)
 
   abbrev gate : Call
-  gate = Call.Write 148 (2 ∷ [])
+  gate = Call.Write 149 (3 ∷ [])
 
   -- the torn images of the write, also after a sync that failed
-  torn_after : (mid : D) → TearsAt 148 1 (device before) (device mid) → LeavesNoMore (device mid) (device later) → (c : List ℕ)
-      → (device later).may_leave c → IsTornImage 148 1 (device before) c
+  torn_after : (mid : D) → TearsAt 149 1 (device before) (device mid) → LeavesNoMore (device mid) (device later) → (c : List ℕ)
+      → (device later).may_leave c → IsTornImage 149 1 (device before) c
   torn_after mid tears no_more c left = tears c (no_more c left)
 
   since_after : (mid : D) (t : ℕ) (c : List ℕ) → (device before).clock ≤ (device mid).clock → t ≤ (device before).clock
-      → LeftTornAt 148 1 (device before) (device mid) → LeftNoMore (device mid) (device later) → (device later).left_since t c
-      → (device before).left_since t c ⊎ IsTornImage 148 1 (device before) c
+      → LeftTornAt 149 1 (device before) (device mid) → LeftNoMore (device mid) (device later) → (device later).left_since t c
+      → (device before).left_since t c ⊎ IsTornImage 149 1 (device before) c
   since_after mid t c clock low tears no_more left = tears t c low (no_more t c (omega (arith, clock, low)) left)
 
-  module _ (law : IsTrue (device later).tells → (device later).may_leave (device later).content) (first : format_in superblock ≡ 1) where
+  module _ (law : IsTrue (device later).tells → (device later).may_leave (device later).content) (older : format_in superblock ≤ 2) where
     -- both calls were good
-    idle_ok : (mid : D) (after : List ℕ) → length after ≡ 4096 → part 20 128 after ≡ part 20 128 superblock → format_in after ≡ 2
+    idle_ok : (mid : D) (after : List ℕ) → length after ≡ 4096 → part 20 128 after ≡ part 20 128 superblock → format_in after ≡ 3
         → (x y : Unit {0}) → Kept Idle false → Asked gate (Ok x) before mid → Asked Call.Sync (Ok y) mid later
         → IsKept (device later) blocks after Idle false room filled is_last × Upgrades device (view before superblock Idle false)
         (view later after Idle false) (Ok tt)
@@ -247,16 +255,16 @@ module _ {D : Type 0} (device : D → Device) (before later : D) (blocks : ℕ) 
           tells = synced.time.tells ∙ wrote.time.tells;
           later = omega (arith, wrote.time.later, synced.time.later);
         } in
-        let content : IsTrue (device before).tells → (device later).content ≡ overwritten 148 (2 ∷ []) (device before).content =
+        let content : IsTrue (device before).tells → (device later).content ≡ overwritten 149 (3 ∷ []) (device before).content =
         λ t. synced.does.content (mid_tells t) ∙ wrote.does.content t in
-        let only : IsTrue (device before).tells → LeavesOnly (device later) (overwritten 148 (2 ∷ []) (device before).content) =
+        let only : IsTrue (device before).tells → LeavesOnly (device later) (overwritten 149 (3 ∷ []) (device before).content) =
         λ t c left. synced.does.durable (mid_tells t) c left ∙ wrote.does.content t in
-        let now = opened_kept (device before) blocks superblock room filled is_last kept first
+        let now = opened_kept (device before) blocks superblock room filled is_last kept older
         (device later) time after content only size label format in (
           now,
           record {
             same = same_but superblock after Idle false false label;
-            blocks = opened_blocks (device before) blocks superblock room filled is_last kept first
+            blocks = opened_blocks (device before) blocks superblock room filled is_last kept older
                 (device later) time after content only size label format;
             format = format;
             running = refl;
@@ -271,28 +279,28 @@ module _ {D : Type 0} (device : D → Device) (before later : D) (blocks : ℕ) 
             now = λ t c left. ((now.told t).admits c left, now.formats t c left);
             since = λ t time' c low left.
                 ⊎_elim (λ earlier. inl earlier)
-                (λ from. inr (still_admitted (device before) blocks superblock room filled is_last kept first t c from))
+                (λ from. inr (still_admitted (device before) blocks superblock room filled is_last kept older t c from))
                 (since_after mid time' c wrote.time.later low (wrote.does.since t) (synced.does.since (mid_tells t)) left);
           },
         )
 
     -- the write failed, or the sync after it: the images are torn ones
     cut_off : (e : JournalError) → Elapses (device before) (device later) → Kept Idle false
-        → (IsTrue (device before).tells → (c : List ℕ) → (device later).may_leave c → IsTornImage 148 1 (device before) c)
+        → (IsTrue (device before).tells → (c : List ℕ) → (device later).may_leave c → IsTornImage 149 1 (device before) c)
         → (IsTrue (device before).tells → (t : ℕ) (c : List ℕ) → t ≤ (device before).clock → (device later).left_since t c
-        → (device before).left_since t c ⊎ IsTornImage 148 1 (device before) c)
+        → (device before).left_since t c ⊎ IsTornImage 149 1 (device before) c)
         → (e ≡ Fault) ⊎ (e ≡ Memory) → (e ≡ Fault → (device later).failures ≢ (device before).failures)
         → (e ≡ Memory → (device later).failures ≡ (device before).failures)
         → IsKept (device later) blocks superblock Idle true room filled is_last × Upgrades device (view before superblock Idle false)
         (view later superblock Idle true) (Err e)
     cut_off e time kept torn since which fault memory =
-        let now = cut_kept (device before) blocks superblock room filled is_last kept first (device later) time law torn in
+        let now = cut_kept (device before) blocks superblock room filled is_last kept older (device later) time law torn in
         let later_tells : IsTrue (device before).tells → IsTrue (device later).tells =
         λ t. subst (λ (b : Bool). IsTrue b) (sym time.tells) t in (
           now,
           record {
             same = same_but superblock superblock Idle false true refl;
-            blocks = λ t. cut_blocks (device before) blocks superblock room filled is_last kept first (device later) time law torn
+            blocks = λ t. cut_blocks (device before) blocks superblock room filled is_last kept older (device later) time law torn
                 (later_tells t);
             format = tt;
             running = tt;
@@ -306,7 +314,7 @@ module _ {D : Type 0} (device : D → Device) (before later : D) (blocks : ℕ) 
             memory = memory;
             now = λ t c left. ((now.told t).admits c left, now.formats t c left);
             since = λ t time' c low left. ⊎_elim (λ earlier. inl earlier)
-                (λ from. inr (still_admitted (device before) blocks superblock room filled is_last kept first t c from))
+                (λ from. inr (still_admitted (device before) blocks superblock room filled is_last kept older t c from))
                 (since t time' c low left);
           },
         )
@@ -385,7 +393,7 @@ module _ {D : Type 0} (device : D → Device) (before later : D) (blocks : ℕ) 
           let now : Kept Idle false = subst (λ (b : Bool). Kept Idle b) running (subst (λ (n : Next). Kept n h) is kept) in
           subst (λ (n : Next). P n h) (sym is) (subst (λ (b : Bool). P Idle b) (sym running) (p now))
 
-      pub when_ok : (mid : D) (after : List ℕ) → length after ≡ 4096 → part 20 128 after ≡ part 20 128 superblock → format_in after ≡ 2
+      pub when_ok : (mid : D) (after : List ℕ) → length after ≡ 4096 → part 20 128 after ≡ part 20 128 superblock → format_in after ≡ 3
           → (x y : Unit {0}) → Asked gate (Ok x) before mid → Asked Call.Sync (Ok y) mid later
           → IsKept (device later) blocks after next h room filled is_last
           × Upgrades device (view before superblock next h) (view later after next h) (Ok tt)

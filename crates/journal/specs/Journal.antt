@@ -17,7 +17,7 @@ use Rattle.journal.specs.declared.Next.TheVariants.{Descriptor, Idle}
 pub record JournalView (D : Type 0) : Type 0 where
   pub disk : D
   pub label : List ℕ
-  -- 1 or 2
+  -- 1 to 3
   pub format : ℕ
   -- the number of logical blocks, and the number of segments
   pub size : ℕ

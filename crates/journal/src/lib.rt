@@ -15,7 +15,7 @@ use journal_segments::{Segment, SegmentError, lay_over};
 use std::marker::Model;
 pub use stepping::each_call_is_the_next;
 use thiserror::Error;
-use volume_format::layout::{FORMAT_AT, LABEL_AT, home_block, start_of};
+use volume_format::layout::{FORMAT_2_AT, LABEL_AT, home_block, start_of};
 use volume_format::read_format;
 pub use volume_format::{FormatError, format, format_with};
 
@@ -146,13 +146,14 @@ impl<D: Disk> Journal<D> {
         ensures label { result.now ≡ self.now.label }
         ensures size { length result.now ≡ 128 }
     {
-        &self.superblock[LABEL_AT..FORMAT_AT]
+        &self.superblock[LABEL_AT..FORMAT_2_AT]
     }
 
-    /// The format of the volume, 1 or 2.
+    /// The format of the volume, 1 to 3.
     pub fn format_number(&self) -> u32
         ensures format { result ≡ self.now.format }
-        ensures some { (result ≡ 1) ⊎ (result ≡ 2) }
+        ensures some { 1 ≤ result }
+        ensures few { result ≤ 3 }
     {
         read_format(&self.superblock)
     }

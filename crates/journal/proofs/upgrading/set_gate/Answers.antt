@@ -7,11 +7,11 @@ use Rattle.journal.proofs.upgrading.set_gate.Goals as goal
 
 pub returns-clause-size : goal.returns-clause-size
 returns-clause-size c = ap (λ (l : List ℕ). Rattle.std.proofs.Common.length l) c.put_octets.ensures
-    ∙ length-overwritten 148 (2 ∷ []) c.args.superblock.now (omega (arith, c.requires)) ∙ c.requires
+    ∙ length-overwritten 149 (3 ∷ []) c.args.superblock.now (omega (arith, c.requires)) ∙ c.requires
 
 pub returns-clause-label : goal.returns-clause-label
 returns-clause-label c = ap (part 20 128) c.put_octets.ensures
-    ∙ part-overwritten_apart 148 (2 ∷ []) c.args.superblock.now (omega (arith, c.requires)) 20 128 (inl (omega arith))
+    ∙ part-overwritten_apart 149 (3 ∷ []) c.args.superblock.now (omega (arith, c.requires)) 20 128 (inl (omega arith))
 
 pub returns-clause-format : goal.returns-clause-format
 returns-clause-format c = ap format_in c.put_octets.ensures ∙ gate_opens_in c.args.superblock.now (omega (arith, c.requires))
