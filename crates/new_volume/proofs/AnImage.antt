@@ -87,11 +87,7 @@ module _ (x label first : List ℕ) (blocks : List (List ℕ)) (stands : StandsF
       (ap (λ (ss : List ℕ). all_laid_over (home written) (rising (map (λ s. batch_in s x) ss))) none ∙ home_after)
       (stands_over x written label blocks stands (head_same x written zeroth others.size) gates inside)
 
--- ---- a volume whose blocks are zeros but the first
-
--- of format 2
-abbrev gate_of_new : ℕ
-gate_of_new = 2
+-- ---- a volume whose blocks are zeros but the first; the gates are those of format 3
 
 module _ (segments : ℕ) (counts : (segments ≡ 1) ⊎ (segments ≡ 8)) (blocks : ℕ) (label first : List ℕ) (low : 1024 ≤ blocks)
     (high : blocks ≤ most_blocks) (label_whole : length label ≡ 128) (whole : length first ≡ 4096) where
@@ -109,13 +105,13 @@ module _ (segments : ℕ) (counts : (segments ≡ 1) ⊎ (segments ≡ 8)) (bloc
       (part_zero k bare (All-replicate IsZero octets 0 refl))
 
   abbrev its_superblock : List ℕ
-  its_superblock = superblock zero_block label segments blocks gate_of_new counts zero_block_size zero_block_zero label_whole low high
+  its_superblock = superblock zero_block label segments blocks 2 3 counts zero_block_size zero_block_zero label_whole low high
 
   its_size : length its_superblock ≡ 4096
-  its_size = length-superblock zero_block label segments blocks gate_of_new counts zero_block_size zero_block_zero label_whole low high
+  its_size = length-superblock zero_block label segments blocks 2 3 counts zero_block_size zero_block_zero label_whole low high
 
   its_segments : number_at 16 4 its_superblock ≡ segments
-  its_segments = segments_are zero_block label segments blocks gate_of_new counts zero_block_size zero_block_zero label_whole low high
+  its_segments = segments_are zero_block label segments blocks 2 3 counts zero_block_size zero_block_zero label_whole low high
 
   abbrev zeroed_volume : List ℕ
   zeroed_volume = overwritten 0 its_superblock bare
@@ -123,9 +119,9 @@ module _ (segments : ℕ) (counts : (segments ≡ 1) ⊎ (segments ≡ 8)) (bloc
   zeroed_stands : StandsFor zeroed_volume label (zeroed blocks)
   zeroed_stands =
       stands_formatted segments blocks zero_block its_superblock bare zeroed_volume label bare_size zero_block_size zero_block_zero its_size
-      (superblock_valid zero_block label segments blocks gate_of_new counts zero_block_size zero_block_zero label_whole low high)
-      (blocks_are zero_block label segments blocks gate_of_new counts zero_block_size zero_block_zero label_whole low high) its_segments
-      (label_is zero_block label segments blocks gate_of_new counts zero_block_size zero_block_zero label_whole low high) bare_block refl
+      (superblock_valid zero_block label segments blocks 2 3 counts zero_block_size zero_block_zero label_whole low high)
+      (blocks_are zero_block label segments blocks 2 3 counts zero_block_size zero_block_zero label_whole low high) its_segments
+      (label_is zero_block label segments blocks 2 3 counts zero_block_size zero_block_zero label_whole low high) bare_block refl
 
   none_open : open_segments zeroed_volume ≡ []
   none_open = none_formatted segments blocks zero_block its_superblock bare zeroed_volume bare_size zero_block_size zero_block_zero its_size

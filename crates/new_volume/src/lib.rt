@@ -30,6 +30,9 @@ pub const FORMAT_1: u32 = 1;
 /// The format in which a file has at most 4,294,963,200 octets.
 pub const FORMAT_2: u32 = 2;
 
+/// The format in which files may stand in a pack, too.
+pub const FORMAT_3: u32 = 3;
+
 /// The most blocks of a small volume. The programs that know format 1 alone take no larger one, and a device in memory
 /// has room for none.
 pub const SMALL_BLOCKS: u64 = 65_536;
@@ -43,12 +46,12 @@ pub struct VolumePlan<'a> {
     pub host: &'a [u8],
     pub blocks: u64,
     pub inodes: u64,
-    /// 1 or 2.
+    /// 1 to 3.
     pub format: u32,
     ghost named: { IsTrue (is_host host.now) },
     ghost short: { length host.now ≤ 64 },
     ghost sized: { IsTrue (are_sizes blocks inodes) },
-    ghost known: { (1 ≤ format) × (format ≤ 2) },
+    ghost known: { (1 ≤ format) × (format ≤ 3) },
 }
 
 /// Whether a volume may have this many blocks and inodes.

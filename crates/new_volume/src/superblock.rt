@@ -1,15 +1,13 @@
 //! The superblock of a new volume.
 
-ghost use Rattle.std.specs.Prelude.{◌≡◌, ◌≤◌, ◌==◌, IfOk, if◌then◌else◌, length};
+ghost use Rattle.std.specs.Prelude.{◌≡◌, ◌≤◌, IfOk, length};
 ghost use Rattle.std.specs.List.{All};
 ghost use Rattle.new_volume.specs.Formatting.{IsSuperblockOf};
 
-use crate::FORMAT_2;
 use octet_numbers::{put32, zeros};
 use std::alloc::{AllocError, Global};
-use volume_format::layout::{
-    BLOCK, FORMAT_AT, IS_FORMAT_1, IS_FORMAT_2, LABEL_AT, MAGIC, SEGMENTS, VERSION, put_octets,
-};
+use volume_format::layout::{BLOCK, FORMAT_2_AT, LABEL_AT, MAGIC, SEGMENTS, VERSION, put_octets};
+use volume_format::{gate_2_of, gate_3_of};
 
 /// The superblock of a volume of this format with this many blocks. Refused only for want of memory.
 pub(crate) fn superblock(
@@ -21,7 +19,7 @@ pub(crate) fn superblock(
     requires low { 1024 ≤ blocks }
     requires high { blocks ≤ 4194304 }
     requires label { length label.now ≡ 128 }
-    requires known { (1 ≤ format) × (format ≤ 2) }
+    requires known { (1 ≤ format) × (format ≤ 3) }
     ensures { IfOk result (λ superblock. IsSuperblockOf blocks label.now format superblock.items) }
 {
     let mut octets = zeros(alloc, BLOCK)?;
@@ -34,7 +32,7 @@ fn describe(octets: &mut [u8], blocks: u32, label: &[u8], format: u32)
     requires low { 1024 ≤ blocks }
     requires high { blocks ≤ 4194304 }
     requires label { length label.now ≡ 128 }
-    requires known { (1 ≤ format) × (format ≤ 2) }
+    requires known { (1 ≤ format) × (format ≤ 3) }
     requires whole { length octets.old ≡ 4096 }
     requires zero { All (λ octet. octet ≡ 0) octets.old }
     ensures { IsSuperblockOf blocks label.now format octets.new }
@@ -44,16 +42,5 @@ fn describe(octets: &mut [u8], blocks: u32, label: &[u8], format: u32)
     put32(octets, 12, blocks);
     put32(octets, 16, SEGMENTS);
     put_octets(octets, LABEL_AT, label);
-    put_octets(octets, FORMAT_AT, &[gate_of(format)]);
-}
-
-// The octet at the gate of a new volume of this format.
-fn gate_of(format: u32) -> u8
-    ensures { result ≡ (if format == 2 then 2 else 0) }
-{
-    if format == FORMAT_2 {
-        IS_FORMAT_2
-    } else {
-        IS_FORMAT_1
-    }
+    put_octets(octets, FORMAT_2_AT, &[gate_2_of(format), gate_3_of(format)]);
 }
