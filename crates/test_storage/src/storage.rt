@@ -27,7 +27,7 @@ const BLOCKS: u64 = 1024;
 const BLOCK: usize = 4096;
 
 /// The format of a volume.
-const FORMAT: u32 = 2;
+const FORMAT: u32 = 3;
 
 /// What there is.
 #[derive(Drop)]

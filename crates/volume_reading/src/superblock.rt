@@ -9,8 +9,8 @@ use names::{HOST_LIMIT, is_host};
 use octet_numbers::number32;
 use std::alloc::Global;
 use volume_format::layout::{
-    BLOCK, FEWEST_BLOCKS, FORMAT_AT, LABEL_AT, MAGIC, MOST_BLOCKS, ONE_SEGMENT, SEGMENTS, VERSION,
-    home_block,
+    BLOCK, FEWEST_BLOCKS, FORMAT_2_AT, FORMAT_3_AT, LABEL_AT, MAGIC, MOST_BLOCKS, ONE_SEGMENT,
+    SEGMENTS, VERSION, home_block,
 };
 use volume_format::read_format;
 
@@ -21,7 +21,7 @@ const HOST_AT: usize = LABEL_AT + 5;
 
 const INODES_IN_A_BLOCK: u64 = 64;
 
-/// What a superblock says: the numbers of logical blocks, segments and inodes, and the format, which is 1 or 2.
+/// What a superblock says: the numbers of logical blocks, segments and inodes, and the format, which is 1 to 3.
 #[derive(Clone, Copy)]
 pub struct ReadSizes {
     pub blocks: u32,
@@ -84,10 +84,10 @@ fn look_at_label(alloc: Global, superblock: &Block, sizes: ReadSizes) -> Result<
     look_at_rest(alloc, superblock, host_end)
 }
 
-/// Checks the octets after the host, which must be zero, except that the gate of the format may be any octet.
+/// Checks the octets after the host, which must be zero, except that the gates of formats 2 and 3 may be any octets.
 fn look_at_rest(alloc: Global, superblock: &Block, from: usize) -> Result<(), ReadStop> {
     for at in from..BLOCK {
-        wrong_unless!(alloc; at == FORMAT_AT || superblock[at] == 0, "octet {at} of the superblock isn't zero");
+        wrong_unless!(alloc; at == FORMAT_2_AT || at == FORMAT_3_AT || superblock[at] == 0, "octet {at} of the superblock isn't zero");
     }
     Ok(())
 }
