@@ -16,9 +16,9 @@ SEGMENT_BLOCKS = 514
 RECORD = 64
 # in an inode
 SIZE_AT, POINTERS_AT, INDIRECT_AT, DOUBLE_AT, SPARE_AT = 4, 12, 52, 56, 60
-# the gate of the format in the superblock, and the first of the zeros after it
-FORMAT_AT, REST_AT = 148, 149
-# the largest files of the two formats
+# the two gates of the formats in the superblock, and the first of the zeros after them
+GATES_AT, REST_AT = 148, 150
+# the largest files of format 1 and of the later ones
 MOST_OCTETS_1, MOST_OCTETS_2 = 4235264, 4294963200
 # in a descriptor
 COUNT_AT, ZEROS_AT, NUMBERS_AT = 16, 20, 24
@@ -168,7 +168,7 @@ def what_is_no_volume_is_told(volume):
         (25, b"\x1b", r"the label's host '\x1bews.example' is no name of a server"),
         (37, b"\1", "octet 37 of the superblock isn't zero"),
         (147, b"\1", "octet 147 of the superblock isn't zero"),
-        (REST_AT, b"\1", "octet 149 of the superblock isn't zero"),
+        (REST_AT, b"\1", "octet 150 of the superblock isn't zero"),
         (4095, b"\xff", "octet 4095 of the superblock isn't zero"),
     ]
     assert_rows(small, image, NOT_A_VOLUME, [([(at, changed)], said) for at, changed, said in rows])
@@ -247,8 +247,8 @@ def damaged_inodes_are_told(volume):
         (slot(EXPIRY), b"\x40", "the slot of inode 5 has a name of 64 octets, where names have 1 to 63"),
         (slot(EXPIRY) + 13, b"\1", "octet 13 of the slot of inode 5, after the name, isn't zero"),
         (slot(EXPIRY) + 63, b"\1", "octet 63 of the slot of inode 5, after the name, isn't zero"),
-        (inode(ARTICLE) + SIZE_AT, u64(MOST_OCTETS_2 + 1), too_large("a.0000000002", MOST_OCTETS_2 + 1, 2)),
-        (inode(ARTICLE) + SIZE_AT, u64(10**18), too_large("a.0000000002", 10**18, 2)),
+        (inode(ARTICLE) + SIZE_AT, u64(MOST_OCTETS_2 + 1), too_large("a.0000000002", MOST_OCTETS_2 + 1, 3)),
+        (inode(ARTICLE) + SIZE_AT, u64(10**18), too_large("a.0000000002", 10**18, 3)),
         (inode(ARTICLE) + SPARE_AT, b"\1", "octet 60 of the inode of file a.0000000002 isn't zero"),
         (inode(ARTICLE) + SPARE_AT + 3, b"\1", "octet 63 of the inode of file a.0000000002 isn't zero"),
         (inode(ARTICLE) + SIZE_AT, u64(MOST_OCTETS_1 + 1), "file a.0000000002 of 4,235,265 octets has no double-indirect block"),
@@ -265,9 +265,9 @@ def damaged_inodes_are_told(volume):
     # octets of a name that a terminal wouldn't show
     odd = [(slot(ARTICLE) + 1, b"\x1b.\xff"), (inode(ARTICLE) + SPARE_AT, b"\1")]
     told = [(odd, r"octet 60 of the inode of file \x1b.\xff000000002 isn't zero")]
-    # whatever is at the gate of format 1, a refusal leaves it there
-    for gate in (b"\0", b"\1", b"\xff"):
-        large = [(FORMAT_AT, gate), (inode(ARTICLE) + SIZE_AT, u64(MOST_OCTETS_1 + 1))]
+    # whatever is at the gates of format 1, a refusal leaves it there
+    for gates in (b"\0\0", b"\1\2", b"\xff\xff"):
+        large = [(GATES_AT, gates), (inode(ARTICLE) + SIZE_AT, u64(MOST_OCTETS_1 + 1))]
         told.append((large, too_large("a.0000000002", MOST_OCTETS_1 + 1, 1)))
     assert_rows(small, image, DAMAGED, told + [([(at, changed)], said) for at, changed, said in rows])
 
@@ -313,7 +313,7 @@ def damaged_large_files_are_told(volume):
     none_of_data = "file z points to block %d, which is none of the data"
     rows = [
         ([], "file z has a name of no known form"),
-        ([(FORMAT_AT, b"\0")], too_large("z", 4239360, 1)),
+        ([(GATES_AT, b"\0\0")], too_large("z", 4239360, 1)),
         ([(inode + SIZE_AT, u64(MOST_OCTETS_2))], "file z of 4,294,963,200 octets has no block of pointers 2"),
         ([(inode + SIZE_AT, u64(MOST_OCTETS_1))], "file z of 4,235,264 octets has a double-indirect block"),
         ([(inode + DOUBLE_AT, u32(0))], of_size + "no double-indirect block"),
@@ -408,7 +408,7 @@ def what_is_not_found_is_refused_as_ever(volume):
 def each_command_tells(volume):
     small, image = small_one(volume)
     for changes, said in (
-        ([(REST_AT, b"\1")], "E3 NotAVolume: octet 149 of the superblock isn't zero"),
+        ([(REST_AT, b"\1")], "E3 NotAVolume: octet 150 of the superblock isn't zero"),
         ([image.bit(1000)], "E5 Damaged: the bitmap marks block 1000, which no file owns"),
     ):
         image.write(changes)
@@ -421,7 +421,7 @@ def a_volume_that_another_has_meanwhile_is_refused_as_ever(volume):
     """The look needs the lock that the opening has let go. Whoever waits for it takes it in between, or not."""
     small, image = small_one(volume)
     image.write([(REST_AT, b"\1")])
-    ends = ("newsd: E3 NotAVolume: octet 149 of the superblock isn't zero\n", "newsd: E3 NotAVolume\n")
+    ends = ("newsd: E3 NotAVolume: octet 150 of the superblock isn't zero\n", "newsd: E3 NotAVolume\n")
     with subprocess.Popen([sys.executable, "-c", HOLDING, small.path], preexec_fn=end_with_parent) as holder:
         for _ in range(50):
             said = small.run("dump", small.path).stderr.decode()
@@ -434,7 +434,7 @@ def memory_that_is_refused_leaves_the_refusal(volume):
     """Each request for memory is refused in turn: to the opening, or to the look and its words."""
     small, image = small_one(volume)
     image.write([(REST_AT, b"\1")])
-    whole = "newsd: E3 NotAVolume: octet 149 of the superblock isn't zero\n"
+    whole = "newsd: E3 NotAVolume: octet 150 of the superblock isn't zero\n"
     with tempfile.TemporaryDirectory(prefix="newsd-findings-") as folder:
         library = compile_library(folder)
         if library is None:

@@ -1,5 +1,5 @@
 #!/usr/bin/env python3
-"""System tests of the two formats of a volume: a group whose overview has a double-indirect block, and volumes of format 1 that are
+"""System tests of the formats of a volume: a group whose overview has a double-indirect block, and volumes of formats 1 and 2 that are
 opened. formats.py NEWSD [NAME..]"""
 import json
 import os
@@ -18,12 +18,13 @@ from syncs import count_calls, have_failed, trace
 BLOCK = 4096
 SEGMENT_BLOCKS = 514
 RECORD = 64
-# where the gate of the format stands, and what it holds in the two formats
-FORMAT_AT, IS_FORMAT_1, IS_FORMAT_2 = 148, b"\0", b"\2"
+# where the two gates of the formats stand, and what they hold in a new volume of each format
+GATES_AT, REST_AT = 148, 150
+IS_FORMAT_1, IS_FORMAT_2, IS_FORMAT_3 = b"\0\0", b"\2\0", b"\2\3"
 MAGIC = b"XNNTPFS1"
 SYNCS = ("fsync", "fdatasync")
-# other values of the gate, which are format 1 as well
-ODD_GATES = (b"\1", b"\x4d", b"\xff")
+# other values of the gates, and the formats that they are
+ODD_GATES = ((b"\1\0", 1), (b"\x4d\x4d", 1), (b"\xff\xff", 1), (b"\3\2", 1), (b"\2\1", 2), (b"\2\x4d", 2), (b"\2\xff", 2))
 # in an inode
 SIZE_AT, INDIRECT_AT, DOUBLE_AT = 4, 52, 56
 # the octets of the largest file of format 1
@@ -54,14 +55,15 @@ def a_group_goes_on_past_the_largest_file_of_format_1(volume):
         numbers = there
         assert_reads_back(large, numbers)
     # as one of format 1 it has a file that is too large: it is refused, and stays as it is
-    put_gate(large, IS_FORMAT_1)
+    put_gates(large, IS_FORMAT_1)
     before = octets(large.path)
     for word in ("dump", "status"):
         done = large.run(word, large.path)
         assert (done.returncode, done.stdout) == (1, b"") and done.stderr.startswith(b"newsd: E5 Damaged"), (word, done)
     assert octets(large.path) == before
-    put_gate(large, IS_FORMAT_2)
-    assert articles_there(large) == numbers
+    # as one of format 2 it is sound, and is upgraded when it is opened
+    put_gates(large, IS_FORMAT_2)
+    assert articles_there(large) == numbers and gates_of(large) == IS_FORMAT_3
 
 
 def articles_there(volume):
@@ -147,25 +149,27 @@ def batch(texts):
 
 
 def a_new_volume_has_the_format_that_is_asked(volume):
-    """Without a word it is format 2. The files of two new volumes differ in one octet, and once they were opened in none."""
-    default, first, second = (os.path.join(os.path.dirname(volume.path), name) for name in ("default", "first", "second"))
-    for path, words in ((default, []), (first, ["--format", "1"]), (second, ["--format", "2"])):
+    """Without a word it is format 3. The files of new volumes differ in their gates alone, and once they were opened each has format 3."""
+    names = ("default", "first", "second", "third")
+    paths = [os.path.join(os.path.dirname(volume.path), name) for name in names]
+    asked = ((IS_FORMAT_3, []), (IS_FORMAT_1, ["--format", "1"]), (IS_FORMAT_2, ["--format", "2"]), (IS_FORMAT_3, ["--format", "3"]))
+    for path, (_, words) in zip(paths, asked):
         volume.run("format", path, "--host", HOST, "--blocks", "1024", "--inodes", "64", *words).check_returncode()
-    new = octets(first)
-    assert octets(default) == octets(second) == new[:FORMAT_AT] + IS_FORMAT_2 + new[FORMAT_AT + 1:]
-    assert new[FORMAT_AT:FORMAT_AT + 1] == IS_FORMAT_1
-    for path in (default, first, second):
+    whole = octets(paths[0])
+    for path, (gates, _) in zip(paths, asked):
         before = octets(path)
+        assert before == with_gates(whole, gates), path
         done = volume.run("dump", path)
         assert (done.returncode, done.stdout) == (0, b"spool 0\n"), done
         assert octets(path) == before
         volume.run("import", path).check_returncode()
-    assert octets(default) == octets(first) == octets(second)
-    for word in ("0", "3", "12", "two"):
+        assert octets(path) == with_gates(whole, upgraded(gates)), path
+    first, before = paths[1], octets(paths[1])
+    for word in ("0", "4", "12", "two"):
         done = volume.run("format", first, "--host", HOST, "--format", word)
         assert (done.returncode, done.stdout) == (1, b""), (word, done)
         assert done.stderr.decode().startswith("newsd: E14 Bad: --format '%s' is " % word), (word, done)
-    assert octets(first) == octets(second)
+    assert octets(first) == before
 
 
 def a_format_that_is_cut_short_leaves_no_other_volume(volume):
@@ -196,14 +200,14 @@ def a_format_that_is_cut_short_leaves_no_other_volume(volume):
     assert found == [changes] * stood + ["E3 NotAVolume"] * (len(copies) - stood - 1) + [["spool 0"]], found
 
 
-def a_volume_of_format_1_is_upgraded_when_it_is_opened(volume):
+def a_volume_of_an_earlier_format_is_upgraded_when_it_is_opened(volume):
     """By each command that may write to one, before it does anything else. It has the changes that it had, and takes further ones. The
-    commands that only read it leave it as it is."""
+    commands that only read it leave it as it is. So it is with one whose gate an upgrade before has torn."""
     old = format_1(volume, "old")
-    assert status_format(old) == 1 and gate_of(old) == IS_FORMAT_1
+    assert status_format(old) == 1 and gates_of(old) == IS_FORMAT_1
     # a server has upgraded it before it listens
     with old.serve() as server, server.call() as caller:
-        assert gate_of(old) == IS_FORMAT_2
+        assert gates_of(old) == upgraded(IS_FORMAT_1)
         assert server.order("group %s y 1000000000 test" % GROUP) == "1"
         assert caller.post(article(1)) == "240 Article received"
         assert server.order("stop") == "stopped"
@@ -212,20 +216,20 @@ def a_volume_of_format_1_is_upgraded_when_it_is_opened(volume):
     old.settle()
     assert old.dump() == changes
     whole = octets(old.path)
-    assert whole[FORMAT_AT:FORMAT_AT + 1] == IS_FORMAT_2 and status_format(old) == 2
-    for gate in (IS_FORMAT_1, *ODD_GATES):
-        put_gate(old, gate)
+    assert whole == with_gates(whole, upgraded(IS_FORMAT_1)) and status_format(old) == 3
+    for gates, number in ((IS_FORMAT_1, 1), (IS_FORMAT_2, 2), *ODD_GATES):
+        put_gates(old, gates)
         first = octets(old.path)
         exported = old.export()
-        assert (status_format(old), old.dump(), exported.startswith(b"#! rnews ")) == (1, changes, True), gate
-        assert octets(old.path) == first, gate
+        assert (status_format(old), old.dump(), exported.startswith(b"#! rnews ")) == (number, changes, True), gates
+        assert octets(old.path) == first, gates
         old.settle()
-        assert octets(old.path) == whole and old.export() == exported, gate
+        assert octets(old.path) == with_gates(whole, upgraded(gates)) and old.export() == exported, gates
     for number, words in enumerate((["group", old.path, "x.b", "y", "1000000000", "test"], ["expire", old.path, GROUP, "1"]), 3):
-        put_gate(old, IS_FORMAT_1)
+        put_gates(old, IS_FORMAT_2)
         done = old.run(*words)
         assert (done.returncode, done.stdout.decode()) == (0, "%d\n" % number), done
-        assert gate_of(old) == IS_FORMAT_2, words
+        assert gates_of(old) == IS_FORMAT_3, words
     assert old.dump() == ["spool 4", *changes[1:], "3 group x.b y", "4 expire %s 1" % GROUP]
 
 
@@ -234,25 +238,26 @@ def an_upgrade_is_one_write_and_one_sync(volume):
     again = count_calls([old.program, "import", old.path])
     if again is None:
         raise Skipped("the program can't be traced")
-    put_gate(old, IS_FORMAT_1)
-    upgraded = count_calls([old.program, "import", old.path])
-    assert (upgraded["pwrite64"], upgraded["fdatasync"]) == (again["pwrite64"] + 1, again["fdatasync"] + 1), (again, upgraded)
-    assert count_calls([old.program, "import", old.path]) == again
-    assert gate_of(old) == IS_FORMAT_2 and old.dump() == changes
+    for gates in (IS_FORMAT_1, IS_FORMAT_2):
+        put_gates(old, gates)
+        calls = count_calls([old.program, "import", old.path])
+        assert (calls["pwrite64"], calls["fdatasync"]) == (again["pwrite64"] + 1, again["fdatasync"] + 1), (gates, again, calls)
+        assert count_calls([old.program, "import", old.path]) == again
+        assert gates_of(old) == upgraded(gates) and old.dump() == changes
 
 
 def a_sync_that_fails_refuses_the_opening(volume):
     """The first sync of an opening fails, or that of the upgrade. The next opening does what is left to do."""
     old, changes = one_with_an_article(volume)
-    for failing, gate in ((1, IS_FORMAT_1), (2, IS_FORMAT_2)):
-        put_gate(old, IS_FORMAT_1)
+    for failing, gates in ((1, IS_FORMAT_2), (2, IS_FORMAT_3)):
+        put_gates(old, IS_FORMAT_2)
         status = status_with_failing_sync([old.program, "import", old.path], failing)
         if status is None:
             raise Skipped("the program can't be traced")
         # the file keeps what was written, whatever the program was told of the sync
-        assert (status, gate_of(old)) == (1, gate), failing
+        assert (status, gates_of(old)) == (1, gates), failing
         old.settle()
-        assert old.dump() == changes and gate_of(old) == IS_FORMAT_2
+        assert old.dump() == changes and gates_of(old) == IS_FORMAT_3
 
 
 def status_with_failing_sync(words, failing):
@@ -268,14 +273,14 @@ def status_with_failing_sync(words, failing):
 
 
 def an_opening_that_is_killed_keeps_the_changes(volume):
-    """It is killed at random moments, in one of the two formats each time."""
+    """It is killed at random moments, in the format that it had or in format 3 each time."""
     old, changes = one_with_an_article(volume)
     start = time.monotonic()
     old.settle()
     seconds = time.monotonic() - start
     found = []
     for _ in range(KILLED_OPENINGS):
-        put_gate(old, IS_FORMAT_1)
+        put_gates(old, IS_FORMAT_2)
         words = [old.program, "import", old.path]
         process = subprocess.Popen(words, stdin=subprocess.DEVNULL, stdout=subprocess.DEVNULL, stderr=subprocess.DEVNULL, preexec_fn=end_with_parent)
         try:
@@ -283,21 +288,21 @@ def an_opening_that_is_killed_keeps_the_changes(volume):
         except subprocess.TimeoutExpired:
             process.kill()
         assert process.wait(SECONDS) in (0, -signal.SIGKILL)
-        found.append(gate_of(old)[0])
+        found.append(gates_of(old)[1])
         old.settle()
-        assert old.dump() == changes and gate_of(old) == IS_FORMAT_2
-    assert set(found) <= {0, 2}, found
+        assert old.dump() == changes and gates_of(old) == IS_FORMAT_3
+    assert set(found) <= {0, 3}, found
     print("  the gate after each kill", found, flush=True)
 
 
 def what_is_refused_keeps_its_format(volume):
     """A volume that is no spool, or is in use, is not upgraded."""
     old, changes = one_with_an_article(volume)
-    put_gate(old, IS_FORMAT_1)
+    put_gates(old, IS_FORMAT_1)
     whole = octets(old.path)
     _, segments = struct.unpack_from("<II", whole, 12)
     home = (1 + SEGMENT_BLOCKS * segments) * BLOCK
-    for place, refusal in ((0, "E3 NotAVolume"), (FORMAT_AT + 1, "E3 NotAVolume"), (20, "E3 NotAVolume"), (home, "E5 Damaged")):
+    for place, refusal in ((0, "E3 NotAVolume"), (REST_AT, "E3 NotAVolume"), (20, "E3 NotAVolume"), (home, "E5 Damaged")):
         damaged = whole[:place] + bytes([whole[place] ^ 0xff]) + whole[place + 1:]
         write(old.path, damaged)
         for words in (["dump", old.path], ["import", old.path], ["serve", old.path, "--port", str(free_port())]):
@@ -308,7 +313,7 @@ def what_is_refused_keeps_its_format(volume):
     write(old.path, whole)
     assert old.dump() == changes and octets(old.path) == whole
     old.settle()
-    assert old.dump() == changes and gate_of(old) == IS_FORMAT_2
+    assert old.dump() == changes and gates_of(old) == upgraded(IS_FORMAT_1)
 
 
 def one_with_an_article(volume):
@@ -335,17 +340,26 @@ def status_format(volume):
     return json.loads(done.stdout)["format"]
 
 
-def gate_of(volume):
-    """The octet that is the gate of its format."""
+def gates_of(volume):
+    """The octets that are the gates of the formats."""
     with open(volume.path, "rb") as file:
-        file.seek(FORMAT_AT)
-        return file.read(1)
+        file.seek(GATES_AT)
+        return file.read(REST_AT - GATES_AT)
 
 
-def put_gate(volume, gate):
+def put_gates(volume, gates):
     with open(volume.path, "r+b") as file:
-        file.seek(FORMAT_AT)
-        file.write(gate)
+        file.seek(GATES_AT)
+        file.write(gates)
+
+
+def upgraded(gates):
+    """What an opening makes of them: the gate of format 3 is open, and the other stays."""
+    return gates[:1] + IS_FORMAT_3[1:]
+
+
+def with_gates(image, gates):
+    return image[:GATES_AT] + gates + image[REST_AT:]
 
 
 def write(path, content):
@@ -357,7 +371,7 @@ TESTS = [
     a_group_goes_on_past_the_largest_file_of_format_1,
     a_new_volume_has_the_format_that_is_asked,
     a_format_that_is_cut_short_leaves_no_other_volume,
-    a_volume_of_format_1_is_upgraded_when_it_is_opened,
+    a_volume_of_an_earlier_format_is_upgraded_when_it_is_opened,
     an_upgrade_is_one_write_and_one_sync,
     a_sync_that_fails_refuses_the_opening,
     an_opening_that_is_killed_keeps_the_changes,

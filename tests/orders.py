@@ -79,7 +79,7 @@ def assert_status(volume):
     listed = listing(volume)
     wanted = {
         "host": HOST,
-        "format": 2,
+        "format": 3,
         "blocks": {"all": used.blocks, "used": used.blocks_used, "free": used.blocks - used.blocks_used},
         "inodes": {"all": used.inodes, "used": used.inodes_used, "free": used.inodes - used.inodes_used},
         "changes": len(changes),
@@ -240,7 +240,7 @@ def an_operator_asks_for_the_status(volume):
     volume.make_group()
     with volume.serve() as server:
         first = asked(server)
-        assert (first["host"], first["format"], first["sessions"], first["accepted"], first["durable"]) == (HOST, 2, 0, 1, 1), first
+        assert (first["host"], first["format"], first["sessions"], first["accepted"], first["durable"]) == (HOST, 3, 0, 1, 1), first
         callers = [server.call() for _ in range(3)]
         for number in range(20):
             assert callers[number % 3].post(article(number)) == "240 Article received"

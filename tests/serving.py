@@ -512,7 +512,7 @@ def the_operator_looks(volume):
     volume.make_group()
     with volume.serve() as server, server.call() as caller:
         said = status_of(server.order("status").split())
-        assert (said["host"], said["format"]) == (HOST, "2"), said
+        assert (said["host"], said["format"]) == (HOST, "3"), said
         assert (said["blocks"][1], said["inodes"]) == ("8192", ("3", "4096")), said
         assert (said["sessions"], said["accepted"], said["durable"], said["batches"]) == ("1", "1", "1", "0"), said
         assert caller.post(article(1)) == "240 Article received"

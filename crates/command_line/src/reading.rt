@@ -12,7 +12,7 @@ use command_table::table::{
 use command_table::{Grammar, command_syntax, session_number};
 use names::{GroupName, GroupRequest, is_host};
 use networks::{Network, read_endpoint};
-use new_volume::{FORMAT_1, FORMAT_2, SMALL_BLOCKS, SMALL_INODES, VolumePlan, are_sizes};
+use new_volume::{FORMAT_1, FORMAT_2, FORMAT_3, SMALL_BLOCKS, SMALL_INODES, VolumePlan, are_sizes};
 use printing::{DONE, Failure, NOT_UNDERSTOOD};
 use script::{ParseError, escaped, number};
 use std::alloc::{AllocError, Global};
@@ -222,7 +222,7 @@ fn read_plan_of_memory<'a>(
     alloc: Global,
     words: &ArgMatches<'a>,
 ) -> Result<VolumePlan<'a>, Failure> {
-    let plan = read_plan(alloc, words, FORMAT_2)?;
+    let plan = read_plan(alloc, words, FORMAT_3)?;
     refuse_large(alloc, words, &plan, "is too many for a volume in memory")?;
     Ok(plan)
 }
@@ -266,11 +266,12 @@ fn refuse_large(
 
 /// The format that the words name.
 fn read_format(words: &ArgMatches<'_>) -> Result<u32, Failure>
-    ensures { IfOk result (λ format. (1 ≤ format) × (format ≤ 2)) }
+    ensures { IfOk result (λ format. (1 ≤ format) × (format ≤ 3)) }
 {
     match word(words, FORMAT)? {
         "1" => Ok(FORMAT_1),
         "2" => Ok(FORMAT_2),
+        "3" => Ok(FORMAT_3),
         _ => Err(Failure::Bad),
     }
 }
@@ -281,7 +282,7 @@ fn read_plan<'a>(
     words: &ArgMatches<'a>,
     format: u32,
 ) -> Result<VolumePlan<'a>, Failure>
-    requires { (1 ≤ format) × (format ≤ 2) }
+    requires { (1 ≤ format) × (format ≤ 3) }
 {
     let host = word(words, HOST)?;
     let blocks = word(words, BLOCKS)?;
@@ -299,7 +300,7 @@ fn read_plan<'a>(
 
 /// The plan of a volume, if these words follow their grammars and the blocks have room for this many inodes.
 fn plan_of<'a>(host: &'a [u8], blocks: &[u8], inodes: &[u8], format: u32) -> Option<VolumePlan<'a>>
-    requires { (1 ≤ format) × (format ≤ 2) }
+    requires { (1 ≤ format) × (format ≤ 3) }
 {
     let blocks = number(blocks)?;
     let inodes = number(inodes)?;

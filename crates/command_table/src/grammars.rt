@@ -56,7 +56,7 @@ impl Grammar {
             // the fewest inodes and the most blocks go with every permitted number of the other
             Grammar::Blocks => number(octets).is_some_and(|n| are_sizes(n, FEWEST_INODES)),
             Grammar::Inodes => number(octets).is_some_and(|n| are_sizes(MOST_BLOCKS, n)),
-            Grammar::Format => word == "1" || word == "2",
+            Grammar::Format => word == "1" || word == "2" || word == "3",
             Grammar::Group => is_group_name(octets),
             Grammar::Status => status(octets).is_some(),
             Grammar::Moment => moment(octets).is_some(),
@@ -78,7 +78,7 @@ impl Grammar {
             Grammar::Host => "is no name of a server",
             Grammar::Blocks => "is no number from 1024 to 4194304",
             Grammar::Inodes => "is no multiple of 64 from 64 to 4194304",
-            Grammar::Format => "is neither 1 nor 2",
+            Grammar::Format => "is not 1, 2 or 3",
             Grammar::Group => "is no name of a group",
             Grammar::Status => "is neither y nor n",
             Grammar::Moment => "is no number of seconds before the year 10000",

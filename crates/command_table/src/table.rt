@@ -158,8 +158,8 @@ const INODES_OF_RENEWED: Word = Word {
 const FORMAT_OF_FILE: Word = Word {
     id: FORMAT,
     value: "F",
-    help: "The format of the volume, 1 or 2",
-    kind: Kind::Default("2"),
+    help: "The format of the volume, 1 to 3",
+    kind: Kind::Default("3"),
     grammar: Grammar::Format,
 };
 

@@ -1,6 +1,6 @@
 //! Opens the kernel, or the spool alone, in the logical blocks of a journal.
 
-ghost use Rattle.std.specs.Prelude.{◌≡◌, ◌≢◌, ◌⊎◌, [], false, IfErr, IfOk, IsTrue, MatchResult, OnOk, min};
+ghost use Rattle.std.specs.Prelude.{◌≡◌, ◌≢◌, ◌⊎◌, ◌≤◌, [], false, IfErr, IfOk, IsTrue, MatchResult, OnOk, min};
 ghost use Rattle.journal.specs.Journal.{IsIdle, IsReady};
 ghost use Rattle.model.specs.Files.{HasRoom};
 ghost use Rattle.model.specs.Layout.{HoldsIn};
@@ -39,9 +39,9 @@ pub enum OpenError {
 
 impl Kernel {
     /// Opens the kernel in the logical blocks: all its changes are durable, and there is no session. It may have so many, and
-    /// `MOST_SESSIONS` at most. The journal must be idle and not halted, as after its opening. A volume of format 1 is checked as
-    /// one, and then made one of format 2. Apart from that and from reads of the device the journal stays as it was. Only `Fault`
-    /// halts it, and `Memory` if the upgrade's sync was refused.
+    /// `MOST_SESSIONS` at most. The journal must be idle and not halted, as after its opening. A volume of format 1 or 2 is
+    /// checked as one, and then made one of format 3. Apart from that and from reads of the device the journal stays as it
+    /// was. Only `Fault` halts it, and `Memory` if the upgrade's sync was refused.
     ///
     /// `NotAVolume` (E3) if the label is not valid, `Fault` (E1) if the device fails, `Damaged` (E5) if the blocks hold
     /// no lawful spool of the label's host in the files of the volume's format, and `Memory` (E2) if an
@@ -55,7 +55,7 @@ impl Kernel {
         requires running { journal.old.halted ≡ false }
         ensures ok { IfOk result (IsOpened D.device journal.old) }
         ensures most { IfOk result (λ kernel. kernel.most ≡ min most 4096) }
-        ensures format { OnOk result (journal.new.format ≡ 2) }
+        ensures format { OnOk result (journal.new.format ≡ 3) }
         ensures reads { ReadsAndUpgrades D.device journal.old journal.new }
         ensures cost { OnOk result (CostsUpgrade journal.old.format (D.device journal.old.disk) (D.device journal.new.disk)) }
         ensures judged { IfErr result (λ error. (error ≡ OpenError.NotAVolume) ⊎ (error ≡ OpenError.Damaged)
@@ -79,7 +79,7 @@ pub fn open_spool<D: Disk>(alloc: Global, journal: &mut Journal<D>) -> Result<Sp
     requires ready { IsReady journal.old }
     ensures ok { IfOk result (IsLoaded D.device journal.old) }
     ensures ready { OnOk result (IsReady journal.new) }
-    ensures format { OnOk result (journal.new.format ≡ 2) }
+    ensures format { OnOk result (journal.new.format ≡ 3) }
     ensures reads { ReadsAndUpgrades D.device journal.old journal.new }
     ensures cost { OnOk result (CostsUpgrade journal.old.format (D.device journal.old.disk) (D.device journal.new.disk)) }
     ensures judged { IfErr result (λ error. (error ≡ OpenError.NotAVolume) ⊎ (error ≡ OpenError.Damaged)
@@ -94,7 +94,7 @@ pub fn open_spool<D: Disk>(alloc: Global, journal: &mut Journal<D>) -> Result<Sp
 {
     let spool = read(alloc, journal)?;
     let format = journal.format_number();
-    if format == 1 {
+    if format != 3 {
         upgrade(journal)?;
     }
     Ok(spool)
@@ -136,13 +136,13 @@ fn read<D: Disk>(alloc: Global, journal: &mut Journal<D>) -> Result<Spool, OpenE
     }
 }
 
-/// Makes the volume of a journal one of format 2. It is one of format 1, and no batch is in flight. `Fault` (E1) if the
-/// device failed, and `Memory` (E2) if it refused a call for want of memory. A crash at any moment leaves the label and
-/// the logical blocks, in one of the two formats.
+/// Makes the volume of a journal one of format 3. It is one of format 1 or 2, and no batch is in flight. `Fault` (E1) if
+/// the device failed, and `Memory` (E2) if it refused a call for want of memory. A crash at any moment leaves the label and
+/// the logical blocks, in the format that was or in format 3.
 fn upgrade<D: Disk>(journal: &mut Journal<D>) -> Result<(), OpenError>
     requires ready { IsReady journal.old }
-    requires first { journal.old.format ≡ 1 }
-    ensures format { OnOk result (journal.new.format ≡ 2) }
+    requires older { journal.old.format ≤ 2 }
+    ensures format { OnOk result (journal.new.format ≡ 3) }
     ensures reads { ReadsAndUpgrades D.device journal.old journal.new }
     ensures cost { OnOk result (CostsUpgrade 1 (D.device journal.old.disk) (D.device journal.new.disk)) }
     ensures still { OnOk result (IsStill D.device journal.old journal.new) }

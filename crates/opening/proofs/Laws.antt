@@ -100,12 +100,12 @@ costs_both content format first one two is opens upgrades = record {
 
 -- ---- what stood there
 
-of_second : (S : Spool) (format : ℕ) → format ≡ 2 → AreOfFormat format (files_of S)
-of_second S format is first = absurd (omega (arith, is, first))
+of_third : (S : Spool) (format : ℕ) → format ≡ 3 → AreOfFormat format (files_of S)
+of_third S format is first = absurd (omega (arith, is, first))
 
 -- the kernel stands in the blocks of the journal that the opening left
 pub still_opened : {D : Type 0} (device : D → Device) (one two : JournalView D) (kernel : KernelView) → IsOpened device one kernel
-    → ReadsAndUpgrades device one two → two.format ≡ 2 → IsOpened device two kernel
+    → ReadsAndUpgrades device one two → two.format ≡ 3 → IsOpened device two kernel
 still_opened device one two kernel k r format = record {
   fresh = k.fresh;
   labelled = subst (λ (t : Octets × ℕ). IsLabel t.0 t.1 kernel.inodes kernel.host)
@@ -114,7 +114,8 @@ still_opened device one two kernel k r format = record {
   blocks = λ tells. let one_tells : IsTrue (device one.disk).tells = subst IsTrue r.time.tells tells in
       k.blocks one_tells ∙ sym (r.blocks one_tells);
   holds = k.holds;
-  of_format = of_second kernel.spool two.format format;
+  no_pack = λ few. absurd (omega (arith, format, few));
+  of_format = of_third kernel.spool two.format format;
 }
 
 pub stands_opened : {D : Type 0} (device : D → Device) (first : D) (one : JournalView D) (kernel : KernelView) → Opens device first one
@@ -129,6 +130,7 @@ stands_opened device first one kernel o k tells =
       labelled = subst (λ n. IsLabel one.label n kernel.inodes kernel.host) (sym k.size) k.labelled;
       held = record {
         held = k.holds;
+        no_pack = λ few. k.no_pack (omega (arith, o.format tells, few));
         of_format = subst (λ (f : ℕ). AreOfFormat f (files_of kernel.spool)) (sym (o.format tells)) k.of_format;
       };
     }

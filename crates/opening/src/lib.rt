@@ -34,8 +34,8 @@ pub struct Refused<D> {
 /// Opens the journal and the kernel on a device: all its changes are durable, and there is no session. So many may
 /// exist at a time, and 4,096 at most. The first good sync comes before every write. A crash before that sync leaves what
 /// a crash at the start might have left. A crash after it leaves the volume that a read gives, with its label and its
-/// logical blocks, whatever they contain. A volume of format 1 is checked as one and then made one of format 2, and a
-/// crash during that leaves it in one of the two.
+/// logical blocks, whatever they contain. A volume of format 1 or 2 is checked as one and then made one of format 3, and a
+/// crash during that leaves it in the format that was or in format 3.
 ///
 /// A refusal keeps to this too, so it overwrites no disk, and it returns the device. `Fault` (E1) if the device failed.
 /// `Memory` (E2) if it did not, and an allocation was refused; then a read gives what it gave before, or the same
@@ -44,7 +44,7 @@ pub struct Refused<D> {
 pub fn open<D: Disk>(alloc: Global, disk: D, most: usize) -> Result<Opened<D>, Refused<D>>
     ensures opened { IfOk result (λ o. IsOpened D.device o.journal o.kernel) }
     ensures most { IfOk result (λ o. o.kernel.most ≡ min most 4096) }
-    ensures format { IfOk result (λ o. o.journal.format ≡ 2) }
+    ensures format { IfOk result (λ o. o.journal.format ≡ 3) }
     ensures idle { IfOk result (λ o. IsReady o.journal) }
     ensures spool { IsTrue (D.device disk).tells → IfOk result (λ o. Stands o.kernel.host (D.device disk).content o.kernel.spool) }
     ensures still { IfOk result (λ o. (D.device o.journal.disk).failures ≡ (D.device disk).failures) }

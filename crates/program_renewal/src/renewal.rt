@@ -11,7 +11,7 @@ use counting::Explains;
 use filedisk::{FileDisk, FileError};
 use lookups::LookUps;
 use names::is_host;
-use new_volume::{FORMAT_2, VolumePlan, are_sizes, device_octets, format};
+use new_volume::{FORMAT_3, VolumePlan, are_sizes, device_octets, format};
 use printing::{CommandError, Failure};
 use program_files::{VolumeDisk, VolumeFile, find, refusal_of};
 use renewing::RenewalCounts;
@@ -95,7 +95,7 @@ fn plan_of<'a>(alloc: Global, old: &'a Spool, order: &Order<'_>) -> Result<Volum
     ensures host { IfOk result (λ plan. plan.host.now ≡ old.now.host) }
     ensures blocks { IfOk result (λ plan. plan.blocks ≡ unwrap_or order.now.blocks (length old.now.blocks)) }
     ensures inodes { IfOk result (λ plan. plan.inodes ≡ unwrap_or order.now.inodes old.now.inodes) }
-    ensures format { IfOk result (λ plan. plan.format ≡ 2) }
+    ensures format { IfOk result (λ plan. plan.format ≡ 3) }
 {
     let host = old.host();
     let blocks = order.blocks.unwrap_or(u64::from(old.blocks()));
@@ -113,7 +113,7 @@ fn plan_of<'a>(alloc: Global, old: &'a Spool, order: &Order<'_>) -> Result<Volum
         host,
         blocks,
         inodes,
-        format: FORMAT_2,
+        format: FORMAT_3,
     })
 }
 

@@ -4,7 +4,7 @@ use crate::formatting::{BLOCKS, format_on, found_on};
 use crate::said::{DONE, NO_MEMORY, NOT_ASKED, Said, UNREADABLE};
 use disk::{Disk, DiskCall, Faults};
 use memdisk::MemDisk;
-use new_volume::{FORMAT_1, FORMAT_2, device_octets};
+use new_volume::{FORMAT_1, FORMAT_2, FORMAT_3, device_octets};
 use std::alloc::Global;
 use std::mem::replace;
 
@@ -32,10 +32,10 @@ pub fn new_device(alloc: Global, blocks: u64) -> Option<Device> {
     Some(Device { disk: Some(disk) })
 }
 
-/// A device with an empty volume of format 2; `None` if memory is refused.
+/// A device with an empty volume of format 3; `None` if memory is refused.
 pub fn new_volume(alloc: Global) -> Option<Device> {
     let disk = MemDisk::new(alloc, device_octets(BLOCKS)).ok()?;
-    match format_on(alloc, disk, FORMAT_2) {
+    match format_on(alloc, disk, FORMAT_3) {
         (disk, Said::Word("done")) => Some(Device { disk: Some(disk) }),
         _ => None,
     }
@@ -75,6 +75,7 @@ fn answer_disk(
         ("open", []) => (None, found_on(alloc, disk)),
         ("format", [1]) => with(format_on(alloc, disk, FORMAT_1)),
         ("format", [2]) => with(format_on(alloc, disk, FORMAT_2)),
+        ("format", [3]) => with(format_on(alloc, disk, FORMAT_3)),
         _ => {
             let said = asked(alloc, &mut disk, word, numbers);
             (Some(disk), said)

@@ -6,7 +6,7 @@ use mark::Mark;
 use memdisk::MemDisk;
 use model::{Moment, Status};
 use names::{Description, GroupName, GroupRequest, is_host};
-use new_volume::{FORMAT_1, FORMAT_2, VolumePlan, are_sizes, device_octets};
+use new_volume::{FORMAT_1, FORMAT_3, VolumePlan, are_sizes, device_octets};
 use opening::{OpenError, Opened};
 use rnews::entry;
 use shared_kernel::{Kern, NoGate, SESSIONS};
@@ -28,7 +28,7 @@ const MOMENT: u64 = 1_000_000_000;
 
 /// The plan of the volume. The sizes are not constants here, because a proof would count with them.
 fn plan(blocks: u64, inodes: u64, format: u32) -> Option<VolumePlan<'static>> {
-    if !is_host(HOST) || !are_sizes(blocks, inodes) || format < FORMAT_1 || FORMAT_2 < format {
+    if !is_host(HOST) || !are_sizes(blocks, inodes) || format < FORMAT_1 || FORMAT_3 < format {
         return None;
     }
     Some(VolumePlan {
@@ -50,7 +50,7 @@ pub(crate) fn formatted(alloc: Global, blocks: u64, inodes: u64, format: u32) ->
 
 /// A device whose volume has the groups, in closed segments: an opening writes nothing.
 pub(crate) fn device<R: Wait>(rt: &R, alloc: Global, blocks: u64, inodes: u64) -> Option<MemDisk> {
-    let disk = with_groups(rt, alloc, formatted(alloc, blocks, inodes, FORMAT_2)?)?;
+    let disk = with_groups(rt, alloc, formatted(alloc, blocks, inodes, FORMAT_3)?)?;
     match opening::open(alloc, disk, SESSIONS) {
         Ok(Opened { journal, kernel: _ }) => Some(journal.into_disk()),
         Err(_) => None,

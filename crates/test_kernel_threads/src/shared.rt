@@ -8,7 +8,7 @@ use lookups::LookUps;
 use memdisk::MemDisk;
 use model::Status;
 use names::{Description, GroupName, GroupRequest, is_host};
-use new_volume::{FORMAT_2, VolumePlan, are_sizes, device_octets, format};
+use new_volume::{FORMAT_3, VolumePlan, are_sizes, device_octets, format};
 use shared_kernel::SESSIONS;
 use std::alloc::Global;
 use std::sync::{Mutex, Wait};
@@ -42,7 +42,7 @@ fn plan(blocks: u64, inodes: u64) -> Option<VolumePlan<'static>> {
         host: HOST,
         blocks,
         inodes,
-        format: FORMAT_2,
+        format: FORMAT_3,
     })
 }
 

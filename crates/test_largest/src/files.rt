@@ -9,7 +9,7 @@ use blocks::{BLOCK_SIZE, Blocks};
 use fs::{append, check, create, read_at};
 use journal::{Journal, Progress};
 use names::is_host;
-use new_volume::{FORMAT_2, VolumePlan, are_sizes, device_octets, format};
+use new_volume::{FORMAT_3, VolumePlan, are_sizes, device_octets, format};
 use std::alloc::Global;
 use volume::{BATCH_BLOCKS, BatchBuf, Volume};
 use volume_format::{are_below, are_distinct};
@@ -42,7 +42,7 @@ fn plan(blocks: u64) -> Option<VolumePlan<'static>> {
         host: HOST,
         blocks,
         inodes: INODES as u64,
-        format: FORMAT_2,
+        format: FORMAT_3,
     })
 }
 
@@ -88,7 +88,7 @@ fn is_sound(alloc: Global, volume: &Volume) -> bool
     if !has_room(volume) {
         return false;
     }
-    check(alloc, volume, INODES, FORMAT_2).is_ok()
+    check(alloc, volume, INODES, FORMAT_3).is_ok()
 }
 
 fn is_name(name: &[u8]) -> bool
@@ -108,7 +108,7 @@ fn grow(alloc: Global, volume: &mut Volume, name: &[u8], octets: &[u8]) -> Optio
     if !is_name(name) || !is_sound(alloc, volume) {
         return None;
     }
-    append(volume, INODES, FORMAT_2, name, octets).ok()
+    append(volume, INODES, FORMAT_3, name, octets).ok()
 }
 
 /// Makes a file of these octets, which no batch has yet.

@@ -4,7 +4,7 @@ use crate::errors::RowError;
 use disk::{DiskCall, Faults};
 use memdisk::MemDisk;
 use names::is_host;
-use new_volume::{FORMAT_2, VolumePlan, are_sizes, device_octets, format};
+use new_volume::{FORMAT_3, VolumePlan, are_sizes, device_octets, format};
 use std::alloc::Global;
 use volume_store::Store;
 
@@ -28,7 +28,7 @@ fn plan<'a>(wanted: &Wanted<'a>) -> Option<VolumePlan<'a>> {
         host,
         blocks: wanted.blocks,
         inodes: wanted.inodes,
-        format: FORMAT_2,
+        format: FORMAT_3,
     })
 }
 

@@ -11,7 +11,7 @@ use memdisk::MemDisk;
 use metrics::LongestTime;
 use model::{Message, Moment, Status, Text};
 use names::{Description, GroupName, GroupRequest, is_host};
-use new_volume::{FORMAT_2, VolumePlan, are_sizes, device_octets, format};
+use new_volume::{FORMAT_3, VolumePlan, are_sizes, device_octets, format};
 use releasing::{Limits, ReplyWriter, Shared, TakenBack, Untold, Writers, give_short_writes};
 use roster::Guest;
 use shared_kernel::{Asked, Asking, Bells, Closing, Gate, Kern, Receipt, SESSIONS, Ticket};
@@ -143,7 +143,7 @@ fn new_kernel(alloc: Global, blocks: u64, inodes: u64) -> Option<(Kernel, Journa
         host: HOST,
         blocks,
         inodes,
-        format: FORMAT_2,
+        format: FORMAT_3,
     };
     let disk = MemDisk::new(alloc, device_octets(plan.blocks)).ok()?;
     let Ok(disk) = format(alloc, disk, &plan) else {

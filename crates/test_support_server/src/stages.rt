@@ -10,7 +10,7 @@ use flusher::{TurnSeat, flush_turn};
 use journal::Journal;
 use logging::{Log, Verbosity, beginning_of_1970};
 use mark::{FlushSeat, Mark, Seat};
-use new_volume::FORMAT_2;
+use new_volume::FORMAT_3;
 use server::{Limits, MetricsFile, ServeError, Server, serve};
 use shared_kernel::{Gate, Kern, KernelCounts, NoGate, SESSIONS};
 use std::alloc::{AllocError, Global};
@@ -246,7 +246,7 @@ fn serve_parts<
     } = parts;
     let facts = VolumeFacts {
         host,
-        format: FORMAT_2,
+        format: FORMAT_3,
         blocks,
         inodes: INODES,
     };

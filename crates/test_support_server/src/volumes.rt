@@ -9,7 +9,7 @@ use kernel::Kernel;
 use memdisk::MemDisk;
 use model::{Moment, Status};
 use names::{Description, GroupName, GroupRequest, is_host};
-use new_volume::{FORMAT_2, VolumePlan, are_sizes, device_octets, format};
+use new_volume::{FORMAT_3, VolumePlan, are_sizes, device_octets, format};
 use shared_kernel::{Kern, SESSIONS};
 use std::alloc::Global;
 use std::sync::Wait;
@@ -33,7 +33,7 @@ fn plan() -> Option<VolumePlan<'static>> {
         host: HOST,
         blocks: BLOCKS,
         inodes: INODES,
-        format: FORMAT_2,
+        format: FORMAT_3,
     })
 }
 

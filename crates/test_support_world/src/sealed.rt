@@ -8,7 +8,7 @@ use lookups::LookUps;
 use memdisk::{MemDisk, Pick};
 use model::Part;
 use names::is_host;
-use new_volume::{FORMAT_2, VolumePlan, are_sizes, device_octets, format};
+use new_volume::{FORMAT_3, VolumePlan, are_sizes, device_octets, format};
 use shared_kernel::SESSIONS;
 use std::alloc::Global;
 use std::marker::Model;
@@ -114,7 +114,7 @@ fn plan(blocks: u64) -> Option<VolumePlan<'static>> {
         host: HOST,
         blocks,
         inodes: INODES,
-        format: FORMAT_2,
+        format: FORMAT_3,
     })
 }
 

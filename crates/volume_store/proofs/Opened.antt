@@ -16,7 +16,7 @@ use Rattle.volume_store.proofs.Carried.{stands}
 use Rattle.volume_store.proofs.Tied.{held_in}
 
 module _ {D : Type 0} (device : D → Device) (one two : JournalView D) (spool : SpoolView) (loaded : IsLoaded device one spool)
-    (reads : ReadsAndUpgrades device one two) (format : two.format ≡ 2) where
+    (reads : ReadsAndUpgrades device one two) (format : two.format ≡ 3) where
   tells_one : IsTrue (device two.disk).tells → IsTrue (device one.disk).tells
   tells_one t = subst IsTrue reads.time.tells t
 

@@ -23,7 +23,7 @@ pub record IsBehind (blocks : List Octets) (spool : SpoolView) (durable : ℕ) :
 
 -- the invariant of a store. Once a call of the device has failed, nothing is stated about the journal's blocks
 pub record IsTied {D : Type 0} (device : D → Device) (journal : JournalView D) (spool : SpoolView) (durable : ℕ) : Type 0 where
-  pub format : journal.format ≡ 2
+  pub format : journal.format ≡ 3
   pub few : length spool.dirty ≤ 512
   pub labelled : IsLabel journal.label journal.size spool.inodes spool.host
   pub size : length spool.blocks ≡ journal.size

@@ -69,9 +69,9 @@ impl<D: Disk> Store<D> {
     ghost use Rattle.journal.specs.Opening.{LeavesVolume, LeftKept, NeverSyncs, SyncsFirst};
     ghost use Rattle.opening.specs.Costs.{CostsToOpen};
 
-    /// Opens a device whose volume no server serves; all its changes are durable. A volume of format 1 is made one of
-    /// format 2. The first good sync comes before every write. A crash before that sync leaves what a crash at the start
-    /// might have left, and one after it the volume that a read gives, in one of the two formats.
+    /// Opens a device whose volume no server serves; all its changes are durable. A volume of format 1 or 2 is made
+    /// one of format 3. The first good sync comes before every write. A crash before that sync leaves what a crash at the start
+    /// might have left, and one after it the volume that a read gives, in the format that was or in format 3.
     ///
     /// A refusal keeps to this too, and it returns the device. `Fault` (E1) if the device failed. `Memory` (E2) if it did
     /// not, and an allocation was refused; then a read gives what it gave before, or the same volume. `NotAVolume` (E3) if

@@ -77,7 +77,11 @@ stands_for tells world blocks p image h size holds volume risen =
       blocks = blocks;
       volume = volume;
       labelled = subst (λ n. IsLabel world.journal.label n (kernel_of world).inodes (kernel_of world).host) (sym size) h.label;
-      held = record { held = holds; of_format = λ first. absurd (omega (arith, risen, h.format, first)) };
+      held = record {
+        held = holds;
+        no_pack = λ few. absurd (omega (arith, risen, h.format, few));
+        of_format = λ first. absurd (omega (arith, risen, h.format, first));
+      };
     }
 
 -- where no batch is to be committed, the journal admits its blocks alone

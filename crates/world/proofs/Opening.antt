@@ -52,7 +52,7 @@ none_damaged content d host S s =
 -- ---- the new world
 
 pub sound_new : {D : Type 0} (device : D → Device) (journal : JournalView D) (kernel : KernelView) (served : TracedView)
-    → served ≡ opens kernel → IsOpened device journal kernel → journal.format ≡ 2 → IsReady journal
+    → served ≡ opens kernel → IsOpened device journal kernel → journal.format ≡ 3 → IsReady journal
     → IsSound (device journal.disk).tells (record { journal = journal; served = served; untold = [] }) None
 sound_new {D} device journal kernel served is k format ready =
     subst (λ s. IsSound (device journal.disk).tells (record { journal = journal; served = s; untold = [] }) None) (sym is) now
