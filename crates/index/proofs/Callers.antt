@@ -6,7 +6,6 @@ use Rattle.std.specs.List.{list_all, list_any, range_with_len}
 use Rattle.std.proofs.lemmas.Bool.{and_parts, leb-true, or_from}
 use Rattle.std.proofs.lemmas.List.{length-take}
 use Rattle.std.proofs.lemmas.List.FromFn.{get_or-map-range_with_len, length-map-range_with_len}
-use Rattle.std.proofs.lemmas.List.Sorted.{Contains-permutation, IsPermutation-sym}
 use Rattle.std.proofs.lemmas.Option.{same_Some}
 use Rattle.model.specs.Stream.{Octets}
 use Rattle.model.specs.Article.{Carried, are_distinct, groups_of}
@@ -18,6 +17,8 @@ use Rattle.model.specs.Names.{is_group_name}
 use Rattle.model.specs.Spool.{Spool, NewsGroup, group_named, groups, is_here, is_name}
 use Rattle.model.specs.SpoolFiles.{files_of, overview_file, overview_name}
 use Rattle.model.specs.declared.change.Filing.{Filing}
+use Rattle.model.proofs.PackedGrowing.{not_of_index}
+use Rattle.model.proofs.Packing.{stored_beside}
 use Rattle.model.proofs.ByKind.{overview_there}
 use Rattle.model.proofs.HoldsOne.{carried_cause}
 use Rattle.model.proofs.Ids.{no_cause}
@@ -152,8 +153,8 @@ pub overview_small : (host : Octets) (inodes : ℕ) (blocks : List Octets) (S : 
 overview_small host inodes blocks S g holds among =
     let f : File = record { name = overview_name g.name; content = overview_file S g.name } in
     let there : Contains holds.files f =
-    Contains-permutation (files_of S) holds.files f (IsPermutation-sym holds.files (files_of S) holds.same)
-    (overview_there S g among) in
+    stored_beside holds.files (files_of S) holds.same f (overview_there S g among)
+    (λ one. not_of_index f 111 (46 ∷ g.name) one (λ e. omega arith) (λ e. omega arith) refl) in
     small_file inodes blocks holds.files f holds.held
     (held_at inodes blocks f (subst (λ (fs : List File). Contains fs f) holds.held.contents there))
 

@@ -11,7 +11,7 @@ use crate::copying::change_said;
 use blocks::Blocks;
 use model::Change;
 use places::Places;
-use spool_reading::{file_at, read_change};
+use spool_reading::{file_in, read_change};
 use std::alloc::{AllocError, Global};
 
 /// The change with this serial of the spool that the blocks hold, read once from its file. Refused only for want of
@@ -28,8 +28,8 @@ pub fn change<B: Blocks>(
     ensures { IfOk result (λ change. (host : Octets) (S : Spool) → Holds host inodes (B.blocks blocks.now) S
         → slice_get S (serial - 1) ≡ Some change) }
 {
-    let at = places.changes()[(serial - 1) as usize];
-    let file = file_at(alloc, blocks, inodes, at)?;
+    let place = places.changes()[(serial - 1) as usize];
+    let file = file_in(alloc, blocks, inodes, place)?;
     let Some(said) = read_change(alloc, &file.name, &file.content, serial)? else {
         unreachable!()
     };

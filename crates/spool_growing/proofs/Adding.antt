@@ -12,6 +12,7 @@ use Rattle.model.specs.Article.{are_distinct, groups_of, overview_line}
 use Rattle.model.specs.Files.{File, table, largest_file}
 use Rattle.model.specs.Indexed.{ArePlaces, FilePlaces, GroupIndex, group_index}
 use Rattle.model.specs.Lawful.{MayFile}
+use Rattle.model.specs.Packs.{most_changes}
 use Rattle.model.specs.Room.{is_full}
 use Rattle.model.specs.Laws.Room.{HasRoomForChange}
 use Rattle.model.specs.Spool.{Spool, NewsArticle, NewsGroup, group_named, groups}
@@ -146,8 +147,8 @@ overview_at inodes blocks S p name k its are =
 -- ---- one group
 
 pub few_filed : (S : Spool) (name : Octets) (k : ℕ) (its : IsAt S name k) (i : GroupIndex) → i ≡ group_index S its.group
-    → length S ≤ 4194304
-    → length i.filed ≤ 4194304
+    → length S ≤ most_changes
+    → length i.filed ≤ most_changes
 few_filed S name k its i is few =
     omega (arith, ap (λ (j : GroupIndex). length j.filed) is, high_is S its.group, high_few S its.group.name, few)
 
@@ -354,10 +355,10 @@ record_size S text g =
     omega (arith, records_size (length (overview_file S g)) ((a, next_line S text g) ∷ []), length-append (next_record S text g) [])
 
 module _ (host : Octets) (inodes : ℕ) (blocks : List Octets) (S : Spool) (f : Filing) (pieces : List Piece)
-    (is : IsHeld host inodes blocks S) (may : MayFile host S f) (room : is_full (length blocks) inodes S (Some (Article f)) ≡ false)
+    (is : IsHeld host inodes blocks S) (may : MayFile host S f) (room : is_full blocks inodes S (Some (Article f)) ≡ false)
     (are : ArePieces (table inodes blocks) S f.text f.envelope.groups pieces) where
-  rooms : HasRoomForChange (length blocks) inodes S (Article f)
-  rooms = not_full_room host (length blocks) inodes S (Article f) (changes_are_few host inodes blocks S is) is.held.lawful may room
+  rooms : HasRoomForChange blocks inodes S (Article f)
+  rooms = not_full_room host blocks inodes S (Article f) (changes_are_few host inodes blocks S is) is.held.lawful may room
 
   lines_short : (g : Octets) → length (next_line S f.text g) ≤ 8191
   lines_short g = (changes_ask_few host S (Article f) (changes_are_few host inodes blocks S is) is.held.lawful may).lines f g refl

@@ -5,8 +5,9 @@ use Rattle.std.specs.List.{sum_by}
 use Rattle.std.proofs.lemmas.List.Sums.{sum_by-cons}
 use Rattle.model.specs.Stream.{Octets}
 use Rattle.model.specs.Files.{File, free_blocks, table}
-use Rattle.model.specs.Indexed.{FilePlaces}
+use Rattle.model.specs.Indexed.{Alone, FilePlaces}
 use Rattle.model.specs.Lawful.{MayFile}
+use Rattle.model.specs.Packs.{pack_name}
 use Rattle.model.specs.Records.{article_record, largest_record}
 use Rattle.model.specs.Asked.{blocks_taken}
 use Rattle.model.specs.Spool.{Spool, news_article}
@@ -22,15 +23,16 @@ use Rattle.filing.specs.declared.Piece.{Piece}
 use Rattle.filing.specs.Calls.{AppendsFirst, Calls, MakesAt, MayAllGrow, append_call, touched_by_pieces}
 use Rattle.filing.proofs.Calling.{calls_then, still_used}
 use Rattle.places.specs.Places.{AreNamed, name_of, with_change}
-use Rattle.places.proofs.Named.{are_by_name, grow_by_change, have_names}
+use Rattle.places.proofs.Named.{are_by_name, grow_by_change, have_names, name_kept}
 use Rattle.index.specs.View.{IndexView, Indexes}
 use Rattle.volume.specs.Volume.{VolumeView}
 use Rattle.spool_growing.specs.Articles.{ArePieces}
 use Rattle.spool_growing.specs.Growing.{FilesArticle, IsGrown}
 use Rattle.spool_growing.specs.Kept.{IsHeld, IsKept}
 use Rattle.spool_growing.specs.Growing.{Dirties}
-use Rattle.spool_growing.proofs.Absent.{lacks_serial}
+use Rattle.spool_growing.proofs.Absent.{lacks_serial, not_first}
 use Rattle.spool_growing.proofs.Adding.{pieces_call}
+use Rattle.spool_growing.proofs.Grown.{creates, inodes_taken}
 use Rattle.spool_growing.proofs.Held.{changes_are_few, grown, not_there}
 use Rattle.spool_growing.proofs.Touched.{touched_by}
 use Rattle.std.proofs.lemmas.List.{take_all}
@@ -39,7 +41,7 @@ pub lacks_article : (host : Octets) (inodes : ℕ) (blocks : List Octets) (S : S
     → ¬ (IsThere (table inodes blocks) (article_name (length S + 1)))
 lacks_article host inodes blocks S is =
     not_there host inodes blocks S is (article_name (length S + 1))
-    (λ f has. (lacks_serial S (omega (arith, changes_are_few host inodes blocks S is)) f has).article)
+    (not_first (article_name (length S + 1)) pack_name 97 112 refl refl (λ e. omega arith)) (λ f has. (lacks_serial S (omega (arith, changes_are_few host inodes blocks S is)) f has).article)
 
 -- ---- after its file is made
 
@@ -63,7 +65,7 @@ module _ (inodes at : ℕ) (name octets : Octets) (pieces : List Piece) (old mid
   other_file k p is same =
       let its = may.each k p is in
       let still : name_of (table inodes mid) p.at ≡ Some its.name =
-      made.calls.names p.at its.name (ap (option_map (λ (f : File). f.name)) its.there) in
+      name_kept (table inodes old) (table inodes mid) p.at its.name made.calls.keeps (ap (option_map (λ (f : File). f.name)) its.there) in
       let here : name_of (table inodes mid) p.at ≡ Some name = ap (name_of (table inodes mid)) same
       ∙ ap (option_map (λ (f : File). f.name)) made.there in
       let one : its.name ≡ name = ap (λ (o : Option Octets). unwrap_or o []) (sym still ∙ here) in
@@ -106,8 +108,8 @@ module _ (inodes at : ℕ) (name octets : Octets) (pieces : List Piece) (old mid
       record {
         calls = subst (λ (cs : List FileCall). Calls inodes (making_calls name octets ++ cs) old new) calls_of
             (calls_then inodes (making_calls name octets) (map (append_call (table inodes mid)) pieces) old mid new made.calls all);
-        article = appends.calls.names at name (ap (option_map (λ (f : File). f.name)) made.there);
-        used = still_used at (table inodes mid) (table inodes new) appends.calls.names made.used;
+        article = name_kept (table inodes mid) (table inodes new) at name appends.calls.keeps (ap (option_map (λ (f : File). f.name)) made.there);
+        used = still_used at (table inodes mid) (table inodes new) appends.calls.keeps made.used;
       }
 
   -- what the pieces touch
@@ -124,6 +126,16 @@ module _ (inodes at : ℕ) (name octets : Octets) (pieces : List Piece) (old mid
       (touches_then reached (touched_by_pieces (table inodes mid) pieces) old mid new first second)
 
 -- ---- the whole
+
+-- a file is made, and others are extended
+one_created : (name octets : Octets) (f : Piece → FileCall) (pieces : List Piece) → ((p : Piece) → creates (f p ∷ []) ≡ 0)
+    → creates (making_calls name octets ++ map f pieces) ≡ 1
+unfolding creates
+one_created name octets f [] none = refl
+one_created name octets f (p ∷ pieces) none = by_call (f p) (none p) where
+  by_call : (call : FileCall) → creates (call ∷ []) ≡ 0 → creates (making_calls name octets ++ call ∷ map f pieces) ≡ 1
+  by_call (Create other) is = absurd (omega (arith, is))
+  by_call (Append other more) is = one_created name octets f pieces none
 
 -- the calls of an article that is filed
 article_is_filed : (inodes : ℕ) (S : Spool) (f : Filing) (at : ℕ) (octets : Octets) (pieces : List Piece) (old new : List Octets)
@@ -143,20 +155,20 @@ pub kept_with_article : (host : Octets) (inodes : ℕ) (v w : VolumeView) (i j :
     → IsKept host inodes v i p S → MayFile host S f
     → octets ≡ article_record (news_article (length S + 1) f)
     → ArePieces (table inodes v.cache) S f.text f.envelope.groups pieces
-    → FilesArticle inodes at (article_name (length S + 1)) octets pieces v.cache w.cache → q ≡ with_change at p
+    → FilesArticle inodes at (article_name (length S + 1)) octets pieces v.cache w.cache → q ≡ with_change (Alone at) p
     → Indexes (S ++ Article f ∷ []) j → w.seen ≡ w.cache
     → IsKept host inodes w j q (S ++ Article f ∷ [])
 kept_with_article host inodes v w i j p q S f at octets pieces kept may says are made places indexed seen =
     let c : Change = Article f in
     let calls = article_is_filed inodes S f at octets pieces v.cache w.cache says are made in
     let is = grown host inodes v.cache S kept.is c w.cache may calls in
-    let placed = grow_by_change (table inodes v.cache) (table inodes w.cache) S c p at refl
-    (have_names inodes v.cache S p kept.placed) made.calls.names made.article in
+    let placed = grow_by_change (table inodes v.cache) (table inodes w.cache) S c p (Alone at) refl
+    (have_names inodes v.cache S p kept.placed) made.calls.keeps made.article in
     record {
       is = is;
       seen = seen;
       indexed = indexed;
-      placed = are_by_name host inodes w.cache (S ++ c ∷ []) q is.held
+      placed = are_by_name host inodes w.cache (S ++ c ∷ []) q is.room.few is.held
           (subst (AreNamed (table inodes w.cache) (S ++ c ∷ [])) (sym places) placed);
     }
 
@@ -164,12 +176,13 @@ pub article_grown : (inodes : ℕ) (v m w : VolumeView) (i j : IndexView) (p q :
     (octets : Octets) (pieces : List Piece)
     → v.seen ≡ v.cache → FilesArticle inodes at (article_name serial) octets pieces v.seen m.seen → Dirties v.cache w.cache v.dirty w.dirty
     → w.cache ≡ m.seen → w.seen ≡ m.seen
-    → q ≡ with_change at p
+    → q ≡ with_change (Alone at) p
     → ((host : Octets) (S : Spool) → MayFile host S f → IsKept host inodes v i p S → Indexes (S ++ Article f ∷ []) j)
     → ((S : Spool) → Indexes S i → serial ≡ length S + 1)
     → octets ≡ article_record (news_article serial f)
     → ((host : Octets) (S : Spool) → IsKept host inodes v i p S → ArePieces (table inodes v.cache) S f.text f.envelope.groups pieces)
     → IsGrown inodes v w i j p q (Article f)
+unfolding creates
 article_grown inodes v m w i j p q f at serial octets pieces seen made dirties cache now places indexed serials says are =
     let made' : FilesArticle inodes at (article_name serial) octets pieces v.cache w.cache =
     subst (λ (bs : List Octets). FilesArticle inodes at (article_name serial) octets pieces v.cache bs) (sym cache)
@@ -183,5 +196,13 @@ article_grown inodes v m w i j p q f at serial octets pieces seen made dirties c
           let its = serials S kept.indexed in
           kept_with_article host inodes v w i j p q S f at octets pieces kept may (said S its) (are host S kept)
           (named S its) places (indexed host S may kept) (now ∙ sym cache);
+      free = λ room rule.
+          let name = article_name serial in
+          let calls = making_calls name octets ++ map (append_call (table inodes v.cache)) pieces in
+          omega (
+            arith,
+            inodes_taken inodes calls v.cache w.cache made'.calls room rule,
+            one_created name octets (append_call (table inodes v.cache)) pieces (λ p. refl),
+          );
       dirties = dirties;
     }

@@ -16,7 +16,7 @@ use filing::Free;
 use fs_layout::marks::lowest_free;
 use index::Index;
 use model::{Envelope, Moment, Status};
-use places::Places;
+use places::{ChangePlace, Places};
 use records::{article_record, expiry_record, group_record};
 use std::alloc::{AllocError, Global};
 use volume::Volume;
@@ -108,7 +108,7 @@ pub fn grow_by_expiry(
         volume.drop_stage();
         return Err(AllocError);
     };
-    let Ok(()) = places.push_change(at) else {
+    let Ok(()) = places.push_change(ChangePlace::Alone(at)) else {
         volume.drop_stage();
         return Err(AllocError);
     };
@@ -162,7 +162,7 @@ pub fn grow_by_article(
         volume.drop_stage();
         return Err(AllocError);
     };
-    let Ok(()) = places.push_change(at) else {
+    let Ok(()) = places.push_change(ChangePlace::Alone(at)) else {
         volume.drop_stage();
         return Err(AllocError);
     };

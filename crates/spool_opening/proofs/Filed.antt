@@ -9,7 +9,7 @@ use Rattle.std.proofs.lemmas.Slice.Eq.{bytes_eq-Decides}
 use Rattle.model.specs.Stream.{Octets}
 use Rattle.model.specs.Article.{groups_of}
 use Rattle.model.specs.Files.{File, HasRoom, IsFileSystem, table}
-use Rattle.model.specs.Indexed.{FilePlaces, GroupIndex, group_index}
+use Rattle.model.specs.Indexed.{Alone, FilePlaces, GroupIndex, group_index}
 use Rattle.model.specs.Lawful.{MayFile}
 use Rattle.model.specs.Spool.{Spool, NewsGroup, group_named, groups, is_here, is_name}
 use Rattle.model.specs.SpoolFiles.{overview_file, overview_name}
@@ -21,7 +21,7 @@ use Rattle.index_groups.specs.Filing.{AreLineSizes, EndBelow, end_of}
 use Rattle.index.specs.View.{IndexView, Indexes}
 use Rattle.index.proofs.Growing.{overview_size}
 use Rattle.places.specs.Places.{AreNamed, with_change}
-use Rattle.places.proofs.Named.{grow_by_change}
+use Rattle.places.proofs.Named.{grow_by_change, keeps_self}
 use Rattle.spool_opening.specs.Replayed.{AllGoOn, AreHere, IsBounded, IsItsFile, IsReplayed}
 use Rattle.spool_opening.specs.Stored.{HasPiece, Overview, Which, file_for, name_for, piece_for}
 use Rattle.spool_reading.proofs.Contents.{content_fits}
@@ -97,7 +97,7 @@ pieces_by_names inodes S text gs all w g filed =
 pub article_replayed : (host : Octets) (inodes : ℕ) (blocks : List Octets) (R : Spool) (x y : IndexView) (p q : FilePlaces) (at : ℕ)
     (f : Filing) → IsFileSystem inodes blocks → IsReplayed host inodes blocks x p R
     → IsItsFile inodes blocks at (length R + 1) (Article f) → MayFile host R f
-    → AllGoOn (table inodes blocks) R f.text f.envelope.groups → Indexes (R ++ Article f ∷ []) y → q ≡ with_change at p
+    → AllGoOn (table inodes blocks) R f.text f.envelope.groups → Indexes (R ++ Article f ∷ []) y → q ≡ with_change (Alone at) p
     → IsReplayed host inodes blocks y q (R ++ Article f ∷ [])
 article_replayed host inodes blocks R x y p q at f rule replayed its may all indexed placed = record {
   read = article_is_read host inodes blocks R replayed.read f rule may its.is.room
@@ -106,7 +106,7 @@ article_replayed host inodes blocks R x y p q at f rule replayed its may all ind
   indexed = indexed;
   placed =
       subst (AreNamed (table inodes blocks) (R ++ Article f ∷ [])) (sym placed)
-      (grow_by_change (table inodes blocks) (table inodes blocks) R (Article f) p at refl replayed.placed (λ k name is. is)
+      (grow_by_change (table inodes blocks) (table inodes blocks) R (Article f) p (Alone at) refl replayed.placed (keeps_self (table inodes blocks))
       (its_name inodes blocks at (length R + 1) (Article f) its));
 }
 

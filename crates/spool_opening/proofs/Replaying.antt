@@ -4,7 +4,7 @@ use Rattle.std.specs.Prelude.{option_map}
 use Rattle.std.specs.List.{Contains}
 use Rattle.model.specs.Stream.{Octets}
 use Rattle.model.specs.Files.{File, files_in, table}
-use Rattle.model.specs.Indexed.{FilePlaces}
+use Rattle.model.specs.Indexed.{Alone, FilePlaces}
 use Rattle.model.specs.Lawful.{MayExpire, MayMake}
 use Rattle.model.specs.Spool.{Spool}
 use Rattle.model.specs.SpoolFiles.{change_file, numbers_name, overview_name}
@@ -15,7 +15,7 @@ use Rattle.model.specs.declared.change.NewGroup.{NewGroup}
 use Rattle.model.proofs.Opening.{is_among}
 use Rattle.index.specs.View.{IndexView, Indexes}
 use Rattle.places.specs.Places.{AreNamed, name_of, with_change, with_group}
-use Rattle.places.proofs.Named.{grow_by_change, grow_by_group}
+use Rattle.places.proofs.Named.{grow_by_change, grow_by_group, keeps_self}
 use Rattle.spool_opening.specs.Replayed.{IsItsFile, IsReplayed}
 use Rattle.spool_opening.specs.Stored.{IsFileAt, Numbers, Overview, Which, name_for}
 use Rattle.spool_opening.proofs.Growing.{expiry_is_read, group_is_read}
@@ -33,14 +33,14 @@ its_name inodes blocks at serial c its = ap (option_map (λ (f : File). f.name))
 pub expiry_replayed : (host : Octets) (inodes : ℕ) (blocks : List Octets) (R : Spool) (x y : IndexView) (p q : FilePlaces) (at : ℕ)
     (e : Expiry) → IsReplayed host inodes blocks x p R
     → IsItsFile inodes blocks at (length R + 1) (Expire e) → MayExpire R e → Indexes (R ++ Expire e ∷ []) y
-    → q ≡ with_change at p → IsReplayed host inodes blocks y q (R ++ Expire e ∷ [])
+    → q ≡ with_change (Alone at) p → IsReplayed host inodes blocks y q (R ++ Expire e ∷ [])
 expiry_replayed host inodes blocks R x y p q at e replayed its may indexed placed = record {
   read = expiry_is_read host inodes blocks R replayed.read e may its.is.room
       (its_file_there inodes blocks at (length R + 1) (Expire e) its);
   indexed = indexed;
   placed =
       subst (AreNamed (table inodes blocks) (R ++ Expire e ∷ [])) (sym placed)
-      (grow_by_change (table inodes blocks) (table inodes blocks) R (Expire e) p at refl replayed.placed (λ k name is. is)
+      (grow_by_change (table inodes blocks) (table inodes blocks) R (Expire e) p (Alone at) refl replayed.placed (keeps_self (table inodes blocks))
       (its_name inodes blocks at (length R + 1) (Expire e) its));
 }
 
@@ -62,7 +62,7 @@ group_replayed host inodes blocks R x y p q at numbers overview created replayed
   placed =
       subst (AreNamed (table inodes blocks) (R ++ c ∷ [])) (sym placed)
       (grow_by_group (table inodes blocks) (table inodes blocks) R created p at numbers overview replayed.placed
-      (λ k n is. is) (its_name inodes blocks at (length R + 1) c its)
+      (keeps_self (table inodes blocks)) (its_name inodes blocks at (length R + 1) c its)
       (named_there inodes blocks numbers (numbers_name created.name) numbered.0 numbered.1)
       (named_there inodes blocks overview (overview_name created.name) shown.0 shown.1));
 } where

@@ -44,7 +44,7 @@ none_replayed host inodes blocks x p is none = record {
   replayed = record {
     read = none_is_read host inodes blocks;
     indexed = is;
-    placed = subst (AreNamed (table inodes blocks) []) (sym none) (record { changes_are = refl; numbers_are = refl; overviews_are = refl });
+    placed = subst (AreNamed (table inodes blocks) []) (sym none) (record { changes_are = tt; numbers_are = refl; overviews_are = refl });
   };
   count_is = refl;
 }
@@ -155,13 +155,6 @@ pub named_whole : (inodes : List (Option File)) (S : Spool) (at : ℕ) (f : File
 named_whole inodes S at f name there named not whole = subst (λ (o : Octets). IsNameOf S o (length f.content)) named (whole f there not)
 
 -- ---- how many
-
-pub used_and_free : (inodes : ℕ) (blocks : List Octets) → HasRoom inodes blocks → IsFileSystem inodes blocks
-    → free_inodes inodes blocks + length (files_in (table inodes blocks)) ≡ inodes
-used_and_free inodes blocks room rule =
-    let beside = (free_is_beside inodes blocks (files_in (table inodes blocks)) room (record { rule = rule; contents = refl })).inodes_are
-    in
-    omega (arith, beside, there_few (table inodes blocks), length-table inodes blocks)
 
 pub change_by_name : (f : File) (name : Octets) (b : Bool) → f.name ≡ name
     → ((content : Octets) → is_of_change (record { name = name; content = content }) ≡ b) → is_of_change f ≡ b

@@ -18,7 +18,7 @@ use article::{Article, Origin, ReadError};
 use blocks::Blocks;
 use index::Index;
 use model::{Envelope, Moment, Status, Text};
-use places::Places;
+use places::{ChangePlace, Places};
 use spool_reading::{Files, ReadSpoolError};
 use std::alloc::Global;
 
@@ -48,7 +48,7 @@ pub fn replay_expiry(
         return Err(ReadSpoolError::Damaged);
     }
     replay.index.push_expiry(group, number as u64)?;
-    replay.places.push_change(at)?;
+    replay.places.push_change(ChangePlace::Alone(at))?;
     Ok(())
 }
 
@@ -169,6 +169,6 @@ pub fn replay_article<B: Blocks>(
     let size = text.len() as u64;
     let lengths = sizes.as_slice();
     replay.index.push_article(id, size, envelope, lengths)?;
-    replay.places.push_change(at)?;
+    replay.places.push_change(ChangePlace::Alone(at))?;
     Ok(())
 }

@@ -11,7 +11,7 @@ mod reading;
 mod sorting;
 
 pub use errors::ReadSpoolError;
-pub use files::{NamedFile, file_at, file_name_at, file_size_at, read_file};
+pub use files::{NamedFile, file_at, file_in, file_name_at, file_size_at, read_file};
 pub use inodes::Inodes;
 pub use laws::files_are_sorted_by_serial;
 pub use pass::sort;

@@ -4,6 +4,7 @@ use Rattle.std.specs.Prelude.{Option, Some, None, IsSome}
 use Rattle.lookups.specs.Held.{overviews_between}
 use Rattle.model.specs.Indexed.{ArePlaces, FilePlaces, line_start}
 use Rattle.model.specs.Lawful.{IsLawful}
+use Rattle.model.specs.Packs.{most_changes}
 use Rattle.model.specs.Spool.{Spool, NewsGroup, group_named, groups, high}
 use Rattle.model.specs.Stream.{Octets, dot_line}
 use Rattle.index.specs.View.{IndexView, Indexes}
@@ -27,11 +28,11 @@ pub record HasLines (S : Spool) (lines : Lines) : Type 0 where
   pub high : lines.end ≤ high S group.name + 1
   pub octets : lines.octets ≡ length (lines_of S lines)
 
--- changes of a volume are lawful, and fewer than its inodes
+-- changes of a volume are lawful, and few
 pub record IsStored (S : Spool) : Type 0 where
   pub host : Octets
   pub lawful : IsLawful host S
-  pub few : length S < 10 ^ 7
+  pub few : length S ≤ most_changes
 
 -- the index is that of some changes, in which the group exists and has had these numbers
 pub record HasRange (index : IndexView) (group : Octets) (from to : ℕ) : Type 0 where

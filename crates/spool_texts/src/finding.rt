@@ -1,8 +1,10 @@
 //! The places of the texts of articles.
 
 ghost use Rattle.std.specs.Prelude.{◌≡◌, ◌<◌, length, IfOk};
-ghost use Rattle.model.specs.Files.{HasRoom, IsFile, IsFileSystem, entry};
-ghost use Rattle.spool_texts.specs.Texts.{HasArticle, HasHeader, IsPlaceOf, octets_in};
+ghost use Rattle.model.specs.Files.{File, HasRoom, IsFile, IsFileSystem, entry, table};
+ghost use Rattle.model.specs.Indexed.{IsAt};
+ghost use Rattle.places.specs.Viewed.{place_of as viewed};
+ghost use Rattle.spool_texts.specs.Texts.{EndsAt, HasArticle, HasHeader, IsPlaceOf, octets_in};
 
 use article::HEADER_LIMIT;
 use blocks::Blocks;
@@ -10,7 +12,7 @@ use fs_inodes::read_entry;
 use fs_layout::inodes::size_of;
 use header_fields::header_length;
 use index::Index;
-use places::Places;
+use places::{ChangePlace, Places};
 use std::alloc::{AllocError, Global};
 
 /// The number of octets of the longest header that is stored, and of the empty line after it.
@@ -24,6 +26,21 @@ pub(crate) struct TextPlace {
     pub(crate) from: u64,
     /// the number of octets
     pub(crate) size: u64,
+}
+
+/// The inode in whose file a change's file stands, whether by itself or in the pack, and the place after its last octet
+/// there.
+fn end_of<B: Blocks>(blocks: &B, inodes: u32, place: ChangePlace) -> (u32, u64)
+    requires room { HasRoom inodes (B.blocks blocks.now) }
+    requires rule { IsFileSystem inodes (B.blocks blocks.now) }
+    requires there { (f : File) × IsAt (table inodes (B.blocks blocks.now)) (viewed place) f }
+    ensures { (f : File) → IsAt (table inodes (B.blocks blocks.now)) (viewed place) f
+        → EndsAt inodes (B.blocks blocks.now) result.0 result.1 f }
+{
+    match place {
+        ChangePlace::Alone(inode) => (inode, size_of(blocks, inodes, inode)),
+        ChangePlace::Packed { inode, from, size } => (inode, u64::from(from) + u64::from(size)),
+    }
 }
 
 /// The place of the text of an article: it ends the file of its change.
@@ -42,8 +59,8 @@ pub(crate) fn place_of<B: Blocks>(
     let Some(size) = index.size(serial) else {
         unreachable!()
     };
-    let inode = places.changes()[(serial - 1) as usize];
-    let end = size_of(blocks, inodes, inode);
+    let place = places.changes()[(serial - 1) as usize];
+    let (inode, end) = end_of(blocks, inodes, place);
     TextPlace {
         inode,
         from: end - size,
