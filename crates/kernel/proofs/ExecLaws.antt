@@ -236,7 +236,7 @@ case_of inside items at sid m t read rise here its from =
       same = same_place at (seen_in inside) (seen made read) found.0 found.1 (sym (seen_at made inside.seats.items at read from));
     }
 
-room_is : (blocks inodes : ℕ) (S : Spool) (change : Option Change)
+room_is : (blocks : List Octets) (inodes : ℕ) (S : Spool) (change : Option Change)
     → lacks_room_for (λ c. is_full blocks inodes S (Some c)) change ≡ is_full blocks inodes S change
 room_is blocks inodes S None = refl
 room_is blocks inodes S (Some c) = refl
@@ -369,7 +369,7 @@ module _ (k : Case) where
   abbrev mark_by : Bool → Mark
   mark_by halted =
       if halted then mark.Stopped else if is_long i.spool.host i.spool.changes k.seat.session k.message then mark.Long else if is_full
-      (length i.spool.blocks) i.spool.inodes i.spool.changes
+      i.spool.blocks i.spool.inodes i.spool.changes
       (answer_in i.spool k.seat.session k.message k.moment mark.Served).change then mark.Full else mark.Served
 
   pub stopped_mark : i.halted ≡ true → mark.Stopped ≡ mark_for was k.seat.session k.message k.moment
@@ -379,7 +379,7 @@ module _ (k : Case) where
   served_mark is =
       ap (λ (b : Bool). if is_long i.spool.host i.spool.changes k.seat.session k.message then mark.Long else if b then mark.Full
       else mark.Served)
-      (room_is (length i.spool.blocks) i.spool.inodes i.spool.changes
+      (room_is i.spool.blocks i.spool.inodes i.spool.changes
       (answer_in i.spool k.seat.session k.message k.moment mark.Served).change) ∙ sym (ap mark_by is)
 
 -- a session that is told that the service ends changes nothing

@@ -107,7 +107,7 @@ abbrev pub mark_for : KernelView → Session → Message → ℕ → Mark
 mark_for kernel x m t =
     if kernel.halted then mark.Stopped
     else if is_long kernel.host kernel.spool x m then mark.Long
-    else if is_full (length kernel.blocks) kernel.inodes kernel.spool (answer kernel.host kernel.spool x m t mark.Served).change then
+    else if is_full kernel.blocks kernel.inodes kernel.spool (answer kernel.host kernel.spool x m t mark.Served).change then
     mark.Full
     else mark.Served
 
@@ -232,7 +232,7 @@ admin_refusal_of kernel c =
     first_failing (
     (kernel.halted, Halted) ∷ (nat_lt (most_dirty (length kernel.blocks)) (length kernel.dirty), LaterDirty)
     ∷ (makes_again kernel.spool c, Exists)
-    ∷ (is_full (length kernel.blocks) kernel.inodes kernel.spool (Some c), Full) ∷ [])
+    ∷ (is_full kernel.blocks kernel.inodes kernel.spool (Some c), Full) ∷ [])
 
 -- whether the change removes a number that the group does not have
 abbrev pub takes_none : Spool → Change → Bool
@@ -246,7 +246,7 @@ expire_refusal_of kernel c =
     first_failing (
     (kernel.halted, Halted) ∷ (nat_lt (most_dirty (length kernel.blocks)) (length kernel.dirty), LaterDirty)
     ∷ (takes_none kernel.spool c, NotFound)
-    ∷ (is_full (length kernel.blocks) kernel.inodes kernel.spool (Some c), Full) ∷ [])
+    ∷ (is_full kernel.blocks kernel.inodes kernel.spool (Some c), Full) ∷ [])
 
 -- the operator's change is accepted: a group is made, or articles are removed from one
 pub record Administers (old new : KernelView) (change : Change) (serial : ℕ) : Type 0 where

@@ -11,6 +11,7 @@ ghost use Rattle.kernel.specs.Kernel.{Administers, Execs, FitsMode, Takes, Teste
 ghost use Rattle.kernel.specs.Kernel.{exec_refusal, expire_refusal_of, has_batch, halted_for_good, is_block, join_refusal, joined, left};
 ghost use Rattle.kernel.specs.Kernel.{made_durable, mode_at, most_dirty, only_tested, released, released_of, seat_of};
 ghost use Rattle.seats.specs.Seats.{holds, ready, ready_of, Seat as SeatView};
+ghost use Rattle.model.specs.Files.{free_inodes};
 ghost use Rattle.model.specs.Volume.{blocks_from};
 ghost use Rattle.model.specs.declared.change.Change.TheVariants.{Group, Expire};
 ghost use Rattle.kernel.specs.Stored.{kernel_of};
@@ -398,6 +399,13 @@ impl Kernel {
         ensures { result.now.changes ≡ self.now.spool }
     {
         &self.spool
+    }
+
+    /// The number of inodes with a file.
+    pub fn used_inodes(&self) -> u32
+        ensures { result + free_inodes self.now.inodes self.now.blocks ≡ self.now.inodes }
+    {
+        self.spool.used_inodes()
     }
 
     /// The number of accepted changes.

@@ -1,9 +1,9 @@
 -- What a call does to the kernel under the lock, and to the caller's buffer.
-use Rattle.std.specs.Prelude.{◌≡◌, ℕ, Bool, Some, None, List, ◌++◌, if◌then◌else◌, length, nat_lt}
+use Rattle.std.specs.Prelude.{◌≡◌, ℕ, ◌+◌, Bool, Some, None, List, ◌++◌, if◌then◌else◌, length, nat_lt}
 use Rattle.shared_kernel.specs.declared.kern.ExecOutcome.{ExecOutcome}
 use Rattle.shared_kernel.specs.declared.kern.KernelCounts.{KernelCounts}
 use Rattle.kernel.specs.Kernel.{Execs, KernelView, released_of, seat_of}
-use Rattle.model.specs.SpoolFiles.{files_of}
+use Rattle.model.specs.Files.{free_inodes}
 use Rattle.model.specs.declared.message.Message.{Message}
 use Rattle.outbox.specs.Queue.{ReadyEntry}
 use Rattle.seats.specs.Seats.{holds, ready_of}
@@ -25,6 +25,6 @@ pub record Answers (old new : KernelView) (number : ℕ) (m : Message) (t : ℕ)
 -- what a kernel holds
 pub record IsCounted (kernel : KernelView) (counts : KernelCounts) : Type 0 where
   pub sessions : counts.sessions ≡ length kernel.seats
-  pub inodes : counts.inodes ≡ length (files_of kernel.spool)
+  pub inodes : counts.inodes + free_inodes kernel.inodes kernel.blocks ≡ kernel.inodes
   pub accepted : counts.accepted ≡ length kernel.spool
   pub durable : counts.durable ≡ kernel.durable

@@ -2,15 +2,14 @@
 use Rattle.std.proofs.Common.{◌≡◌, ◌≤◌, ℕ, ◌+◌, ◌-◌, false, List, [], ◌∷◌, ◌++◌, length, refl, sym, ◌∙◌, ap, subst, arith, length-append}
 use Rattle.std.specs.Prelude.{replicate, OnErr, Result, Ok, Err, Some, None, filter_map}
 use Rattle.model.specs.Stream.{Octets}
-use Rattle.model.specs.Files.{HasRoom, IsFileSystem, table}
+use Rattle.model.specs.Files.{HasRoom, IsFileSystem, free_inodes, table}
 use Rattle.model.specs.Room.{files_made, is_full}
 use Rattle.model.specs.Spool.{Spool, entries, group_made, groups}
 use Rattle.model.specs.SpoolFiles.{files_of}
 use Rattle.model.specs.declared.change.Change.{Change}
 use Rattle.model.specs.declared.change.Change.TheVariants.{Group, Article, Expire}
 use Rattle.model.proofs.HoldsOne.{empty_none, holds_one}
-use Rattle.model.proofs.Opening.{files_counted}
-use Rattle.model.proofs.Growing.{groups_more}
+use Rattle.model.proofs.Counting.{used_and_free}
 use mathlib.Core.HLevel.{is_prop→PathP}
 use Rattle.std.proofs.Math.Logic.{∥∥₁_elim, ∥∥₁_prop}
 use Rattle.std.specs.Prelude.{IsTrue}
@@ -18,46 +17,11 @@ use Rattle.model.specs.Names.{is_host}
 use Rattle.model.specs.Indexed.{ArePlaces, FilePlaces}
 use Rattle.index.specs.View.{IndexView, Indexes}
 use Rattle.volume.specs.Volume.{VolumeView}
-use Rattle.spool.specs.Kept.{AreFree, CanStand, StandsIn, spool_set}
+use Rattle.spool.specs.Kept.{CanStand, StandsIn, spool_set}
 use Rattle.spool_growing.specs.Kept.{IsHeld, IsKept}
 use Rattle.spool.specs.View.{Adds, SpoolView}
-use Rattle.spool_growing.specs.Growing.{Dirties}
-use Rattle.spool_growing.proofs.Held.{enough, files_count}
-
-groups_made : (S : Spool) (c : Change)
-    → length (groups (S ++ c ∷ [])) ≡ length (groups S) + length (filter_map group_made (record { serial = length S + 1; change = c } ∷ []))
-groups_made S c = ap (λ (gs : List _). length gs) (groups_more S c)
-    ∙ length-append (groups S) (filter_map group_made (record { serial = length S + 1; change = c } ∷ []))
-
-pub files_more : (S : Spool) (c : Change) → length (files_of (S ++ c ∷ [])) ≡ length (files_of S) + files_made c
-files_more S (Group created) =
-    omega (
-      arith,
-      files_counted S,
-      files_counted (S ++ Group created ∷ []),
-      groups_made S (Group created),
-      length-append S (Group created ∷ []),
-    )
-files_more S (Article filing) =
-    omega (
-      arith,
-      files_counted S,
-      files_counted (S ++ Article filing ∷ []),
-      groups_made S (Article filing),
-      length-append S (Article filing ∷ []),
-    )
-files_more S (Expire expiry) =
-    omega (
-      arith,
-      files_counted S,
-      files_counted (S ++ Expire expiry ∷ []),
-      groups_made S (Expire expiry),
-      length-append S (Expire expiry ∷ []),
-    )
-
-pub free_after : (free inodes : ℕ) (S : Spool) (c : Change) → AreFree free inodes S → files_made c ≤ free
-    → AreFree (free - files_made c) inodes (S ++ c ∷ [])
-free_after free inodes S c are some = omega (arith, are, some, files_more S c)
+use Rattle.spool_growing.specs.Growing.{Dirties, IsGrown}
+use Rattle.spool_growing.proofs.Held.{enough}
 
 -- ---- the fields of a spool that is used whole
 
@@ -67,14 +31,10 @@ the_changes host inodes blocks S is T =
     ∥∥₁_elim T.held (spool_set T.changes S) (λ other. holds_one host host inodes blocks T.changes S is.room.few other.held is.held)
 
 -- with the changes that stand in the blocks
-pub kept_stands : (host : Octets) (inodes : ℕ) (v : VolumeView) (i : IndexView) (p : FilePlaces) (free : ℕ) (S : Spool)
-    (T : StandsIn host inodes v.cache) → IsKept host inodes v i p S → AreFree free inodes S
-    → IsKept host inodes v i p T.changes × AreFree free inodes T.changes
-kept_stands host inodes v i p free S T kept are =
-    subst (λ (R : Spool). IsKept host inodes v i p R × AreFree free inodes R) (sym (the_changes host inodes v.cache S kept.is T)) (
-      kept,
-      are,
-    )
+pub kept_stands : (host : Octets) (inodes : ℕ) (v : VolumeView) (i : IndexView) (p : FilePlaces) (S : Spool)
+    (T : StandsIn host inodes v.cache) → IsKept host inodes v i p S → IsKept host inodes v i p T.changes
+kept_stands host inodes v i p S T kept =
+    subst (λ (R : Spool). IsKept host inodes v i p R) (sym (the_changes host inodes v.cache S kept.is T)) kept
 
 pub kept_same : (host : Octets) (inodes : ℕ) (v w : VolumeView) (i j : IndexView) (p q : FilePlaces) (S : Spool) → w ≡ v → j ≡ i → q ≡ p
     → IsKept host inodes v i p S → IsKept host inodes w j q S
@@ -121,9 +81,26 @@ added host inodes v w S R c old view changes dirties =
 
 -- inodes enough are left
 pub enough_left : (host : Octets) (inodes : ℕ) (v : VolumeView) (i : IndexView) (p : FilePlaces) (free : ℕ) (S : Spool) (c : Change)
-    → IsKept host inodes v i p S → AreFree free inodes S → is_full (length v.cache) inodes S (Some c) ≡ false → files_made c ≤ free
+    → IsKept host inodes v i p S → free ≡ free_inodes inodes v.cache → is_full v.cache inodes S (Some c) ≡ false → files_made c ≤ free
 enough_left host inodes v i p free S c kept are room =
-    omega (arith, (enough host inodes v.cache S kept.is c room).inodes_free, files_count host inodes v.cache S kept.is, are)
+    omega (
+      arith,
+      (enough host inodes v.cache S kept.is c room).inodes_free,
+      used_and_free inodes v.cache kept.is.room kept.is.held.held.rule,
+      are,
+    )
+
+-- so many are left after the change
+pub free_after : (host : Octets) (inodes : ℕ) (v w : VolumeView) (i j : IndexView) (p q : FilePlaces) (free : ℕ) (S : Spool) (c : Change)
+    → IsKept host inodes v i p S → free ≡ free_inodes inodes v.cache → IsGrown inodes v w i j p q c
+    → free - files_made c ≡ free_inodes inodes w.cache
+free_after host inodes v w i j p q free S c kept are grown =
+    omega (arith, are, grown.free kept.is.room kept.is.held.held.rule)
+
+-- as many are free in the same blocks
+pub free_same : (inodes free : ℕ) (v w : VolumeView) → w.cache ≡ v.cache → free ≡ free_inodes inodes v.cache
+    → free ≡ free_inodes inodes w.cache
+free_same inodes free v w same are = are ∙ ap (free_inodes inodes) (sym same)
 
 pub if_err : {T E P : Type 0} (r : Result T E) → P → OnErr r P
 if_err (Ok x) is = tt
@@ -132,7 +109,7 @@ if_err (Err e) is = is
 -- a spool without changes stands in an empty file system
 pub nothing_stands : (host : Octets) (inodes : ℕ) (v : VolumeView) (i : IndexView) (p : FilePlaces) → IsTrue (is_host host)
     → HasRoom inodes v.cache → IsFileSystem inodes v.cache → table inodes v.cache ≡ replicate inodes None → v.seen ≡ v.cache
-    → Indexes [] i → p ≡ record { changes = []; numbers = []; overviews = [] } → CanStand host inodes inodes v i p
+    → Indexes [] i → p ≡ record { changes = []; numbers = []; overviews = [] } → CanStand host inodes v i p
 unfolding files_of entries groups
 nothing_stands host inodes v i p named room rule none seen indexed places = record {
   changes = [];
@@ -142,5 +119,4 @@ nothing_stands host inodes v i p named room rule none seen indexed places = reco
     indexed = indexed;
     placed = subst (ArePlaces inodes v.cache []) (sym places) (record { changes_are = refl; numbers_are = refl; overviews_are = refl });
   };
-  free_are = omega arith;
 }

@@ -7,7 +7,7 @@ use Rattle.std.proofs.lemmas.Bool.{cases_lt, le-ltb, lt-ltb}
 use Rattle.std.proofs.lemmas.List.{length-map}
 use Rattle.model.specs.Stream.{Octets}
 use Rattle.model.specs.Indexed.{GroupIndex, group_index}
-use Rattle.model.specs.Room.{is_full_for, is_large}
+use Rattle.model.specs.Room.{is_full, is_full_for, is_large}
 use Rattle.model.specs.Spool.{Spool, NewsArticle, filed_in, group_named, high}
 use Rattle.model.specs.SpoolFiles.{files_of, numbers_file, overview_file}
 use Rattle.model.specs.Article.{groups_of}
@@ -66,13 +66,11 @@ parted false false true = refl
 parted false false false = refl
 
 pub full_article : (blocks inodes : ℕ) (S : Spool) (f : Filing)
-    → is_full_for blocks inodes S (Article f) ≡ (lacks blocks inodes S 1 || list_any (one_large S) f.envelope.groups)
+    → is_full_for blocks inodes S (Article f) ≡ (lacks blocks inodes 1 || list_any (one_large S) f.envelope.groups)
 unfolding is_full_for
-full_article blocks inodes S f =
-    parted (nat_lt (Rattle.model.specs.Room.free_blocks_beside blocks inodes (files_of S)) 256)
-    (nat_lt (Rattle.model.specs.Room.free_inodes_beside inodes (files_of S)) 1) (list_any (one_large S) f.envelope.groups)
+full_article blocks inodes S f = parted (nat_lt blocks 256) (nat_lt inodes 1) (list_any (one_large S) f.envelope.groups)
 
-pub article_refused : (s : SpoolView) (c : Change) (full : Bool) → is_full_for (length s.blocks) s.inodes s.changes c ≡ full
+pub article_refused : (s : SpoolView) (c : Change) (full : Bool) → is_full s.blocks s.inodes s.changes (Some c) ≡ full
     → article_refusal s c ≡ (if full then Some file.Full else None)
 article_refused s c full room = ap (λ (b : Bool). if b then Some file.Full else None) room
 

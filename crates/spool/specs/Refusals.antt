@@ -20,7 +20,7 @@ Tested memory refusal old new result done =
     × (new ≡ old))
 
 abbrev pub is_full_for : SpoolView → Change → Bool
-is_full_for s c = is_full (length s.blocks) s.inodes s.changes (Some c)
+is_full_for s c = is_full s.blocks s.inodes s.changes (Some c)
 
 -- a group: one with its name exists, or there is no room
 abbrev pub group_refusal : SpoolView → Octets → Change → Option AddError

@@ -8,10 +8,8 @@ ghost use Rattle.std.specs.List.{All, flat_map};
 ghost use Rattle.model.specs.Lawful.{MayExpire, MayFile, MayMake};
 ghost use Rattle.model.specs.Layout.{Holds};
 ghost use Rattle.model.specs.Names.{is_host};
-ghost use Rattle.model.specs.Room.{free_blocks_beside, free_inodes_beside};
-ghost use Rattle.model.specs.Files.{HasRoom, IsFileSystem, table};
+ghost use Rattle.model.specs.Files.{HasRoom, IsFileSystem, free_blocks, free_inodes, table};
 ghost use Rattle.model.specs.Spool.{Spool as Changes, groups, is_here};
-ghost use Rattle.model.specs.SpoolFiles.{files_of};
 ghost use Rattle.model.specs.Volume.{AreDistinct, blocks_from, laid_over};
 ghost use Rattle.model.specs.declared.change.Change.TheVariants as changed;
 ghost use Rattle.model.specs.declared.change.NewGroup.{NewGroup};
@@ -31,7 +29,7 @@ use blocks::Blocks;
 use change_spool::FilingError;
 pub use errors::{AddError, ExpireError};
 use filing::{BLOCKS_ASKED, Free};
-use fs::free_block_count;
+use fs::{free_block_count, free_inode_count};
 use index::Index;
 use index_groups::Group;
 use lookups::LookUps;
@@ -82,8 +80,9 @@ impl Drop for Spool {
 }
 
 impl Model for Spool {
+    ghost use Rattle.std.specs.Prelude.{◌≡◌};
     ghost use Rattle.filing.specs.Calls.{IsKnown};
-    ghost use Rattle.spool.specs.Kept.{AreFree};
+    ghost use Rattle.model.specs.Files.{free_inodes};
     ghost use Rattle.spool_growing.specs.Kept.{IsKept};
     ghost use Rattle.spool.specs.View.{SpoolView};
 
@@ -99,7 +98,7 @@ impl Model for Spool {
     } };
 
     ghost invariant = { λ s. IsKept s.host s.inodes s.volume s.index s.places s.stands.changes
-        × AreFree s.free_inodes s.inodes s.stands.changes × IsKnown s.inodes s.free s.volume.cache };
+        × (s.free_inodes ≡ free_inodes s.inodes s.volume.cache) × IsKnown s.inodes s.free s.volume.cache };
 }
 
 impl Spool {
@@ -107,17 +106,16 @@ impl Spool {
     ghost use Rattle.spool.specs.Refusals.{Tested, article_refusal, expiry_refusal, group_refusal, has_number, is_full_for};
     ghost use Rattle.spool.specs.View.{Adds, IsSpool};
 
-    /// The spool in the blocks of a volume, with its index, the places of its files, and the number of free inodes.
+    /// The spool in the blocks of a volume, with its index and the places of its files.
     pub fn of(
         alloc: Global,
         host: Text,
         inodes: u32,
-        free_inodes: u32,
         volume: Volume,
         index: Index,
         places: Places,
     ) -> Spool
-        requires { CanStand host inodes free_inodes volume index places }
+        requires { CanStand host inodes volume index places }
         ensures host { result.host ≡ host }
         ensures inodes { result.inodes ≡ inodes }
         ensures changes { (S : Changes) → Holds host inodes volume.cache S → result.changes ≡ S }
@@ -125,6 +123,7 @@ impl Spool {
         ensures dirty { result.dirty ≡ volume.dirty }
     {
         let blocks = free_block_count(&volume, inodes);
+        let free_inodes = free_inode_count(&volume, inodes);
         Spool {
             alloc,
             host,
@@ -158,7 +157,6 @@ impl Spool {
             alloc,
             host,
             inodes,
-            inodes,
             volume,
             Index::new(alloc),
             Places::new(alloc),
@@ -177,6 +175,20 @@ impl Spool {
         ensures { result ≡ self.now.inodes }
     {
         self.inodes
+    }
+
+    /// The number of inodes without a file.
+    pub fn free_inodes(&self) -> u32
+        ensures { result ≡ free_inodes self.now.inodes self.now.blocks }
+    {
+        self.free_inodes
+    }
+
+    /// The number of inodes with a file.
+    pub fn used_inodes(&self) -> u32
+        ensures { result + free_inodes self.now.inodes self.now.blocks ≡ self.now.inodes }
+    {
+        self.inodes - self.free_inodes
     }
 
     /// The number of logical blocks.
@@ -216,15 +228,14 @@ impl Spool {
 
     /// Whether too few blocks are free for a change.
     fn lacks_blocks(&self) -> bool
-        ensures { result ≡ nat_lt (free_blocks_beside (length self.now.blocks) self.now.inodes (files_of self.now.changes)) 256 }
+        ensures { result ≡ nat_lt (free_blocks self.now.blocks) 256 }
     {
         self.free.blocks < BLOCKS_ASKED
     }
 
     /// Whether too few blocks are free for a change, or too few inodes for its files.
     fn lacks_room(&self, files: u32) -> bool
-        ensures { result ≡ (nat_lt (free_blocks_beside (length self.now.blocks) self.now.inodes (files_of self.now.changes)) 256
-            || nat_lt (free_inodes_beside self.now.inodes (files_of self.now.changes)) files) }
+        ensures { result ≡ (nat_lt (free_blocks self.now.blocks) 256 || nat_lt (free_inodes self.now.inodes self.now.blocks) files) }
     {
         self.lacks_blocks() || self.free_inodes < files
     }

@@ -354,10 +354,10 @@ record_size S text g =
     omega (arith, records_size (length (overview_file S g)) ((a, next_line S text g) ∷ []), length-append (next_record S text g) [])
 
 module _ (host : Octets) (inodes : ℕ) (blocks : List Octets) (S : Spool) (f : Filing) (pieces : List Piece)
-    (is : IsHeld host inodes blocks S) (may : MayFile host S f) (room : is_full (length blocks) inodes S (Some (Article f)) ≡ false)
+    (is : IsHeld host inodes blocks S) (may : MayFile host S f) (room : is_full blocks inodes S (Some (Article f)) ≡ false)
     (are : ArePieces (table inodes blocks) S f.text f.envelope.groups pieces) where
-  rooms : HasRoomForChange (length blocks) inodes S (Article f)
-  rooms = not_full_room host (length blocks) inodes S (Article f) (changes_are_few host inodes blocks S is) is.held.lawful may room
+  rooms : HasRoomForChange blocks inodes S (Article f)
+  rooms = not_full_room host blocks inodes S (Article f) (changes_are_few host inodes blocks S is) is.held.lawful may room
 
   lines_short : (g : Octets) → length (next_line S f.text g) ≤ 8191
   lines_short g = (changes_ask_few host S (Article f) (changes_are_few host inodes blocks S is) is.held.lawful may).lines f g refl

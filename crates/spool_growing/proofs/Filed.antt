@@ -31,6 +31,7 @@ use Rattle.spool_growing.specs.Kept.{IsHeld, IsKept}
 use Rattle.spool_growing.specs.Growing.{Dirties}
 use Rattle.spool_growing.proofs.Absent.{lacks_serial}
 use Rattle.spool_growing.proofs.Adding.{pieces_call}
+use Rattle.spool_growing.proofs.Grown.{creates, inodes_taken}
 use Rattle.spool_growing.proofs.Held.{changes_are_few, grown, not_there}
 use Rattle.spool_growing.proofs.Touched.{touched_by}
 use Rattle.std.proofs.lemmas.List.{take_all}
@@ -125,6 +126,16 @@ module _ (inodes at : ℕ) (name octets : Octets) (pieces : List Piece) (old mid
 
 -- ---- the whole
 
+-- a file is made, and others are extended
+one_created : (name octets : Octets) (f : Piece → FileCall) (pieces : List Piece) → ((p : Piece) → creates (f p ∷ []) ≡ 0)
+    → creates (making_calls name octets ++ map f pieces) ≡ 1
+unfolding creates
+one_created name octets f [] none = refl
+one_created name octets f (p ∷ pieces) none = by_call (f p) (none p) where
+  by_call : (call : FileCall) → creates (call ∷ []) ≡ 0 → creates (making_calls name octets ++ call ∷ map f pieces) ≡ 1
+  by_call (Create other) is = absurd (omega (arith, is))
+  by_call (Append other more) is = one_created name octets f pieces none
+
 -- the calls of an article that is filed
 article_is_filed : (inodes : ℕ) (S : Spool) (f : Filing) (at : ℕ) (octets : Octets) (pieces : List Piece) (old new : List Octets)
     → octets ≡ article_record (news_article (length S + 1) f)
@@ -170,6 +181,7 @@ pub article_grown : (inodes : ℕ) (v m w : VolumeView) (i j : IndexView) (p q :
     → octets ≡ article_record (news_article serial f)
     → ((host : Octets) (S : Spool) → IsKept host inodes v i p S → ArePieces (table inodes v.cache) S f.text f.envelope.groups pieces)
     → IsGrown inodes v w i j p q (Article f)
+unfolding creates
 article_grown inodes v m w i j p q f at serial octets pieces seen made dirties cache now places indexed serials says are =
     let made' : FilesArticle inodes at (article_name serial) octets pieces v.cache w.cache =
     subst (λ (bs : List Octets). FilesArticle inodes at (article_name serial) octets pieces v.cache bs) (sym cache)
@@ -183,5 +195,13 @@ article_grown inodes v m w i j p q f at serial octets pieces seen made dirties c
           let its = serials S kept.indexed in
           kept_with_article host inodes v w i j p q S f at octets pieces kept may (said S its) (are host S kept)
           (named S its) places (indexed host S may kept) (now ∙ sym cache);
+      free = λ room rule.
+          let name = article_name serial in
+          let calls = making_calls name octets ++ map (append_call (table inodes v.cache)) pieces in
+          omega (
+            arith,
+            inodes_taken inodes calls v.cache w.cache made'.calls room rule,
+            one_created name octets (append_call (table inodes v.cache)) pieces (λ p. refl),
+          );
       dirties = dirties;
     }

@@ -6,18 +6,19 @@ use Rattle.std.proofs.lemmas.Bool.{cases_eq}
 use Rattle.std.proofs.lemmas.List.{length-map}
 use Rattle.std.proofs.lemmas.List.Sorted.{IsPermutation-refl, length_permutation}
 use Rattle.model.specs.Stream.{Octets}
-use Rattle.model.specs.Files.{File, files_in, table}
+use Rattle.model.specs.Files.{File, HasRoom, IsFileSystem, files_in, free_inodes, table}
 use Rattle.model.specs.Indexed.{FilePlaces}
 use Rattle.model.specs.Lawful.{MayMake, MayExpire}
 use Rattle.model.specs.Records.{expiry_record, group_record}
 use Rattle.model.specs.Spool.{Spool, group_named, news_expiry, news_group}
-use Rattle.model.specs.FileCalls.{Create, FileCall, after_calls, appended, change_calls, making_calls}
+use Rattle.model.specs.FileCalls.{Append, Create, FileCall, after_calls, appended, change_calls, making_calls}
 use Rattle.model.specs.SpoolFiles.{expiry_name, group_name}
 use Rattle.model.specs.SpoolFiles.{numbers_name, overview_name}
 use Rattle.model.specs.declared.change.Change.{Change}
 use Rattle.model.specs.declared.change.Change.TheVariants.{Group, Expire}
 use Rattle.model.specs.declared.change.Expiry.{Expiry}
 use Rattle.model.specs.declared.change.NewGroup.{NewGroup}
+use Rattle.model.proofs.Counting.{used_and_free}
 use Rattle.fs.specs.Calls.{IsFileAt, IsThere}
 use Rattle.filing.specs.Calls.{Calls, CreatesAt, MakesAt, SameFilesBut}
 use Rattle.filing.proofs.Calling.{calls_then}
@@ -71,6 +72,34 @@ files_after : (inodes : ℕ) (calls : List FileCall) (old new : List Octets) →
 files_after inodes calls old new made =
     sym (length_permutation (files_in (table inodes new)) (after_calls (files_in (table inodes old)) calls)
     (made.files (files_in (table inodes old)) (IsPermutation-refl (files_in (table inodes old)))))
+
+-- ---- the inodes that calls take
+
+-- the files that calls make
+pub creates : List FileCall → ℕ
+creates [] = 0
+creates (Create name ∷ calls) = 1 + creates calls
+creates (Append name octets ∷ calls) = creates calls
+
+pub more_files : (files : List File) (calls : List FileCall) → length (after_calls files calls) ≡ length files + creates calls
+unfolding creates
+more_files files [] = omega arith
+more_files files (Create name ∷ calls) =
+    let its : File = record { name = name; content = [] } in
+    omega (arith, more_files (files ++ its ∷ []) calls, length-append files (its ∷ []))
+more_files files (Append name octets ∷ calls) =
+    omega (arith, more_files (map (appended name octets) files) calls, length-map files (appended name octets))
+
+pub inodes_taken : (inodes : ℕ) (calls : List FileCall) (old new : List Octets) → Calls inodes calls old new → HasRoom inodes old
+    → IsFileSystem inodes old → free_inodes inodes new + creates calls ≡ free_inodes inodes old
+inodes_taken inodes calls old new made room rule =
+    omega (
+      arith,
+      used_and_free inodes old room rule,
+      used_and_free inodes new made.room made.rule,
+      files_after inodes calls old new made,
+      more_files (files_in (table inodes old)) calls,
+    )
 
 pub one_file_more : (inodes at : ℕ) (name octets : Octets) (old new : List Octets) → MakesAt inodes at name octets old new
     → length (files_in (table inodes new)) ≡ length (files_in (table inodes old)) + 1
@@ -187,6 +216,7 @@ pub group_grown : (inodes : ℕ) (v m w : VolumeView) (i j : IndexView) (p q : F
     → ((host : Octets) (S : Spool) → IsLawful host S → MayMake S g → Indexes S i → Indexes (S ++ Group g ∷ []) j)
     → ((S : Spool) → Indexes S i → octets ≡ group_record (news_group (length S + 1) g))
     → IsGrown inodes v w i j p q (Group g)
+unfolding creates
 group_grown inodes v m w i j p q g at numbers overview octets seen made dirties cache now places indexed says =
     let made' : MakesGroup inodes at numbers overview g.name octets v.cache w.cache =
     subst (λ (bs : List Octets). MakesGroup inodes at numbers overview g.name octets v.cache bs) (sym cache)
@@ -195,6 +225,7 @@ group_grown inodes v m w i j p q g at numbers overview octets seen made dirties 
       kept = λ host S kept may.
           kept_with_group host inodes v w i j p q S g at numbers overview octets kept may
           (says S kept.indexed) made' places (indexed host S kept.is.held.lawful may kept.indexed) (now ∙ sym cache);
+      free = λ room rule. inodes_taken inodes (group_calls g.name octets) v.cache w.cache made'.calls room rule;
       dirties = dirties;
     }
 
@@ -206,6 +237,7 @@ pub expiry_grown : (inodes : ℕ) (v m w : VolumeView) (i j : IndexView) (p q : 
     → ((S : Spool) → Indexes S i → serial ≡ length S + 1)
     → octets ≡ expiry_record (news_expiry serial e)
     → IsGrown inodes v w i j p q (Expire e)
+unfolding creates
 expiry_grown inodes v m w i j p q e at serial octets seen made dirties cache now places indexed serials says =
     let made' : MakesAt inodes at (expiry_name serial) octets v.cache w.cache =
     subst (λ (bs : List Octets). MakesAt inodes at (expiry_name serial) octets v.cache bs) (sym cache)
@@ -219,5 +251,6 @@ expiry_grown inodes v m w i j p q e at serial octets seen made dirties cache now
           let its = serials S kept.indexed in
           kept_with_expiry host inodes v w i j p q S e at octets kept may (said S its) (named S its) places
           (indexed S may kept.indexed) (now ∙ sym cache);
+      free = λ room rule. inodes_taken inodes (making_calls (expiry_name serial) octets) v.cache w.cache made'.calls room rule;
       dirties = dirties;
     }

@@ -6,16 +6,15 @@ use Rattle.std.specs.List.{Contains}
 use Rattle.std.proofs.lemmas.Bool.{ltb-false, or_parts}
 use Rattle.std.proofs.lemmas.List.Sorted.{Contains-permutation, length_permutation, sum_by-IsPermutation}
 use Rattle.model.specs.Stream.{Octets}
-use Rattle.model.specs.Files.{File, files_in, first_data, free_blocks, table}
+use Rattle.model.specs.Files.{File, files_in, free_blocks, free_inodes, table}
 use Rattle.model.specs.Lawful.{MayFollow}
-use Rattle.model.specs.Room.{blocks_asked, blocks_for, extends_large, files_made, free_blocks_beside, free_inodes_beside, has_all_groups}
-use Rattle.model.specs.Room.{is_full, is_full_for}
+use Rattle.model.specs.Room.{blocks_asked, extends_large, files_made, has_all_groups, is_full, is_full_for}
 use Rattle.model.specs.Spool.{Spool}
 use Rattle.model.specs.FileCalls.{change_calls}
 use Rattle.model.specs.SpoolFiles.{files_of}
 use Rattle.model.specs.declared.change.Change.{Change}
 use Rattle.model.specs.declared.change.Change.TheVariants.{Group, Article, Expire}
-use Rattle.model.proofs.Counting.{free_is_beside}
+use Rattle.model.proofs.Counting.{used_and_free}
 use Rattle.model.proofs.Growing.{spools_grow}
 use Rattle.model.proofs.HoldsOne.{changes_few}
 use Rattle.model.proofs.Opening.{is_among}
@@ -34,35 +33,23 @@ module _ (host : Octets) (inodes : ℕ) (blocks : List Octets) (S : Spool) (is :
   pub files_count : length (files_in (table inodes blocks)) ≡ length (files_of S)
   files_count = sym (length_permutation (files_in (table inodes blocks)) (files_of S) files_are)
 
-  pub blocks_beside : free_blocks blocks ≡ free_blocks_beside (length blocks) inodes (files_of S)
-  blocks_beside =
-      (free_is_beside inodes blocks is.held.files is.room is.held.held).blocks_are
-      ∙ ap (λ (n : ℕ). length blocks - (first_data (length blocks) inodes + n))
-      (sym (sum_by-IsPermutation (λ (f : File). blocks_for (length f.content)) is.held.files (files_of S) is.held.same))
-
   pub not_there : (q : Octets) → ((f : File) → Contains (files_of S) f → f.name ≢ q) → ¬ (IsThere (table inodes blocks) q)
   not_there q lacks (k, content, there) =
       let f : File = record { name = q; content = content } in
       lacks f (Contains-permutation (files_in (table inodes blocks)) (files_of S) f files_are (is_among (table inodes blocks) k f there))
       refl
 
-  pub enough : (c : Change) → is_full (length blocks) inodes S (Some c) ≡ false → HasFree inodes (files_made c) blocks
+  pub enough : (c : Change) → is_full blocks inodes S (Some c) ≡ false → HasFree inodes (files_made c) blocks
   unfolding is_full_for
   enough c room =
-      let free = free_blocks_beside (length blocks) inodes (files_of S) in
-      let left = free_inodes_beside inodes (files_of S) in
+      let free = free_blocks blocks in
+      let left = free_inodes inodes blocks in
       let first = or_parts (nat_lt free blocks_asked) (nat_lt left (files_made c) || (extends_large S c || has_all_groups S c)) room in
       let second = or_parts (nat_lt left (files_made c)) (extends_large S c || has_all_groups S c) first.1 in
-      let some : 1 ≤ files_made c = one_at_least c in
       record {
-        inodes_free = omega (arith, ltb-false left (files_made c) second.0, files_count, some);
-        blocks_free = omega (arith, ltb-false free blocks_asked first.0, blocks_beside);
+        inodes_free = omega (arith, ltb-false left (files_made c) second.0, used_and_free inodes blocks is.room is.held.held.rule);
+        blocks_free = ltb-false free blocks_asked first.0;
       }
-    where
-      one_at_least : (d : Change) → 1 ≤ files_made d
-      one_at_least (Group created) = omega arith
-      one_at_least (Article filing) = omega arith
-      one_at_least (Expire expiry) = omega arith
 
   -- they lead to the blocks that hold it
   pub grown : (c : Change) (new : List Octets) → MayFollow host S c → Calls inodes (change_calls S c) blocks new

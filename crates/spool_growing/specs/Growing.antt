@@ -1,10 +1,10 @@
 -- One more change, in all that a spool keeps.
 use Rattle.std.specs.Prelude.{◌≡◌, ◌⊎◌, ◌↔◌, ℕ, ◌+◌, ◌≤◌, false, List, [], ◌∷◌, ◌++◌, length, map, Some}
 use Rattle.std.specs.List.{Contains}
-use Rattle.model.specs.Files.{bitmap_blocks, files_in, free_blocks, table}
+use Rattle.model.specs.Files.{HasRoom, IsFileSystem, bitmap_blocks, files_in, free_blocks, free_inodes, table}
 use Rattle.model.specs.Indexed.{FilePlaces}
 use Rattle.model.specs.Lawful.{MayFollow}
-use Rattle.model.specs.Room.{is_full}
+use Rattle.model.specs.Room.{files_made, is_full}
 use Rattle.model.specs.Spool.{Spool}
 use Rattle.model.specs.FileCalls.{FileCall, Create, making_calls}
 use Rattle.model.specs.SpoolFiles.{group_name, numbers_name, overview_name}
@@ -60,11 +60,12 @@ pub record IsReady (inodes : ℕ) (volume : VolumeView) (index : IndexView) (pla
   pub changes : Spool
   pub kept : IsKept host inodes volume index places changes
   pub may : MayFollow host changes c
-  pub room : is_full (length volume.cache) inodes changes (Some c) ≡ false
+  pub room : is_full volume.cache inodes changes (Some c) ≡ false
 
--- if the blocks held changes that this one may follow, they now hold those and then this one
+-- If the blocks held changes that this one may follow, they now hold those and then this one. Each file that it makes took an inode.
 pub record IsGrown (inodes : ℕ) (v w : VolumeView) (i j : IndexView) (p q : FilePlaces) (c : Change) : Type 0 where
   pub kept : (host : Octets) (S : Spool) → IsKept host inodes v i p S → MayFollow host S c → IsKept host inodes w j q (S ++ c ∷ [])
+  pub free : HasRoom inodes v.cache → IsFileSystem inodes v.cache → free_inodes inodes w.cache + files_made c ≡ free_inodes inodes v.cache
   pub dirties : Dirties v.cache w.cache v.dirty w.dirty
 
 -- ---- an article

@@ -156,13 +156,6 @@ named_whole inodes S at f name there named not whole = subst (λ (o : Octets). I
 
 -- ---- how many
 
-pub used_and_free : (inodes : ℕ) (blocks : List Octets) → HasRoom inodes blocks → IsFileSystem inodes blocks
-    → free_inodes inodes blocks + length (files_in (table inodes blocks)) ≡ inodes
-used_and_free inodes blocks room rule =
-    let beside = (free_is_beside inodes blocks (files_in (table inodes blocks)) room (record { rule = rule; contents = refl })).inodes_are
-    in
-    omega (arith, beside, there_few (table inodes blocks), length-table inodes blocks)
-
 pub change_by_name : (f : File) (name : Octets) (b : Bool) → f.name ≡ name
     → ((content : Octets) → is_of_change (record { name = name; content = content }) ≡ b) → is_of_change f ≡ b
 change_by_name f name b named is = ap (λ (o : Octets). is_of_change (record { name = o; content = f.content })) named ∙ is f.content

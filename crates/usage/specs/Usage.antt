@@ -3,8 +3,6 @@ use Rattle.std.specs.Prelude.{◌≡◌, ℕ, ◌+◌, ◌*◌, List, [], count_
 use Rattle.std.specs.List.{range_with_len, sum_by}
 use Rattle.fs_layout.specs.Bits.{bit_of}
 use Rattle.model.specs.Files.{HasRoom, IsFileSystem, bitmap_blocks, free_blocks}
-use Rattle.model.specs.Spool.{Spool, groups}
-use Rattle.model.specs.SpoolFiles.{files_of}
 use Rattle.model.specs.Stream.{Octets}
 
 -- the number of bits that are set in these octets
@@ -28,7 +26,3 @@ abbrev pub BitsAreUsedBlocks : Type 0
 BitsAreUsedBlocks =
     (inodes : ℕ) (blocks : List Octets) → HasRoom inodes blocks → IsFileSystem inodes blocks
     → all_marked blocks + free_blocks blocks ≡ length blocks
-
--- every spool of this many changes and this many groups has this many files
-abbrev pub AreFilesOf : ℕ → ℕ → ℕ → Type 0
-AreFilesOf changes made files = (S : Spool) → length S ≡ changes → length (groups S) ≡ made → length (files_of S) ≡ files

@@ -5,16 +5,14 @@ ghost use Rattle.disk.specs.Device.{Elapses};
 ghost use Rattle.journal.specs.Inside.{LeftAs};
 ghost use Rattle.journal.specs.Journal.{IsReady};
 ghost use Rattle.model.specs.Files.{free_blocks};
-ghost use Rattle.model.specs.SpoolFiles.{files_of};
 ghost use Rattle.usage.specs.Usage.{all_marked};
 ghost use Rattle.volume_store.specs.Room.{lack_for};
 
 use crate::outcome::Lack;
 use disk::Disk;
 use journal::{Journal, JournalError};
-use lookups::LookUps;
 use spool::Spool;
-use usage::{BitmapMarks, inodes_used};
+use usage::BitmapMarks;
 
 /// A change is made only if this many blocks are free.
 const BLOCKS_ASKED: u64 = filing::BLOCKS_ASKED as u64;
@@ -24,25 +22,14 @@ const BLOCKS_ASKED: u64 = filing::BLOCKS_ASKED as u64;
 pub(crate) fn lack_by(spool: &Spool, used: u64, files: u64) -> Option<Lack>
     ensures { used + free_blocks spool.now.blocks ≡ length spool.now.blocks → result ≡ lack_for spool.now files }
 {
-    // its clauses state that the blocks hold the changes
-    spool.kept();
     let free = u64::from(spool.blocks()).saturating_sub(used);
     if free < BLOCKS_ASKED {
         return Some(Lack::Blocks);
     }
-    if u64::from(spool.inodes()).saturating_sub(inodes_of(spool)) < files {
+    if u64::from(spool.free_inodes()) < files {
         return Some(Lack::Inodes);
     }
     None
-}
-
-/// The number of files of a spool: each takes an inode.
-pub(crate) fn inodes_of(spool: &Spool) -> u64
-    ensures { result ≡ length (files_of spool.now.changes) }
-{
-    // its clauses state that the inodes suffice for the files
-    spool.kept();
-    inodes_used(spool.len(), spool.group_count() as u64)
 }
 
 /// The number of used blocks, by the bitmap on the device (docs/FORMATS.md). The only refusal is `Fault`, which halts the

@@ -4,9 +4,8 @@ ghost use Rattle.std.specs.Prelude.{◌≡◌, ◌≢◌, ◌+◌, ◌≤◌, �
 ghost use Rattle.disk.specs.Device.{Elapses};
 ghost use Rattle.journal.specs.Journal.{IsReady};
 ghost use Rattle.kernel.specs.Kernel.{most_dirty};
-ghost use Rattle.model.specs.Files.{free_blocks};
+ghost use Rattle.model.specs.Files.{free_blocks, free_inodes};
 ghost use Rattle.model.specs.Lawful.{MayFollow};
-ghost use Rattle.model.specs.SpoolFiles.{files_of};
 ghost use Rattle.opening.specs.Standing as standing;
 ghost use Rattle.opening.specs.Standing.{IsDamagedVolume, IsNoNewsVolume};
 ghost use Rattle.rnews.specs.LineEnds as ends;
@@ -17,7 +16,7 @@ ghost use Rattle.volume_store.specs.Room.{lack_for, lack_of};
 
 use crate::adding::add_change;
 use crate::outcome::{Lack, TextOutcome};
-use crate::room::{blocks_used, inodes_of, lack_by};
+use crate::room::{blocks_used, lack_by};
 use crate::transfer::file_text;
 use crate::writing::write;
 use change_spool::FilingError;
@@ -284,11 +283,11 @@ impl<D: Disk> Store<D> {
         blocks_used(&mut self.journal)
     }
 
-    /// The number of used inodes: that of the files of all changes, durable or not.
+    /// The number of used inodes, those of changes that are not durable yet among them.
     pub fn inodes_used(&self) -> u64
-        ensures { result ≡ length (files_of self.now.spool.changes) }
+        ensures { result + free_inodes self.now.spool.inodes self.now.spool.blocks ≡ self.now.spool.inodes }
     {
-        inodes_of(&self.spool)
+        u64::from(self.spool.used_inodes())
     }
 
     /// The device, as the store leaves it.

@@ -94,7 +94,7 @@ unfolding answers.answer
 mark_stops kernel seat m t mark is halted =
     ap (λ k. (answer_to kernel.host kernel.spool seat.session m t k).change) (is ∙ ap (λ b. if b then marks.Stopped
     else if is_long kernel.host kernel.spool seat.session m then marks.Long
-    else if is_full (length kernel.blocks) kernel.inodes kernel.spool
+    else if is_full kernel.blocks kernel.inodes kernel.spool
     (answer_to kernel.host kernel.spool seat.session m t marks.Served).change then marks.Full
     else marks.Served) halted)
 

@@ -1,5 +1,5 @@
 use Rattle.std.proofs.Common.{◌≡◌, inl, inr, true, false, length, refl, ◌∙◌, sym}
-use Rattle.model.specs.Room.{is_full_for}
+use Rattle.model.specs.Room.{is_full}
 use Rattle.model.specs.declared.change.Change.{Change}
 use Rattle.model.specs.declared.change.Change.TheVariants.{Article}
 use Rattle.spool.specs.View.{Adds}
@@ -16,7 +16,7 @@ pub returns-then-is_full_for_article : goal.returns-then-is_full_for_article
 returns-then-is_full_for_article c =
     let s = c.args.self.now in
     let its : Change = Article (record { text = c.args.article.now; envelope = c.args.envelope.now }) in
-    let full : is_full_for (length s.blocks) s.inodes s.changes its ≡ true =
+    let full : is_full s.blocks s.inodes s.changes (Some its) ≡ true =
     sym (c.is_full_for_article.ensures c.args.article.now) ∙ c.if-is_full_for_article.true in
     (inr (article_refused s its true full), refl)
 
@@ -28,7 +28,7 @@ pub returns-in-Err : goal.returns-in-Err
 returns-in-Err c =
     let s = c.args.self.now in
     let its : Change = Article (record { text = c.args.article.now; envelope = c.args.envelope.now }) in
-    let room : is_full_for (length s.blocks) s.inodes s.changes its ≡ false =
+    let room : is_full s.blocks s.inodes s.changes (Some its) ≡ false =
     sym (c.is_full_for_article.ensures c.args.article.now) ∙ c.if-is_full_for_article.false in
     (inl (refl, article_refused s its false room), c.in-Err.ensures.err)
 
@@ -37,7 +37,7 @@ returns-in-Ok c =
     let s = c.args.self.now in
     let n = c.push_article.new.self in
     let its : Change = Article (record { text = c.args.article.now; envelope = c.args.envelope.now }) in
-    let room : is_full_for (length s.blocks) s.inodes s.changes its ≡ false =
+    let room : is_full s.blocks s.inodes s.changes (Some its) ≡ false =
     sym (c.is_full_for_article.ensures c.args.article.now) ∙ c.if-is_full_for_article.false in
     let adds : Adds s n its = c.in-Ok.ensures.ok in
     (article_refused s its false room, (last_serial s n its c.len.result adds c.len.ensures, adds))

@@ -4,7 +4,8 @@ use Rattle.model.specs.Files.{files_in, table}
 use Rattle.model.specs.Indexed.{GroupIndex, group_index}
 use Rattle.model.specs.Spool.{groups}
 use Rattle.index_groups.specs.Shown.{shown}
-use Rattle.spool_opening.proofs.Whole.{count_used, used_and_free}
+use Rattle.model.proofs.Counting.{used_and_free}
+use Rattle.spool_opening.proofs.Whole.{count_used}
 use Rattle.spool_opening.proofs.ending.are_as_many.Goals as goal
 
 pub returns : goal.returns
