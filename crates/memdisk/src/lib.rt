@@ -4,12 +4,12 @@
 
 mod blocks;
 
-ghost use Rattle.std.specs.Prelude.{◌≡◌, ◌+◌, ◌≤◌, ◌↔◌, IsTrue, length, IfErr, IfOk, OnOk, IsErrOf, if◌then◌else◌};
+ghost use Rattle.std.specs.Prelude.{◌≡◌, ◌+◌, ◌≤◌, ◌↔◌, IsTrue, length, IfErr, IfOk, IsErrOf, if◌then◌else◌};
 ghost use Rattle.memdisk.specs.Calls.{after_read, after_sync, after_write, all_synced, blank, picked};
 ghost use Rattle.memdisk.specs.Memory.{IsSound};
 ghost use Rattle.memdisk.specs.Plans.{fails_next, is_kind, plan_after, plan_for, plan_for_kind};
-ghost use Rattle.disk.specs.Device.{IsUnchanged, LeavesNoMore, LeavesOnly, LeftNoMore, LeftTornAt, TearsAt, one_more};
-ghost use Rattle.disk.specs.Image.{part};
+ghost use Rattle.disk.specs.Calls.{Reads, Syncs, Writes};
+ghost use Rattle.disk.specs.Device.{IsUnchanged, LeavesOnly, one_more};
 
 use blocks::{BLOCK, Marks, put, settle_marked, sync_marked};
 use disk::{Disk, DiskCall, DiskError, Faults};
@@ -186,9 +186,8 @@ impl Disk for MemDisk {
     fn read(&mut self, at: u64, into: &mut [u8]) -> Result<(), DiskError>
         requires { at + length into.old ≤ (memory_device self.old).size }
         ensures fails { IsErrOf result DiskError.Fault ↔ IsTrue (fails_next DiskCall.Read (view self.old).plan) }
-        ensures no_memory { IfErr result (λ error. error ≡ DiskError.Fault) }
-        ensures value { OnOk result (into.new ≡ part at (length into.old) (view self.old).present) }
         ensures memory { view self.new ≡ after_read (view self.old) }
+        ensures reads { Reads at (length into.old) into.new result (memory_device self.old) (memory_device self.new) }
     {
         self.reads = self.reads.wrapping_add(1);
         self.plan.ask(DiskCall::Read, &mut self.failures)?;
@@ -201,10 +200,8 @@ impl Disk for MemDisk {
     fn write(&mut self, at: u64, from: &[u8]) -> Result<(), DiskError>
         requires { at + length from.now ≤ (memory_device self.old).size }
         ensures fails { IsErrOf result DiskError.Fault ↔ IsTrue (fails_next DiskCall.Write (view self.old).plan) }
-        ensures no_memory { IfErr result (λ error. error ≡ DiskError.Fault) }
         ensures memory { view self.new ≡ after_write at from.now (view self.old) }
-        ensures crash { TearsAt at (length from.now) (memory_device self.old) (memory_device self.new) }
-        ensures since { LeftTornAt at (length from.now) (memory_device self.old) (memory_device self.new) }
+        ensures writes { Writes false at from.now result (memory_device self.old) (memory_device self.new) }
     {
         self.writes = self.writes.wrapping_add(1);
         let at = at as usize;
@@ -215,11 +212,8 @@ impl Disk for MemDisk {
 
     fn sync(&mut self) -> Result<(), DiskError>
         ensures fails { IsErrOf result DiskError.Fault ↔ IsTrue (fails_next DiskCall.Sync (view self.old).plan) }
-        ensures no_memory { IfErr result (λ error. error ≡ DiskError.Fault) }
         ensures memory { view self.new ≡ after_sync (view self.old) }
-        ensures durable { OnOk result (LeavesOnly (memory_device self.new) (view self.old).present) }
-        ensures crash { LeavesNoMore (memory_device self.old) (memory_device self.new) }
-        ensures since { LeftNoMore (memory_device self.old) (memory_device self.new) }
+        ensures syncs { Syncs false result (memory_device self.old) (memory_device self.new) }
     {
         self.syncs = self.syncs.wrapping_add(1);
         self.plan.ask(DiskCall::Sync, &mut self.failures)?;

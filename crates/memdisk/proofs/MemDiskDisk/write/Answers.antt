@@ -1,4 +1,4 @@
-use Rattle.std.proofs.Common.{◌+◌, ◌≤◌, inr, Bool, true, ℕ, List, length, replicate, sym, subst, arith}
+use Rattle.std.proofs.Common.{rules, ◌+◌, ◌≤◌, inr, Bool, true, ℕ, List, length, replicate, sym, subst, arith}
 use Rattle.disk.specs.Image.{overwritten}
 use Rattle.memdisk.specs.Memory.{IsSound, IsCrashImage}
 use Rattle.memdisk.proofs.Torn.{written_sound, was_torn}
@@ -20,16 +20,20 @@ invariant_of-self c =
           (sym c.put.ensures.touched) put_in;
     }
 
-pub returns-clause-crash : goal.returns-clause-crash
-returns-clause-crash c image left =
+pub returns-clause-writes : goal.returns-clause-writes
+returns-clause-writes c =
     let old = c.args.self.now in
     let fits : c.args.at + length c.args.from.now ≤ length old.present.items = omega (arith, c.requires, old.sound.size) in
+    let torn = λ (image : List ℕ) (left : IsCrashImage old.synced.items c.put.new.touched.items image).
     was_torn _ _ _ _ c.args.at c.args.from.now old.sound fits image
-    (subst (λ (flags : List Bool). IsCrashImage old.synced.items flags image) c.put.ensures.touched left)
-
-pub returns-clause-since : goal.returns-clause-since
-returns-clause-since c t image earlier left =
-    let old = c.args.self.now in
-    let fits : c.args.at + length c.args.from.now ≤ length old.present.items = omega (arith, c.requires, old.sound.size) in
-    inr (was_torn _ _ _ _ c.args.at c.args.from.now old.sound fits image
-    (subst (λ (flags : List Bool). IsCrashImage old.synced.items flags image) c.put.ensures.touched left))
+    (subst (λ (flags : List Bool). IsCrashImage old.synced.items flags image) c.put.ensures.touched left) in
+    record {
+      content = search rules;
+      crash = λ t. torn;
+      since = λ t time image earlier left. inr (torn image left);
+      time = search rules;
+      call = search rules;
+      cause = search rules;
+      refused = search rules;
+      memory = search rules;
+    }
