@@ -168,10 +168,11 @@ module _ (fills : List Fill) (flags octets : List ℕ) (start from : ℕ) (whole
 
 -- ---- calls one after the other
 
-module _ {D : Type 0} (device : D → Device) where
-  pub makes_append : (front back : List Call) (result : Result (Unit {0}) DiskError) (old mid last : D) → Makes device front (Ok tt) old mid
-      → Makes device back result mid last → Makes device (front ++ back) result old last
-  makes_append [] back result old mid last none more = subst (λ (d : D). Makes device back result d last) none.1 more
+module _ {D : Type 0} (device : D → Device) (write_grows sync_grows : Bool) where
+  pub makes_append : (front back : List Call) (result : Result (Unit {0}) DiskError) (old mid last : D)
+      → Makes device write_grows sync_grows front (Ok tt) old mid
+      → Makes device write_grows sync_grows back result mid last → Makes device write_grows sync_grows (front ++ back) result old last
+  makes_append [] back result old mid last none more = subst (λ (d : D). Makes device write_grows sync_grows back result d last) none.1 more
   makes_append (call ∷ front) back result old mid last (inl did) more =
       inl (did.0, (did.1.0, makes_append front back result did.0 mid last did.1.1 more))
   makes_append (call ∷ front) back result old mid last (inr refused) more = absurd (no_err refused.0)
@@ -180,8 +181,8 @@ module _ {D : Type 0} (device : D → Device) where
       no_err is = cc
 
   -- a refusal ends them
-  pub makes_cut : (front back : List Call) (e : DiskError) (old last : D) → Makes device front (Err e) old last
-      → Makes device (front ++ back) (Err e) old last
+  pub makes_cut : (front back : List Call) (e : DiskError) (old last : D) → Makes device write_grows sync_grows front (Err e) old last
+      → Makes device write_grows sync_grows (front ++ back) (Err e) old last
   makes_cut [] back e old last none = absurd (no_ok e (Err e) refl none.0)
     where
       no_ok : (e : DiskError) (r : Result (Unit {0}) DiskError) → r ≡ Err e → r ≡ Ok tt → ⊥
@@ -189,15 +190,16 @@ module _ {D : Type 0} (device : D → Device) where
   makes_cut (call ∷ front) back e old last (inl did) = inl (did.0, (did.1.0, makes_cut front back e did.0 last did.1.1))
   makes_cut (call ∷ front) back e old last (inr refused) = inr refused
 
-  pub makes_one : (call : Call) (result : Result (Unit {0}) DiskError) (old new : D) → Does call result (device old) (device new)
-      → Makes device (call ∷ []) result old new
+  pub makes_one : (call : Call) (result : Result (Unit {0}) DiskError) (old new : D)
+      → Does write_grows sync_grows call result (device old) (device new)
+      → Makes device write_grows sync_grows (call ∷ []) result old new
   makes_one call (Ok x) old new did = inl (new, (did, (refl, refl)))
   makes_one call (Err e) old new did = inr (refl, did)
 
   -- whatever the rest of the calls do, all of them do
   pub record IsGivingTo (all rest : List Call) (first now : D) : Type 0 where
-    pub continues : (result : Result (Unit {0}) DiskError) (last : D) → Makes device rest result now last
-        → Makes device all result first last
+    pub continues : (result : Result (Unit {0}) DiskError) (last : D) → Makes device write_grows sync_grows rest result now last
+        → Makes device write_grows sync_grows all result first last
     pub size : (device now).size ≡ (device first).size
 
   pub giving_starts : (start : ℕ) (cs : List (Option ℕ)) (d : D)
@@ -205,45 +207,49 @@ module _ {D : Type 0} (device : D → Device) where
   giving_starts start cs d = record {
     continues = λ result last made.
         let same : start + 0 ≡ start = omega arith in
-        subst (λ (n : ℕ). Makes device (writes_of (runs_from n cs)) result d last) same made;
+        subst (λ (n : ℕ). Makes device write_grows sync_grows (writes_of (runs_from n cs)) result d last) same made;
     size = refl;
   }
 
   -- one more good write
   pub giving_more : (all : List Call) (run : Run) (runs : List Run) (first now next : D) → IsGivingTo all (writes_of (run ∷ runs)) first now
-      → Writes run.at run.octets (Ok tt) (device now) (device next) → IsGivingTo all (writes_of runs) first next
+      → Writes write_grows run.at run.octets (Ok tt) (device now) (device next) → IsGivingTo all (writes_of runs) first next
   giving_more all run runs first now next so_far did = record {
     continues = λ result last made. so_far.continues result last (inl (next, (did, made)));
     size = did.time.size ∙ so_far.size;
   }
 
   pub giving_refused : (all : List Call) (run : Run) (runs : List Run) (first now next : D) (e : DiskError)
-      → IsGivingTo all (writes_of (run ∷ runs)) first now → Writes run.at run.octets (Err e) (device now) (device next)
-      → Makes device all (Err e) first next
+      → IsGivingTo all (writes_of (run ∷ runs)) first now → Writes write_grows run.at run.octets (Err e) (device now) (device next)
+      → Makes device write_grows sync_grows all (Err e) first next
   giving_refused all run runs first now next e so_far did = so_far.continues (Err e) next (inr (refl, did))
 
   pub giving_done : (all : List Call) (runs : List Run) (first now : D) → runs ≡ [] → IsGivingTo all (writes_of runs) first now
-      → Makes device all (Ok tt) first now
+      → Makes device write_grows sync_grows all (Ok tt) first now
   giving_done all runs first now none so_far =
-      so_far.continues (Ok tt) now (subst (λ (rs : List Run). Makes device (writes_of rs) (Ok tt) now now) (sym none) (refl, refl))
+      so_far.continues (Ok tt) now (subst (λ (rs : List Run). Makes device write_grows sync_grows (writes_of rs) (Ok tt) now now)
+      (sym none) (refl, refl))
 
   writes_append : (xs ys : List Run) → writes_of (xs ++ ys) ≡ writes_of xs ++ writes_of ys
   writes_append xs ys = map-append (λ (run : Run). Call.Write run.at run.octets) xs ys
 
   -- the runs of one block more
   pub giving_block : (all : List Call) (xs ys : List Run) (first now next : D) → IsGivingTo all (writes_of (xs ++ ys)) first now
-      → (device next).size ≡ (device now).size → Makes device (writes_of xs) (Ok tt) now next → IsGivingTo all (writes_of ys) first next
+      → (device next).size ≡ (device now).size → Makes device write_grows sync_grows (writes_of xs) (Ok tt) now next
+      → IsGivingTo all (writes_of ys) first next
   giving_block all xs ys first now next so_far size did = record {
     continues = λ result last made. so_far.continues result last
-        (subst (λ (calls : List Call). Makes device calls result now last) (sym (writes_append xs ys))
+        (subst (λ (calls : List Call). Makes device write_grows sync_grows calls result now last) (sym (writes_append xs ys))
         (makes_append (writes_of xs) (writes_of ys) result now next last did made));
     size = size ∙ so_far.size;
   }
 
   pub giving_block_refused : (all : List Call) (xs ys : List Run) (first now next : D) (e : DiskError)
-      → IsGivingTo all (writes_of (xs ++ ys)) first now → Makes device (writes_of xs) (Err e) now next → Makes device all (Err e) first next
+      → IsGivingTo all (writes_of (xs ++ ys)) first now → Makes device write_grows sync_grows (writes_of xs) (Err e) now next
+      → Makes device write_grows sync_grows all (Err e) first next
   giving_block_refused all xs ys first now next e so_far did =
-      so_far.continues (Err e) next (subst (λ (calls : List Call). Makes device calls (Err e) now next) (sym (writes_append xs ys))
+      so_far.continues (Err e) next (subst (λ (calls : List Call). Makes device write_grows sync_grows calls (Err e) now next)
+      (sym (writes_append xs ys))
       (makes_cut (writes_of xs) (writes_of ys) e now next did))
 
 -- ---- blocks of a table

@@ -1,17 +1,19 @@
 -- The clauses of each call of a cache, by what its parts did.
-use Rattle.std.proofs.Common.{◌≡◌, ◌⊎◌, inl, inr, ◌<◌, ◌≤◌, ℕ, ◌+◌, ◌-◌, IsTrue, List, length, get_or, map, Option, Some, None, refl, sym}
-use Rattle.std.proofs.Common.{◌∙◌, ap, subst, arith, Result, Ok, Err}
+use Rattle.std.proofs.Common.{◌≡◌, ◌⊎◌, inl, inr, ◌<◌, ◌≤◌, ℕ, ◌+◌, ◌-◌, ◌||◌, Bool, true, IsTrue, List, length, get_or, map, Option}
+use Rattle.std.proofs.Common.{Some, None, refl, sym, ◌∙◌, ap, subst, arith, Result, Ok, Err}
 use Rattle.std.specs.Option.{unwrap_or}
-use Rattle.disk.specs.Calls.{Makes}
-use Rattle.disk.specs.Device.{Device, IsRefused, LeftTornAt, TearsAt}
+use Rattle.disk.specs.Calls.{Makes, Reads, Syncs, Writes}
+use Rattle.disk.specs.Device.{Device, Elapses, one_more}
 use Rattle.disk.specs.declared.DiskError.{DiskError}
+use Rattle.disk.specs.declared.DiskError.TheVariants.{Fault, Memory}
 use Rattle.disk.specs.Image.{overwritten, part, Torn}
+use Rattle.wcache.specs.Cache.{CacheView, cache_device}
 use Rattle.wcache.specs.Collected.{MayLeave, shown}
 use Rattle.wcache.specs.Runs.{calls_of, runs_from}
 use Rattle.wcache.specs.Slots.{places}
 use Rattle.wcache.proofs.Blocks.{length-places, places_at}
-use Rattle.wcache.proofs.Cached.{collected_torn, leaves_durable, leaves_given, leaves_synced, left_given, left_synced, shown_collected}
-use Rattle.wcache.proofs.Cached.{written_is_shown}
+use Rattle.wcache.proofs.Cached.{collected_torn, leaves_durable, leaves_given, leaves_less, leaves_synced, left_collected, left_given}
+use Rattle.wcache.proofs.Cached.{left_less, left_synced, shown_collected, written_is_shown}
 use Rattle.wcache.proofs.Chain.{AreDurable, IsGiven, durable, given, none_yet}
 use Rattle.wcache.proofs.Places.{places_collected}
 use Rattle.wcache.proofs.RunLaws.{runs_parts}
@@ -53,7 +55,7 @@ module _ (dev : Device) (len at : ℕ) (from : List ℕ) (old new : ℕ → Opti
       (torn.0, (now.0, (now.1.0, torn.1.0)), torn.1.1)
 
 -- what a read gives, where the device below gave these octets
-pub read_value : (dev : Device) (len at n : ℕ) (taken : ℕ → Option ℕ) (below into : List ℕ) → dev.size ≡ len → length dev.content ≡ dev.size
+read_value : (dev : Device) (len at n : ℕ) (taken : ℕ → Option ℕ) (below into : List ℕ) → dev.size ≡ len → length dev.content ≡ dev.size
     → at + n ≤ dev.size → length into ≡ n → below ≡ part at n dev.content
     → ((k : ℕ) → k < n → get_or into k 0 ≡ unwrap_or (taken (at + k)) (get_or below k 0))
     → into ≡ part at n (shown (places taken len) dev.content)
@@ -62,18 +64,18 @@ read_value dev len at n taken below into size sized fits into_size is each =
     (λ k within. each k within ∙ ap (λ (c : Option ℕ). unwrap_or c (get_or below k 0))
     (sym (places_at taken len (at + k) (omega (arith, within, fits, size)))))
 
--- a call that changed nothing
-pub record IsUntouched (at n : ℕ) (old new : Device) : Type 0 where
-  pub crash : TearsAt at n old new
-  pub since : LeftTornAt at n old new
-  pub refused : IsRefused old new
-
-pub untouched : (at n : ℕ) (d : Device) → IsUntouched at n d d
-untouched at n d = record {
-  crash = λ c left. (c, left, record { size = refl; below = λ k low. refl; above = λ k high. refl; octets = λ k low high. inl refl });
-  since = λ t c before left. inl left;
-  refused = record {
-    time = record { size = refl; tells = refl; later = omega arith };
+-- a write that was refused for want of memory changed nothing
+pub not_written : (at : ℕ) (octets : List ℕ) (d : Device) → Writes true at octets (Err Memory) d d
+not_written at octets d = record {
+  content = λ t. tt;
+  crash = λ t c left.
+      (c, left, record { size = refl; below = λ k low. refl; above = λ k high. refl; octets = λ k low high. inl refl });
+  since = λ t time c before left. inl left;
+  time = same;
+  call = λ is. absurd cc;
+  cause = record { ok = tt; fault = λ is. absurd cc };
+  refused = λ is. record {
+    time = same;
     content = λ t. refl;
     crash = λ t c left. left;
     since = λ t time c before left. left;
@@ -82,44 +84,125 @@ untouched at n d = record {
     syncs = refl;
     failures = refl;
   };
+  memory = λ is. refl;
 }
+  where
+    same : Elapses d d
+    same = record { size = refl; tells = refl; later = omega arith }
 
--- a sync
-module _ (D : Type 0) (device : D → Device) (sized : (d : D) → IsTrue (device d).tells → length (device d).content ≡ (device d).size)
-    (first last : D) (cs : List (Option ℕ)) (few : length cs ≤ (device first).size) where
-  pub sync_given : (result : Result (Unit {0}) DiskError) → Makes device (calls_of cs) result first last
-      → IsGiven cs result (device first) (device last)
-  sync_given result made = given D device sized cs first few (runs_from 0 cs) result first last (runs_parts cs 0)
-      (none_yet cs (device first)) made
+module _ (D : Type 0) (device : D → Device) where
+  -- a cache with these octets collected
+  abbrev cache : D → List (Option ℕ) → (reads writes syncs : ℕ) → CacheView D
+  cache d cs reads writes syncs = record { disk = d; collected = cs; reads = reads; writes = writes; syncs = syncs }
 
-  pub err_crash : (e : DiskError) → Makes device (calls_of cs) (Err e) first last → IsTrue (device first).tells → (c : List ℕ)
-      → MayLeave (device last) cs c → MayLeave (device first) cs c
-  err_crash e made t = leaves_given cs (device first) (device last) ((sync_given (Err e) made).crash t)
+  -- a read, where the device below gave these octets
+  pub is_read : (first last : D) (len at n : ℕ) (taken : ℕ → Option ℕ) (below into : List ℕ) (reads writes syncs : ℕ)
+      → (device first).size ≡ len → (IsTrue (device first).tells → length (device first).content ≡ (device first).size)
+      → at + n ≤ (device first).size → length into ≡ n
+      → ((k : ℕ) → k < n → get_or into k 0 ≡ unwrap_or (taken (at + k)) (get_or below k 0))
+      → Reads at n below (Ok tt) (device first) (device last)
+      → Reads at n into (Ok tt) (cache_device device (cache first (places taken len) reads writes syncs))
+      (cache_device device (cache last (places taken len) (one_more reads) writes syncs))
+  is_read first last len at n taken below into reads writes syncs size sized fits into_size each did = record {
+    value = λ t. read_value (device first) len at n taken below into size (sized t) fits into_size (did.value t) each;
+    content = λ t. ap (shown (places taken len)) (did.content t);
+    crash = λ t. leaves_less (places taken len) (device first) (device last) (did.crash t);
+    since = λ t. left_less (places taken len) (device first) (device last) (did.crash t) (did.since t);
+    time = record { size = did.time.size; tells = did.time.tells; later = did.time.later };
+    call = record { reads = refl; writes = refl; syncs = refl };
+    cause = record { ok = did.cause.ok; fault = tt };
+    no_memory = tt;
+  }
 
-  pub err_since : (e : DiskError) → Makes device (calls_of cs) (Err e) first last → IsTrue (device first).tells → (t : ℕ) (c : List ℕ)
-      → t ≤ (device first).clock → (device last).left_since t c ⊎ MayLeave (device last) cs c
-      → (device first).left_since t c ⊎ MayLeave (device first) cs c
-  err_since e made t = left_given cs (device first) (device last) ((sync_given (Err e) made).crash t) ((sync_given (Err e) made).since t)
+  -- a write whose octets were collected
+  pub written : (d : D) (len at : ℕ) (from : List ℕ) (old new : ℕ → Option ℕ) (reads writes syncs : ℕ) → (device d).size ≡ len
+      → ((c : List ℕ) → IsTrue (device d).tells → (device d).may_leave c → length c ≡ (device d).size)
+      → (IsTrue (device d).tells → length (device d).content ≡ (device d).size) → at + length from ≤ (device d).size
+      → ((k : ℕ) → at ≤ k → k < at + length from → new k ≡ Some (get_or from (k - at) 0))
+      → ((k : ℕ) → (k < at) ⊎ (at + length from ≤ k) → new k ≡ old k) → ((k : ℕ) → len ≤ k → old k ≡ None)
+      → ((i : ℕ) → get_or from i 0 < 256)
+      → Writes true at from (Ok tt) (cache_device device (cache d (places old len) reads writes syncs))
+      (cache_device device (cache d (places new len) reads (one_more writes) syncs))
+  written d len at from old new reads writes syncs size image_size sized fits inside outside past octets = record {
+    content = collects_content (device d) len at from old new size sized fits inside outside past;
+    crash = λ t. torn t;
+    since = λ t time c before left.
+        left_collected (places old len) (device d) (device d) (places new len) _ (torn t) time c left;
+    time = record { size = refl; tells = refl; later = omega arith };
+    call = record { reads = refl; writes = refl; syncs = refl };
+    cause = record { ok = refl; fault = tt };
+    refused = tt;
+    memory = tt;
+  }
+    where
+      torn : IsTrue (device d).tells → (c : List ℕ) → MayLeave (device d) (places new len) c
+          → (e : List ℕ) × MayLeave (device d) (places old len) e × Torn at (length from) e c
+      torn t = collects_crash (device d) len at from old new size sized fits inside outside past (λ c left. image_size c t left) octets
 
-  module _ (made : Makes device (calls_of cs) (Ok tt) first last) (nones : List (Option ℕ)) (none : (k : ℕ)
-      → get_or nones k None ≡ None) where
-    given_image : IsTrue (device first).tells → AreDurable D device sized (shown cs (device first).content) last
-    given_image t =
-        let whole = sized first t in
-        subst (λ (image : List ℕ). AreDurable D device sized image last)
-        (written_is_shown cs (device first).content (omega (arith, whole, few)))
-        (durable D device sized (runs_from 0 cs) first last made t)
+  -- a sync
+  module _ (write_grows sync_grows : Bool) (sized : (d : D) → IsTrue (device d).tells → length (device d).content ≡ (device d).size)
+      (first last : D) (cs : List (Option ℕ)) (few : length cs ≤ (device first).size) (reads writes syncs : ℕ) where
+    pub sync_given : (result : Result (Unit {0}) DiskError) → Makes device write_grows sync_grows (calls_of cs) result first last
+        → IsGiven cs (write_grows || sync_grows) result (device first) (device last)
+    sync_given result made = given D device write_grows sync_grows sized cs first few (runs_from 0 cs) result first last
+        (runs_parts cs 0) (none_yet cs (device first)) made
 
-    pub ok_content : IsTrue (device first).tells → shown nones (device last).content ≡ shown cs (device first).content
-    ok_content t = shown_none nones (device last).content none ∙ (given_image t).content
+    -- a refused one: what was collected stays
+    pub not_synced : (e : DiskError) (asked : ℕ) → (e ≡ Fault → asked ≡ one_more syncs) → (e ≡ Memory → asked ≡ syncs)
+        → Makes device write_grows sync_grows (calls_of cs) (Err e) first last
+        → Syncs (write_grows || sync_grows) (Err e) (cache_device device (cache first cs reads writes syncs))
+        (cache_device device (cache last cs reads writes asked))
+    not_synced e asked counted uncounted made =
+        let after = sync_given (Err e) made in
+        let time : Elapses (cache_device device (cache first cs reads writes syncs))
+        (cache_device device (cache last cs reads writes asked)) =
+        record { size = after.time.size; tells = after.time.tells; later = after.time.later } in
+        let crash = λ (t : IsTrue (device first).tells). leaves_given cs (device first) (device last) (after.crash t) in
+        let since = λ (t : IsTrue (device first).tells). left_given cs (device first) (device last) (after.crash t) (after.since t) in
+        record {
+          durable = λ t. tt;
+          content = λ t. tt;
+          crash = crash;
+          since = since;
+          time = time;
+          call = λ is. record { reads = refl; writes = refl; syncs = counted is };
+          cause = record { ok = tt; fault = after.cause.fault };
+          refused = λ is. record {
+            time = time;
+            content = λ t. after.refused t is;
+            crash = crash;
+            since = since;
+            reads = refl;
+            writes = refl;
+            syncs = uncounted is;
+            failures = after.uncounted is;
+          };
+          memory = after.memory;
+        }
 
-    pub ok_durable : IsTrue (device first).tells → (c : List ℕ) → MayLeave (device last) nones c → c ≡ shown cs (device first).content
-    ok_durable t = leaves_durable cs (device first) (device last) nones none (shown cs (device first).content) (given_image t).only
-
-    pub ok_crash : IsTrue (device first).tells → (c : List ℕ) → MayLeave (device last) nones c → MayLeave (device first) cs c
-    ok_crash t = leaves_synced cs (device first) (device last) nones none ((sync_given (Ok tt) made).crash t)
-
-    pub ok_since : IsTrue (device first).tells → (t : ℕ) (c : List ℕ) → t ≤ (device first).clock
-        → (device last).left_since t c ⊎ MayLeave (device last) nones c → (device first).left_since t c ⊎ MayLeave (device first) cs c
-    ok_since t = left_synced cs (device first) (device last) nones none ((sync_given (Ok tt) made).crash t)
-        ((sync_given (Ok tt) made).since t)
+    -- a good one: nothing is collected any more
+    pub is_synced : (nones : List (Option ℕ)) → ((k : ℕ) → get_or nones k None ≡ None)
+        → Makes device write_grows sync_grows (calls_of cs) (Ok tt) first last
+        → Syncs (write_grows || sync_grows) (Ok tt) (cache_device device (cache first cs reads writes syncs))
+        (cache_device device (cache last nones reads writes (one_more syncs)))
+    is_synced nones none made =
+        let after = sync_given (Ok tt) made in
+        record {
+          durable = λ t. leaves_durable cs (device first) (device last) nones none (shown cs (device first).content) (image t).only;
+          content = λ t. shown_none nones (device last).content none ∙ (image t).content;
+          crash = λ t. leaves_synced cs (device first) (device last) nones none (after.crash t);
+          since = λ t. left_synced cs (device first) (device last) nones none (after.crash t) (after.since t);
+          time = record { size = after.time.size; tells = after.time.tells; later = after.time.later };
+          call = record { reads = refl; writes = refl; syncs = refl };
+          cause = record { ok = after.cause.ok; fault = tt };
+          refused = tt;
+          memory = tt;
+        }
+      where
+        image : IsTrue (device first).tells
+            → AreDurable D device write_grows sync_grows sized (shown cs (device first).content) last
+        image t =
+            let whole = sized first t in
+            subst (λ (image : List ℕ). AreDurable D device write_grows sync_grows sized image last)
+            (written_is_shown cs (device first).content (omega (arith, whole, few)))
+            (durable D device write_grows sync_grows sized (runs_from 0 cs) first last made t)

@@ -1,12 +1,13 @@
 -- What the calls of a sync leave of the device, and what a crash at each moment of them leaves.
-use Rattle.std.proofs.Common.{◌≡◌, ◌⊎◌, inl, inr, ⊎_elim, ◌<◌, ◌≤◌, ℕ, ◌+◌, ◌-◌, Bool, IsTrue, List, [], ◌∷◌, ◌++◌, length, get_or, Option}
-use Rattle.std.proofs.Common.{Some, None, refl, sym, ◌∙◌, ap, subst, arith, Result, Ok, Err, IsErr, OnOk, IfErr}
+use Rattle.std.proofs.Common.{◌≡◌, ◌⊎◌, inl, inr, ⊎_elim, ◌<◌, ◌≤◌, ℕ, ◌+◌, ◌-◌, ◌||◌, Bool, IsTrue, List, [], ◌∷◌, ◌++◌, length, get_or}
+use Rattle.std.proofs.Common.{Option, Some, None, refl, sym, ◌∙◌, ap, subst, arith, Result, Ok, Err, IsErr, OnOk, IfErr}
 use Rattle.disk.specs.Calls.{Call, Makes, Syncs, Writes}
 use Rattle.disk.specs.Device.{Device, Elapses, HasCause, IsTornImage, LeavesOnly}
 use Rattle.disk.specs.Image.{Torn}
 use Rattle.disk.specs.declared.DiskError.{DiskError}
 use Rattle.disk.specs.declared.DiskError.TheVariants.{Memory}
 use Rattle.disk.proofs.Devices.{elapses_then}
+use Rattle.std.proofs.lemmas.Bool.{or_left, or_right}
 use Rattle.wcache.specs.Collected.{IsOver, MayBe, MayLeave, shown}
 use Rattle.wcache.specs.Runs.{Run, writes_of}
 use Rattle.wcache.proofs.RunLaws.{AreParts, IsPart}
@@ -60,12 +61,13 @@ module _ (cs : List (Option ℕ)) where
         → first.left_since t c ⊎ MayLeave first cs c
 
   -- after them all, or after one that was refused
-  pub record IsGiven (result : Result (Unit {0}) DiskError) (first new : Device) : Type 0 where
+  pub record IsGiven (grows : Bool) (result : Result (Unit {0}) DiskError) (first new : Device) : Type 0 where
     pub time : Elapses first new
     pub cause : HasCause result first new
     pub content : IsTrue first.tells → OnOk result (shown cs new.content ≡ shown cs first.content)
     pub refused : IsTrue first.tells → IfErr result (λ e. e ≡ Memory → shown cs new.content ≡ shown cs first.content)
     pub uncounted : IfErr result (λ e. e ≡ Memory → new.failures ≡ first.failures)
+    pub memory : IfErr result (λ e. e ≡ Memory → IsTrue grows)
     pub crash : IsTrue first.tells → (c : List ℕ) → new.may_leave c → MayLeave first cs c
     pub since : IsTrue first.tells → (t : ℕ) (c : List ℕ) → t ≤ first.clock → new.left_since t c
         → first.left_since t c ⊎ MayLeave first cs c
@@ -95,24 +97,25 @@ module _ (cs : List (Option ℕ)) where
   torn_partly first now at octets each partly t c torn =
       over_partly first now partly t torn.0 c torn.1 (torn_over cs at octets torn.0 c each torn.2)
 
-  since_write : (first now next : Device) (at : ℕ) (octets : List ℕ) (result : Result (Unit {0}) DiskError)
+  since_write : (grows : Bool) (first now next : Device) (at : ℕ) (octets : List ℕ) (result : Result (Unit {0}) DiskError)
       → ((i : ℕ) → i < length octets → get_or cs (at + i) None ≡ Some (get_or octets i 0)) → IsPartly first now
-      → Writes at octets result now next
+      → Writes grows at octets result now next
       → IsTrue first.tells → (t : ℕ) (c : List ℕ) → t ≤ first.clock → next.left_since t c → first.left_since t c ⊎ MayLeave first cs c
-  since_write first now next at octets result each partly did t time c before left =
+  since_write grows first now next at octets result each partly did t time c before left =
       ⊎_elim (λ earlier. partly.since t time c before earlier) (λ torn. inr (torn_partly first now at octets each partly t c torn))
       (did.since (now_tells first now partly t) time c (omega (arith, before, partly.time.later)) left)
 
-  since_sync : (first now next : Device) (result : Result (Unit {0}) DiskError) → IsPartly first now → Syncs result now next
+  since_sync : (grows : Bool) (first now next : Device) (result : Result (Unit {0}) DiskError) → IsPartly first now
+      → Syncs grows result now next
       → IsTrue first.tells → (t : ℕ) (c : List ℕ) → t ≤ first.clock → next.left_since t c → first.left_since t c ⊎ MayLeave first cs c
-  since_sync first now next result partly did t time c before left =
+  since_sync grows first now next result partly did t time c before left =
       partly.since t time c before (did.since (now_tells first now partly t) time c (omega (arith, before, partly.time.later)) left)
 
   -- one more good write
-  one_more_run : (first now next : Device) (run : Run) → IsPart cs 0 run
+  one_more_run : (grows : Bool) (first now next : Device) (run : Run) → IsPart cs 0 run
       → (IsTrue now.tells → run.at + length run.octets ≤ length now.content) → IsPartly first now
-      → Writes run.at run.octets (Ok tt) now next → IsPartly first next
-  one_more_run first now next run part fits partly did = record {
+      → Writes grows run.at run.octets (Ok tt) now next → IsPartly first next
+  one_more_run grows first now next run part fits partly did = record {
     time = elapses_then first now next partly.time did.time;
     failures = did.cause.ok ∙ partly.failures;
     content = λ t.
@@ -120,7 +123,7 @@ module _ (cs : List (Option ℕ)) where
         ap (λ (l : List ℕ). shown cs l) (did.content told) ∙ shown_again cs now.content run.octets run.at (fits told) each
         ∙ partly.content t;
     crash = λ t c left. torn_partly first now run.at run.octets each partly t c (did.crash (now_tells first now partly t) c left);
-    since = since_write first now next run.at run.octets (Ok tt) each partly did;
+    since = since_write grows first now next run.at run.octets (Ok tt) each partly did;
   }
     where
       each : (i : ℕ) → i < length run.octets → get_or cs (run.at + i) None ≡ Some (get_or run.octets i 0)
@@ -133,16 +136,18 @@ module _ (cs : List (Option ℕ)) where
   refused_cause e first now next same cause = record { ok = tt; fault = λ is. λ f. cause.fault is (f ∙ sym same) }
 
   -- a write that was refused
-  refused_run : (e : DiskError) (first now next : Device) (run : Run) → IsPart cs 0 run → IsPartly first now
-      → Writes run.at run.octets (Err e) now next → IsGiven (Err e) first next
-  refused_run e first now next run part partly did = record {
+  refused_run : (write_grows sync_grows : Bool) (e : DiskError) (first now next : Device) (run : Run) → IsPart cs 0 run
+      → IsPartly first now → Writes write_grows run.at run.octets (Err e) now next
+      → IsGiven (write_grows || sync_grows) (Err e) first next
+  refused_run write_grows sync_grows e first now next run part partly did = record {
     time = elapses_then first now next partly.time did.time;
     cause = refused_cause e first now next partly.failures did.cause;
     content = λ t. tt;
     refused = λ t is. ap (λ (l : List ℕ). shown cs l) ((did.refused is).content (now_tells first now partly t)) ∙ partly.content t;
     uncounted = λ is. (did.refused is).failures ∙ partly.failures;
+    memory = λ is. or_left write_grows sync_grows (did.memory is);
     crash = λ t c left. torn_partly first now run.at run.octets each partly t c (did.crash (now_tells first now partly t) c left);
-    since = since_write first now next run.at run.octets (Err e) each partly did;
+    since = since_write write_grows first now next run.at run.octets (Err e) each partly did;
   }
     where
       each : (i : ℕ) → i < length run.octets → get_or cs (run.at + i) None ≡ Some (get_or run.octets i 0)
@@ -151,41 +156,44 @@ module _ (cs : List (Option ℕ)) where
           ap (λ (j : ℕ). get_or cs j None) place ∙ part.each i within
 
   -- the sync at the end, good or refused
-  synced : (result : Result (Unit {0}) DiskError) (first now next : Device) → IsPartly first now → Syncs result now next
-      → IsGiven result first next
-  synced (Ok x) first now next partly did = record {
+  synced : (write_grows sync_grows : Bool) (result : Result (Unit {0}) DiskError) (first now next : Device) → IsPartly first now
+      → Syncs sync_grows result now next → IsGiven (write_grows || sync_grows) result first next
+  synced write_grows sync_grows (Ok x) first now next partly did = record {
     time = elapses_then first now next partly.time did.time;
     cause = record { ok = did.cause.ok ∙ partly.failures; fault = tt };
     content = λ t. ap (λ (l : List ℕ). shown cs l) (did.content (now_tells first now partly t)) ∙ partly.content t;
     refused = λ t. tt;
     uncounted = tt;
+    memory = tt;
     crash = λ t c left. partly.crash t c (did.crash (now_tells first now partly t) c left);
-    since = since_sync first now next (Ok x) partly did;
+    since = since_sync sync_grows first now next (Ok x) partly did;
   }
-  synced (Err e) first now next partly did = record {
+  synced write_grows sync_grows (Err e) first now next partly did = record {
     time = elapses_then first now next partly.time did.time;
     cause = refused_cause e first now next partly.failures did.cause;
     content = λ t. tt;
     refused = λ t is. ap (λ (l : List ℕ). shown cs l) ((did.refused is).content (now_tells first now partly t)) ∙ partly.content t;
     uncounted = λ is. (did.refused is).failures ∙ partly.failures;
+    memory = λ is. or_right write_grows sync_grows (did.memory is);
     crash = λ t c left. partly.crash t c (did.crash (now_tells first now partly t) c left);
-    since = since_sync first now next (Err e) partly did;
+    since = since_sync sync_grows first now next (Err e) partly did;
   }
 
-module _ (D : Type 0) (device : D → Device) (sized : (d : D) → IsTrue (device d).tells → length (device d).content ≡ (device d).size) where
+module _ (D : Type 0) (device : D → Device) (write_grows sync_grows : Bool)
+    (sized : (d : D) → IsTrue (device d).tells → length (device d).content ≡ (device d).size) where
   pub given : (cs : List (Option ℕ)) (first : D) → length cs ≤ (device first).size
       → (runs : List Run) (result : Result (Unit {0}) DiskError) (now new : D) → AreParts cs 0 runs
-      → IsPartly cs (device first) (device now) → Makes device (writes_of runs ++ Call.Sync ∷ []) result now new
-      → IsGiven cs result (device first) (device new)
+      → IsPartly cs (device first) (device now) → Makes device write_grows sync_grows (writes_of runs ++ Call.Sync ∷ []) result now new
+      → IsGiven cs (write_grows || sync_grows) result (device first) (device new)
   given cs first few [] result now new parts partly (inl did) =
-      subst (λ (d : D). IsGiven cs result (device first) (device d)) (sym did.1.1.1)
-      (subst (λ (r : Result (Unit {0}) DiskError). IsGiven cs r (device first) (device did.0)) (sym did.1.1.0)
-      (synced cs (Ok tt) (device first) (device now) (device did.0) partly did.1.0))
+      subst (λ (d : D). IsGiven cs (write_grows || sync_grows) result (device first) (device d)) (sym did.1.1.1)
+      (subst (λ (r : Result (Unit {0}) DiskError). IsGiven cs (write_grows || sync_grows) r (device first) (device did.0)) (sym did.1.1.0)
+      (synced cs write_grows sync_grows (Ok tt) (device first) (device now) (device did.0) partly did.1.0))
   given cs first few [] result now new parts partly (inr refused) =
-      synced cs result (device first) (device now) (device new) partly refused.1
+      synced cs write_grows sync_grows result (device first) (device now) (device new) partly refused.1
   given cs first few (run ∷ runs) result now new parts partly (inl did) =
       given cs first few runs result did.0 new parts.1
-      (one_more_run cs (device first) (device now) (device did.0) run parts.0 fits partly did.1.0) did.1.1
+      (one_more_run cs write_grows (device first) (device now) (device did.0) run parts.0 fits partly did.1.0) did.1.1
     where
       fits : IsTrue (device now).tells → run.at + length run.octets ≤ length (device now).content
       fits t =
@@ -197,14 +205,14 @@ module _ (D : Type 0) (device : D → Device) (sized : (d : D) → IsTrue (devic
       no_err : (x : Unit {0}) → IsErr {T = Unit {0}} {E = DiskError} (Ok x) → ⊥
       no_err x is = cc
   given cs first few (run ∷ runs) (Err e) now new parts partly (inr refused) =
-      refused_run cs e (device first) (device now) (device new) run parts.0 partly refused.1
+      refused_run cs write_grows sync_grows e (device first) (device now) (device new) run parts.0 partly refused.1
 
   -- where none was refused
   pub record AreDurable (image : List ℕ) (new : D) : Type 0 where
     pub content : (device new).content ≡ image
     pub only : LeavesOnly (device new) image
 
-  pub durable : (runs : List Run) (now new : D) → Makes device (writes_of runs ++ Call.Sync ∷ []) (Ok tt) now new
+  pub durable : (runs : List Run) (now new : D) → Makes device write_grows sync_grows (writes_of runs ++ Call.Sync ∷ []) (Ok tt) now new
       → IsTrue (device now).tells → AreDurable (all_written runs (device now).content) new
   durable [] now new (inl did) t =
       subst (λ (d : D). AreDurable (device now).content d) (sym did.1.1.1)

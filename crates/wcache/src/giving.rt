@@ -1,8 +1,7 @@
 //! Gives the collected octets to the device.
 
-ghost use Rattle.std.specs.Prelude.{◌≡◌, ◌≢◌, ◌⊎◌, ◌<◌, ◌≤◌, ◌||◌, ℕ, ◌+◌, ◌*◌, ◌/◌, ◌%◌, ◌^◌, List, Option, None, Some};
-ghost use Rattle.std.specs.Prelude.{IfErr, IfSome, IsNone, true};
-ghost use Rattle.std.specs.Prelude.{IsTrue, length, slice_index, slice_index_or};
+ghost use Rattle.std.specs.Prelude.{◌≡◌, ◌≢◌, ◌⊎◌, ◌<◌, ◌≤◌, ℕ, ◌+◌, ◌*◌, ◌/◌, ◌^◌, Option, None, Some};
+ghost use Rattle.std.specs.Prelude.{IfSome, IsNone, true, length, slice_index};
 ghost use Rattle.std.specs.BTreeMap.{get};
 ghost use Rattle.std.specs.Ordering.{nat_cmp};
 ghost use Rattle.disk.specs.Calls.{Makes};
@@ -20,9 +19,8 @@ use std::ops::Range;
 pub fn give_and_sync<D: Disk>(disk: &mut D, collected: &mut Collected) -> Result<(), DiskError>
     requires { (k : ℕ) → (D.device disk.old).size ≤ k → taken collected.old k ≡ None }
     ensures makes { (n : ℕ) → ((k : ℕ) → n ≤ k → taken collected.old k ≡ None)
-        → Makes D.device (calls_of (places (taken collected.old) n)) result disk.old disk.new }
+        → Makes D.device D.write_grows D.sync_grows (calls_of (places (taken collected.old) n)) result disk.old disk.new }
     ensures same { (k : ℕ) → taken collected.new k ≡ taken collected.old k }
-    ensures memory { IfErr result (λ error. error ≡ DiskError.Memory → IsTrue (D.write_grows || D.sync_grows)) }
 {
     collected.arrange();
     match give(disk, collected) {
@@ -35,9 +33,8 @@ pub fn give_and_sync<D: Disk>(disk: &mut D, collected: &mut Collected) -> Result
 fn give<D: Disk>(disk: &mut D, collected: &Collected) -> Result<(), DiskError>
     requires arranged { IsArranged (get nat_cmp collected.now.slots) }
     requires fits { (k : ℕ) → (D.device disk.old).size ≤ k → taken collected.now k ≡ None }
-    ensures makes { (n : ℕ) → ((k : ℕ) → n ≤ k → taken collected.now k ≡ None)
-        → Makes D.device (writes_of (runs_from 0 (places (taken collected.now) n))) result disk.old disk.new }
-    ensures memory { IfErr result (λ error. error ≡ DiskError.Memory → IsTrue D.write_grows) }
+    ensures { (n : ℕ) → ((k : ℕ) → n ≤ k → taken collected.now k ≡ None)
+        → Makes D.device D.write_grows D.sync_grows (writes_of (runs_from 0 (places (taken collected.now) n))) result disk.old disk.new }
 {
     let mut from = 0;
     while let Some(slots) = collected.next_slots(from) {
@@ -57,10 +54,9 @@ fn give_slots<D: Disk>(disk: &mut D, slots: &Slots<'_>) -> Result<(), DiskError>
     requires fits { (i : ℕ) → i < length slots.now.flags.now → is_collected slots.now.fills.now slots.now.flags.now i ≡ true
         → 4096 * slots.now.block + i < (D.device disk.old).size }
     ensures size { (D.device disk.new).size ≡ (D.device disk.old).size }
-    ensures makes { Makes D.device (writes_of (runs_from (4096 * slots.now.block)
+    ensures makes { Makes D.device D.write_grows D.sync_grows (writes_of (runs_from (4096 * slots.now.block)
         (places (cell slots.now.fills.now slots.now.flags.now slots.now.octets.now) (length slots.now.flags.now)))) result
         disk.old disk.new }
-    ensures memory { IfErr result (λ error. error ≡ DiskError.Memory → IsTrue D.write_grows) }
 {
     let start = BLOCK as u64 * slots.block as u64;
     let mut from = 0;

@@ -6,11 +6,10 @@
 mod collected;
 mod giving;
 
-ghost use Rattle.std.specs.Prelude.{◌≡◌, ◌+◌, ◌≤◌, IsTrue, Some, None, IfErr, OnErr, OnOk, length, map, replicate};
-ghost use Rattle.disk.specs.Calls.{Makes};
-ghost use Rattle.disk.specs.Device.{Elapses, HasCause, IsRead, IsSync, IsUnchanged, IsWrite, LeavesNoMore, LeavesOnly, LeftNoMore};
-ghost use Rattle.disk.specs.Device.{LeftTornAt, OnAsked, OnRefused, TearsAt};
-ghost use Rattle.disk.specs.Image.{overwritten, part};
+ghost use Rattle.std.specs.Prelude.{◌≡◌, ◌+◌, ◌≤◌, Some, None, IfErr, OnErr, OnOk, length, map, replicate};
+ghost use Rattle.disk.specs.Calls.{Makes, Reads, Syncs, Writes};
+ghost use Rattle.disk.specs.Device.{IsRead, IsUnchanged};
+ghost use Rattle.disk.specs.Image.{overwritten};
 ghost use Rattle.wcache.specs.Runs.{calls_of};
 
 use collected::Collected;
@@ -95,18 +94,7 @@ impl<D: Disk> Disk for WCache<D> {
         requires { at + length into.old ≤ (D.device self.old.disk).size }
         ensures below { IsRead (D.device self.old.disk) (D.device self.new.disk) }
         ensures kept { self.new.collected ≡ self.old.collected }
-        ensures value { IsTrue (D.device self.old.disk).tells
-            → OnOk result (into.new ≡ part at (length into.old) (cache_device D.device self.old).content) }
-        ensures content { IsTrue (D.device self.old.disk).tells
-            → OnOk result ((cache_device D.device self.new).content ≡ (cache_device D.device self.old).content) }
-        ensures crash { IsTrue (D.device self.old.disk).tells
-            → LeavesNoMore (cache_device D.device self.old) (cache_device D.device self.new) }
-        ensures since { IsTrue (D.device self.old.disk).tells
-            → LeftNoMore (cache_device D.device self.old) (cache_device D.device self.new) }
-        ensures time { Elapses (cache_device D.device self.old) (cache_device D.device self.new) }
-        ensures call { IsRead (cache_device D.device self.old) (cache_device D.device self.new) }
-        ensures cause { HasCause result (cache_device D.device self.old) (cache_device D.device self.new) }
-        ensures no_memory { IfErr result (λ error. error ≡ DiskError.Fault) }
+        ensures reads { Reads at (length into.old) into.new result (cache_device D.device self.old) (cache_device D.device self.new) }
     {
         self.reads = self.reads.wrapping_add(1);
         self.disk.read(at, into)?;
@@ -121,17 +109,7 @@ impl<D: Disk> Disk for WCache<D> {
         ensures collects { OnOk result (self.new.collected ≡ overwritten at (map (λ octet. Some octet) from.now) self.old.collected) }
         ensures only_memory { IfErr result (λ error. error ≡ DiskError.Memory) }
         ensures untouched { OnErr result (self.new ≡ self.old) }
-        ensures content { IsTrue (D.device self.old.disk).tells
-            → OnOk result ((cache_device D.device self.new).content ≡ overwritten at from.now (cache_device D.device self.old).content) }
-        ensures crash { IsTrue (D.device self.old.disk).tells
-            → TearsAt at (length from.now) (cache_device D.device self.old) (cache_device D.device self.new) }
-        ensures since { IsTrue (D.device self.old.disk).tells
-            → LeftTornAt at (length from.now) (cache_device D.device self.old) (cache_device D.device self.new) }
-        ensures time { Elapses (cache_device D.device self.old) (cache_device D.device self.new) }
-        ensures call { OnAsked result (IsWrite (cache_device D.device self.old) (cache_device D.device self.new)) }
-        ensures cause { HasCause result (cache_device D.device self.old) (cache_device D.device self.new) }
-        ensures refused { OnRefused result (cache_device D.device self.old) (cache_device D.device self.new) }
-        ensures memory { IfErr result (λ error. error ≡ DiskError.Memory → IsTrue true) }
+        ensures writes { Writes true at from.now result (cache_device D.device self.old) (cache_device D.device self.new) }
     {
         match self.collected.collect(at as usize, from) {
             Ok(()) => {
@@ -146,22 +124,10 @@ impl<D: Disk> Disk for WCache<D> {
     /// sync. It stops at the first of these calls that is refused. The collected octets are discarded only after `Ok`. It
     /// takes no memory of its own: `Memory` comes only from the device below.
     fn sync(&mut self) -> Result<(), DiskError>
-        ensures calls { Makes D.device (calls_of self.old.collected) result self.old.disk self.new.disk }
+        ensures calls { Makes D.device D.write_grows D.sync_grows (calls_of self.old.collected) result self.old.disk self.new.disk }
         ensures forgets { OnOk result (self.new.collected ≡ replicate (length self.old.collected) None) }
         ensures keeps { OnErr result (self.new.collected ≡ self.old.collected) }
-        ensures durable { IsTrue (D.device self.old.disk).tells
-            → OnOk result (LeavesOnly (cache_device D.device self.new) (cache_device D.device self.old).content) }
-        ensures content { IsTrue (D.device self.old.disk).tells
-            → OnOk result ((cache_device D.device self.new).content ≡ (cache_device D.device self.old).content) }
-        ensures crash { IsTrue (D.device self.old.disk).tells
-            → LeavesNoMore (cache_device D.device self.old) (cache_device D.device self.new) }
-        ensures since { IsTrue (D.device self.old.disk).tells
-            → LeftNoMore (cache_device D.device self.old) (cache_device D.device self.new) }
-        ensures time { Elapses (cache_device D.device self.old) (cache_device D.device self.new) }
-        ensures call { OnAsked result (IsSync (cache_device D.device self.old) (cache_device D.device self.new)) }
-        ensures cause { HasCause result (cache_device D.device self.old) (cache_device D.device self.new) }
-        ensures refused { OnRefused result (cache_device D.device self.old) (cache_device D.device self.new) }
-        ensures memory { IfErr result (λ error. error ≡ DiskError.Memory → IsTrue (D.write_grows || D.sync_grows)) }
+        ensures syncs { Syncs (D.write_grows || D.sync_grows) result (cache_device D.device self.old) (cache_device D.device self.new) }
     {
         match give_and_sync(&mut self.disk, &mut self.collected) {
             Ok(()) => {

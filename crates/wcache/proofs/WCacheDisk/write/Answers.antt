@@ -1,10 +1,8 @@
 use Rattle.std.proofs.Common.{◌≡◌, ◌≤◌, ℕ, ◌+◌, List, length, Option, sym, ◌∙◌, ap, subst, arith}
 use Rattle.disk.specs.Device.{Device}
-use Rattle.wcache.specs.Cache.{CacheView, cache_device}
-use Rattle.wcache.specs.Slots.{places}
+use Rattle.wcache.specs.Cache.{CacheView}
 use Rattle.wcache.specs.Taken.{taken}
-use Rattle.wcache.proofs.Cached.{left_collected}
-use Rattle.wcache.proofs.Caching.{IsUntouched, collects, collects_content, collects_crash, none_past, untouched}
+use Rattle.wcache.proofs.Caching.{collects, none_past, not_written, written}
 use Rattle.wcache.proofs.Places.{places_same}
 use Rattle.wcache.proofs.WCacheDisk.write.Goals as goal
 use Rattle.wcache.proofs.Sizes.{sized}
@@ -38,35 +36,14 @@ returns-in-Ok-clause-collects g c =
     (fits g.row.D.Denot g.D.Disk.device _ _ c.self.view_is c.args.at c.args.from.now c.requires) c.in-Ok.ensures.inside
     c.in-Ok.ensures.outside c.self.invariant.past)
 
-pub returns-in-Ok-clause-content : goal.returns-in-Ok-clause-content
-returns-in-Ok-clause-content g c =
-    rw (← c.self.view_is) (collects_content (g.D.Disk.device c.self.inside.disk) c.self.inside.len c.args.at c.args.from.now
-    (taken c.self.inside.collected) (taken c.collect.new.self) c.self.invariant.size
+pub returns-in-Ok-clause-writes : goal.returns-in-Ok-clause-writes
+returns-in-Ok-clause-writes g c =
+    rw (← c.self.view_is) (written g.row.D.Denot g.D.Disk.device c.self.inside.disk c.self.inside.len c.args.at c.args.from.now
+    (taken c.self.inside.collected) (taken c.collect.new.self) c.self.inside.reads c.self.inside.writes c.self.inside.syncs
+    c.self.invariant.size (λ image t left. g.met.D.Disk.image_size c.self.inside.disk image t left)
     (λ t. sized g.row.D.Denot g.D.Disk.device g.met.D.Disk.image_size g.met.D.Disk.counts_content c.self.inside.disk t)
     (fits g.row.D.Denot g.D.Disk.device _ _ c.self.view_is c.args.at c.args.from.now c.requires) c.in-Ok.ensures.inside
-    c.in-Ok.ensures.outside c.self.invariant.past)
-
-pub returns-in-Ok-clause-crash : goal.returns-in-Ok-clause-crash
-returns-in-Ok-clause-crash g c =
-    rw (← c.self.view_is)
-    (λ t. collects_crash (g.D.Disk.device c.self.inside.disk) c.self.inside.len c.args.at c.args.from.now (taken c.self.inside.collected)
-    (taken c.collect.new.self) c.self.invariant.size
-    (λ t. sized g.row.D.Denot g.D.Disk.device g.met.D.Disk.image_size g.met.D.Disk.counts_content c.self.inside.disk t)
-    (fits g.row.D.Denot g.D.Disk.device _ _ c.self.view_is c.args.at c.args.from.now c.requires) c.in-Ok.ensures.inside
-    c.in-Ok.ensures.outside c.self.invariant.past (λ image left. g.met.D.Disk.image_size c.self.inside.disk image t left)
-    (λ k. omega (arith, c.type_inv.from k)))
-
-pub returns-in-Ok-clause-since : goal.returns-in-Ok-clause-since
-returns-in-Ok-clause-since g c =
-    rw (← c.self.view_is)
-    (λ t time image before left. left_collected (places (taken c.self.inside.collected) c.self.inside.len)
-    (g.D.Disk.device c.self.inside.disk) (g.D.Disk.device c.self.inside.disk) (places (taken c.collect.new.self) c.self.inside.len) _
-    (collects_crash (g.D.Disk.device c.self.inside.disk) c.self.inside.len c.args.at c.args.from.now (taken c.self.inside.collected)
-    (taken c.collect.new.self) c.self.invariant.size
-    (λ t. sized g.row.D.Denot g.D.Disk.device g.met.D.Disk.image_size g.met.D.Disk.counts_content c.self.inside.disk t)
-    (fits g.row.D.Denot g.D.Disk.device _ _ c.self.view_is c.args.at c.args.from.now c.requires) c.in-Ok.ensures.inside
-    c.in-Ok.ensures.outside c.self.invariant.past (λ image left. g.met.D.Disk.image_size c.self.inside.disk image t left)
-    (λ k. omega (arith, c.type_inv.from k))) time image left)
+    c.in-Ok.ensures.outside c.self.invariant.past (λ k. omega (arith, c.type_inv.from k)))
 
 pub returns-in-Err-clause-untouched : goal.returns-in-Err-clause-untouched
 returns-in-Err-clause-untouched g c =
@@ -81,65 +58,9 @@ returns-in-Err-clause-untouched g c =
     } in w)
     (places_same (taken c.self.inside.collected) (taken c.collect.new.self) c.self.inside.len c.in-Err.ensures.refused))
 
-pub returns-in-Err-clause-crash : goal.returns-in-Err-clause-crash
-returns-in-Err-clause-crash g c =
-    let same = subst (λ (cs : List (Option ℕ)). IsUntouched c.args.at (length c.args.from.now)
-    (cache_device g.D.Disk.device (record {
-      disk = c.self.inside.disk;
-      collected = places (taken c.self.inside.collected) c.self.inside.len;
-      reads = c.self.inside.reads;
-      writes = c.self.inside.writes;
-      syncs = c.self.inside.syncs;
-    }))
-    (cache_device g.D.Disk.device (record {
-      disk = c.self.inside.disk;
-      collected = cs;
-      reads = c.self.inside.reads;
-      writes = c.self.inside.writes;
-      syncs = c.self.inside.syncs;
-    })))
-    (sym (places_same (taken c.self.inside.collected) (taken c.collect.new.self) c.self.inside.len c.in-Err.ensures.refused))
-    (untouched c.args.at (length c.args.from.now) _) in
-    rw (← c.self.view_is) (λ t. same.crash)
-
-pub returns-in-Err-clause-since : goal.returns-in-Err-clause-since
-returns-in-Err-clause-since g c =
-    let same = subst (λ (cs : List (Option ℕ)). IsUntouched c.args.at (length c.args.from.now)
-    (cache_device g.D.Disk.device (record {
-      disk = c.self.inside.disk;
-      collected = places (taken c.self.inside.collected) c.self.inside.len;
-      reads = c.self.inside.reads;
-      writes = c.self.inside.writes;
-      syncs = c.self.inside.syncs;
-    }))
-    (cache_device g.D.Disk.device (record {
-      disk = c.self.inside.disk;
-      collected = cs;
-      reads = c.self.inside.reads;
-      writes = c.self.inside.writes;
-      syncs = c.self.inside.syncs;
-    })))
-    (sym (places_same (taken c.self.inside.collected) (taken c.collect.new.self) c.self.inside.len c.in-Err.ensures.refused))
-    (untouched c.args.at (length c.args.from.now) _) in
-    rw (← c.self.view_is) (λ t. same.since)
-
-pub returns-in-Err-clause-refused : goal.returns-in-Err-clause-refused
-returns-in-Err-clause-refused g c =
-    let same = subst (λ (cs : List (Option ℕ)). IsUntouched c.args.at (length c.args.from.now)
-    (cache_device g.D.Disk.device (record {
-      disk = c.self.inside.disk;
-      collected = places (taken c.self.inside.collected) c.self.inside.len;
-      reads = c.self.inside.reads;
-      writes = c.self.inside.writes;
-      syncs = c.self.inside.syncs;
-    }))
-    (cache_device g.D.Disk.device (record {
-      disk = c.self.inside.disk;
-      collected = cs;
-      reads = c.self.inside.reads;
-      writes = c.self.inside.writes;
-      syncs = c.self.inside.syncs;
-    })))
-    (sym (places_same (taken c.self.inside.collected) (taken c.collect.new.self) c.self.inside.len c.in-Err.ensures.refused))
-    (untouched c.args.at (length c.args.from.now) _) in
-    rw (← c.self.view_is) (λ is. same.refused)
+pub returns-in-Err-clause-writes : goal.returns-in-Err-clause-writes
+returns-in-Err-clause-writes g c =
+    rw (
+      ← c.self.view_is,
+      places_same (taken c.self.inside.collected) (taken c.collect.new.self) c.self.inside.len c.in-Err.ensures.refused,
+    ) (not_written c.args.at c.args.from.now _)

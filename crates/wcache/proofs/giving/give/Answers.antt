@@ -37,42 +37,50 @@ loop-slots-preserved g c =
     let n = (g.D.Disk.device c.args.disk.now).size in
     let slots = c.in-Some.slots in
     let count = length slots.fills.now in
-    giving_block g.D.Disk.device _ (runs_from (4096 * slots.block) (cells_of t slots.block count))
+    giving_block g.D.Disk.device g.D.Disk.write_grows g.D.Disk.sync_grows _ (runs_from (4096 * slots.block) (cells_of t slots.block count))
     (runs_from (4096 * (slots.block + count)) (cells_from t n c.requires.fits (slots.block + count))) _ _ _
-    (subst (λ (runs : List Run). IsGivingTo g.D.Disk.device (writes_of (runs_from 0 (places t n))) (writes_of runs) c.args.disk.now
+    (subst (λ (runs : List Run). IsGivingTo g.D.Disk.device g.D.Disk.write_grows g.D.Disk.sync_grows
+    (writes_of (runs_from 0 (places t n))) (writes_of runs) c.args.disk.now
     c.loop-slots.disk)
     (blocks_skipped t n c.requires.fits c.loop-slots.from slots.block c.in-Some.ensures.low c.in-Some.ensures.first
     ∙ block_split t n c.requires.fits slots.block count c.in-Some.ensures.last)
     c.loop-slots.invariant)
     c.give_slots.ensures.size
-    (subst (λ (runs : List Run). Makes g.D.Disk.device (writes_of runs) (Ok tt) c.loop-slots.disk c.give_slots.new.disk)
+    (subst (λ (runs : List Run). Makes g.D.Disk.device g.D.Disk.write_grows g.D.Disk.sync_grows (writes_of runs) (Ok tt) c.loop-slots.disk
+    c.give_slots.new.disk)
     (slots_runs slots.fills.now slots.flags.now slots.octets.now t slots.block count c.in-Some.ensures.some)
     c.in-Ok.ensures.makes)
 
-pub returns-in-Err-clause-makes : goal.returns-in-Err-clause-makes
-returns-in-Err-clause-makes g c m none =
+pub returns-in-Err : goal.returns-in-Err
+returns-in-Err g c m none =
     let t = taken c.args.collected.now in
     let n = (g.D.Disk.device c.args.disk.now).size in
     let slots = c.in-Some.slots in
     let count = length slots.fills.now in
-    subst (λ (runs : List Run). Makes g.D.Disk.device (writes_of runs) (Err c.in-Err.error) c.args.disk.now c.give_slots.new.disk)
+    subst (λ (runs : List Run). Makes g.D.Disk.device g.D.Disk.write_grows g.D.Disk.sync_grows (writes_of runs) (Err c.in-Err.error)
+    c.args.disk.now c.give_slots.new.disk)
     (other_table t n c.requires.fits m none)
-    (giving_block_refused g.D.Disk.device _ (runs_from (4096 * slots.block) (cells_of t slots.block count))
+    (giving_block_refused g.D.Disk.device g.D.Disk.write_grows g.D.Disk.sync_grows _
+    (runs_from (4096 * slots.block) (cells_of t slots.block count))
     (runs_from (4096 * (slots.block + count)) (cells_from t n c.requires.fits (slots.block + count))) _ _ _ c.in-Err.error
-    (subst (λ (runs : List Run). IsGivingTo g.D.Disk.device (writes_of (runs_from 0 (places t n))) (writes_of runs) c.args.disk.now
+    (subst (λ (runs : List Run). IsGivingTo g.D.Disk.device g.D.Disk.write_grows g.D.Disk.sync_grows
+    (writes_of (runs_from 0 (places t n))) (writes_of runs) c.args.disk.now
     c.loop-slots.disk)
     (blocks_skipped t n c.requires.fits c.loop-slots.from slots.block c.in-Some.ensures.low c.in-Some.ensures.first
     ∙ block_split t n c.requires.fits slots.block count c.in-Some.ensures.last)
     c.loop-slots.invariant)
-    (subst (λ (runs : List Run). Makes g.D.Disk.device (writes_of runs) (Err c.in-Err.error) c.loop-slots.disk c.give_slots.new.disk)
+    (subst (λ (runs : List Run). Makes g.D.Disk.device g.D.Disk.write_grows g.D.Disk.sync_grows (writes_of runs) (Err c.in-Err.error)
+    c.loop-slots.disk c.give_slots.new.disk)
     (slots_runs slots.fills.now slots.flags.now slots.octets.now t slots.block count c.in-Some.ensures.some)
     c.in-Err.ensures.makes))
 
-pub returns-clause-makes : goal.returns-clause-makes
-returns-clause-makes g c m none =
+pub returns : goal.returns
+returns g c m none =
     let t = taken c.args.collected.now in
     let n = (g.D.Disk.device c.args.disk.now).size in
-    subst (λ (runs : List Run). Makes g.D.Disk.device (writes_of runs) (Ok tt) c.args.disk.now c.loop-slots.disk)
+    subst (λ (runs : List Run). Makes g.D.Disk.device g.D.Disk.write_grows g.D.Disk.sync_grows (writes_of runs) (Ok tt) c.args.disk.now
+    c.loop-slots.disk)
     (other_table t n c.requires.fits m none)
-    (giving_done g.D.Disk.device _ (runs_from (4096 * c.loop-slots.from) (cells_from t n c.requires.fits c.loop-slots.from)) _ _
+    (giving_done g.D.Disk.device g.D.Disk.write_grows g.D.Disk.sync_grows _
+    (runs_from (4096 * c.loop-slots.from) (cells_from t n c.requires.fits c.loop-slots.from)) _ _
     (no_more t n c.requires.fits c.loop-slots.from (c.in_default.ensures.none refl)) c.loop-slots.invariant)

@@ -12,26 +12,21 @@ give-requires-clause-fits g c k past = c.arrange.ensures.same k ∙ c.requires k
 
 pub returns-in-Ok-clause-makes : goal.returns-in-Ok-clause-makes
 returns-in-Ok-clause-makes g c n none =
-    makes_append g.D.Disk.device (writes_of (runs_from 0 (places (taken c.args.collected.now) n))) (Call.Sync ∷ []) c.sync.result _ _ _
-    (subst (λ (cs : List (Option ℕ)). Makes g.D.Disk.device (writes_of (runs_from 0 cs)) (Ok tt) c.args.disk.now c.give.new.disk)
+    makes_append g.D.Disk.device g.D.Disk.write_grows g.D.Disk.sync_grows
+    (writes_of (runs_from 0 (places (taken c.args.collected.now) n))) (Call.Sync ∷ []) c.sync.result _ _ _
+    (subst (λ (cs : List (Option ℕ)). Makes g.D.Disk.device g.D.Disk.write_grows g.D.Disk.sync_grows (writes_of (runs_from 0 cs)) (Ok tt)
+    c.args.disk.now c.give.new.disk)
     (places_same (taken c.args.collected.now) (taken c.arrange.new.self) n c.arrange.ensures.same)
-    (c.in-Ok.ensures.makes n (λ k past. c.arrange.ensures.same k ∙ none k past)))
-    (makes_one g.D.Disk.device Call.Sync c.sync.result _ _
-    (record {
-      durable = c.sync.ensures.durable;
-      content = c.sync.ensures.content;
-      crash = c.sync.ensures.crash;
-      since = c.sync.ensures.since;
-      time = c.sync.ensures.time;
-      call = c.sync.ensures.call;
-      cause = c.sync.ensures.cause;
-      refused = c.sync.ensures.refused;
-    }))
+    (c.in-Ok.ensures n (λ k past. c.arrange.ensures.same k ∙ none k past)))
+    (makes_one g.D.Disk.device g.D.Disk.write_grows g.D.Disk.sync_grows Call.Sync c.sync.result _ _
+    c.sync.ensures)
 
 pub returns-in-Err-clause-makes : goal.returns-in-Err-clause-makes
 returns-in-Err-clause-makes g c n none =
-    makes_cut g.D.Disk.device (writes_of (runs_from 0 (places (taken c.args.collected.now) n))) (Call.Sync ∷ []) c.in-Err.error _ _
-    (subst (λ (cs : List (Option ℕ)). Makes g.D.Disk.device (writes_of (runs_from 0 cs)) (Err c.in-Err.error) c.args.disk.now
+    makes_cut g.D.Disk.device g.D.Disk.write_grows g.D.Disk.sync_grows (writes_of (runs_from 0 (places (taken c.args.collected.now) n)))
+    (Call.Sync ∷ []) c.in-Err.error _ _
+    (subst (λ (cs : List (Option ℕ)). Makes g.D.Disk.device g.D.Disk.write_grows g.D.Disk.sync_grows (writes_of (runs_from 0 cs))
+    (Err c.in-Err.error) c.args.disk.now
     c.give.new.disk)
     (places_same (taken c.args.collected.now) (taken c.arrange.new.self) n c.arrange.ensures.same)
-    (c.in-Err.ensures.makes n (λ k past. c.arrange.ensures.same k ∙ none k past)))
+    (c.in-Err.ensures n (λ k past. c.arrange.ensures.same k ∙ none k past)))

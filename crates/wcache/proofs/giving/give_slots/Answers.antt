@@ -10,7 +10,8 @@ pub loop-next-init : goal.loop-next-init
 loop-next-init g c =
     let s = c.args.slots.now in (
       omega arith,
-      giving_starts g.D.Disk.device (4096 * s.block) (places (cell s.fills.now s.flags.now s.octets.now) (length s.flags.now))
+      giving_starts g.D.Disk.device g.D.Disk.write_grows g.D.Disk.sync_grows (4096 * s.block)
+          (places (cell s.fills.now s.flags.now s.octets.now) (length s.flags.now))
           c.args.disk.now,
     )
 
@@ -34,57 +35,41 @@ loop-next-preserved g c =
     let s = c.args.slots.now in
     let run = c.in-Some.ensures.some in (
       run.high,
-      giving_more g.D.Disk.device _ (record {
+      giving_more g.D.Disk.device g.D.Disk.write_grows g.D.Disk.sync_grows _ (record {
         at = 4096 * s.block + c.in-Some.next.start;
         octets = part c.in-Some.next.start (c.in-Some.next.end - c.in-Some.next.start) s.octets.now;
       }) _ _ _ _
-          (subst (λ (runs : List Run). IsGivingTo g.D.Disk.device
+          (subst (λ (runs : List Run). IsGivingTo g.D.Disk.device g.D.Disk.write_grows g.D.Disk.sync_grows
           (writes_of (runs_from (4096 * s.block) (places (cell s.fills.now s.flags.now s.octets.now) (length s.flags.now))))
           (writes_of runs) c.args.disk.now c.loop-next.disk)
           (one_run s.fills.now s.flags.now s.octets.now (4096 * s.block) c.loop-next.from
           (c.requires.whole.octets_size ∙ sym c.requires.whole.flags_size) c.loop-next.invariant.0 c.in-Some.next.start
           c.in-Some.next.end run)
           c.loop-next.invariant.1)
-          (record {
-            content = c.in-Ok.ensures.content;
-            crash = c.write.ensures.crash;
-            since = c.write.ensures.since;
-            time = c.write.ensures.time;
-            call = c.in-Ok.ensures.call;
-            cause = c.in-Ok.ensures.cause;
-            refused = tt;
-          }),
+          c.in-Ok.ensures,
     )
 
 pub returns-in-Err-clause-makes : goal.returns-in-Err-clause-makes
 returns-in-Err-clause-makes g c =
     let s = c.args.slots.now in
     let run = c.in-Some.ensures.some in
-    giving_refused g.D.Disk.device _ (record {
+    giving_refused g.D.Disk.device g.D.Disk.write_grows g.D.Disk.sync_grows _ (record {
       at = 4096 * s.block + c.in-Some.next.start;
       octets = part c.in-Some.next.start (c.in-Some.next.end - c.in-Some.next.start) s.octets.now;
     }) _ _ _ _ c.in-Err.error
-    (subst (λ (runs : List Run). IsGivingTo g.D.Disk.device
+    (subst (λ (runs : List Run). IsGivingTo g.D.Disk.device g.D.Disk.write_grows g.D.Disk.sync_grows
     (writes_of (runs_from (4096 * s.block) (places (cell s.fills.now s.flags.now s.octets.now) (length s.flags.now))))
     (writes_of runs) c.args.disk.now c.loop-next.disk)
     (one_run s.fills.now s.flags.now s.octets.now (4096 * s.block) c.loop-next.from
     (c.requires.whole.octets_size ∙ sym c.requires.whole.flags_size) c.loop-next.invariant.0 c.in-Some.next.start c.in-Some.next.end run)
     c.loop-next.invariant.1)
-    (record {
-      content = λ t. tt;
-      crash = c.write.ensures.crash;
-      since = c.write.ensures.since;
-      time = c.write.ensures.time;
-      call = c.in-Err.ensures.call;
-      cause = c.in-Err.ensures.cause;
-      refused = c.in-Err.ensures.refused;
-    })
+    c.in-Err.ensures
 
 pub returns-clause-makes : goal.returns-clause-makes
 returns-clause-makes g c =
     let s = c.args.slots.now in
     let n = length-places (cell s.fills.now s.flags.now s.octets.now) (length s.flags.now) in
-    giving_done g.D.Disk.device _ (runs_from (4096 * s.block + c.loop-next.from)
+    giving_done g.D.Disk.device g.D.Disk.write_grows g.D.Disk.sync_grows _ (runs_from (4096 * s.block + c.loop-next.from)
     (drop c.loop-next.from (places (cell s.fills.now s.flags.now s.octets.now) (length s.flags.now)))) _ _
     (skipped s.fills.now s.flags.now s.octets.now (4096 * s.block) c.loop-next.from
     (c.requires.whole.octets_size ∙ sym c.requires.whole.flags_size) c.loop-next.invariant.0 (length s.flags.now)
