@@ -1,7 +1,9 @@
 -- Each call of a batch: what the journal keeps after it, and what a crash within it or after it leaves.
 use Rattle.std.proofs.Common.{◌≡◌, ◌≢◌, ◌⊎◌, inl, inr, ⊎_elim, ◌<◌, ◌≤◌, ℕ, ◌*◌, Bool, true, false, IsTrue, cond, List, [], ◌∷◌, length}
 use Rattle.std.proofs.Common.{get_or, drop, refl, sym, ◌∙◌, ap, subst, arith, Result, Ok, Err}
+use Rattle.disk.specs.Calls.{Does, Syncs, Writes}
 use Rattle.disk.specs.Device.{Device, Elapses, IsTornImage, LeavesNoMore, TearsAt, LeftTornAt}
+use Rattle.disk.specs.declared.DiskError.{DiskError}
 use Rattle.disk.specs.Image.{part, overwritten}
 use Rattle.segment_laws.specs.Held.{AreOpen, HeldBatch}
 use Rattle.segment_laws.specs.Images.{SameBut}
@@ -9,7 +11,7 @@ use Rattle.segment_laws.proofs.Writing.{home_of_held}
 use Rattle.journal_segments.specs.Staged.{IsSound, IsStaged, Staged, staged_at}
 use Rattle.journal.specs.Flight.{Flight, all_of, flight_in, held_at, none_held, sizes_of}
 use Rattle.journal.specs.Inside.{IsLive, IsOrdered, IsWithin, Holds, Touched, IsAdmitted, IsKept, IsTold, blocks_without}
-use Rattle.journal.specs.Calls.{Does, Writes, Syncs, call_at}
+use Rattle.journal.specs.Calls.{call_at}
 use Rattle.journal.specs.Order.{at_fault, following}
 use Rattle.model.specs.Volume.{descriptor_place, format_in, format_number, gate_place, home_place, home_size, image_place, laid_over}
 use Rattle.model.specs.Volume.{logical_blocks, segment_count}
@@ -56,8 +58,8 @@ module _ (old new : Device) (blocks : ℕ) (superblock : List ℕ) (room : List 
   -- a write, good or failed
   record HasWritten (at : ℕ) (written : List ℕ) (h : Bool) : Type 0 where
     content : IsTrue old.tells → h ≡ false → new.content ≡ overwritten at written old.content
-    crash : IsTrue old.tells → TearsAt at (length written) old new
-    since : IsTrue old.tells → LeftTornAt at (length written) old new
+    crash : TearsAt at (length written) old new
+    since : LeftTornAt at (length written) old new
 
   module _ (s : Next) (was : Was s) (live : IsLive is_last s) where
     staged : (t : ℕ) → t ≤ filled → IsStaged blocks (staged_at room t)
@@ -142,7 +144,7 @@ module _ (old new : Device) (blocks : ℕ) (superblock : List ℕ) (room : List 
         is
 
     -- after a good sync
-    after_sync : {T E : Type 0} (x : T) (g : Next) (without : List (List ℕ)) → Syncs {T = T} {E = E} (Ok x) old new
+    after_sync : {grows : Bool} (x : Unit {0}) (g : Next) (without : List (List ℕ)) → Syncs grows (Ok x) old new
         → IsWithin n (sizes_of f) g → (IsOrdered is_last g → IsOrdered is_last s) → g ≢ Descriptor
         → (IsTrue old.tells → Bears f g old.content)
         → (IsTrue old.tells → Holds f g old.content)
@@ -155,11 +157,11 @@ module _ (old new : Device) (blocks : ℕ) (superblock : List ℕ) (room : List 
         (λ t runs. subst (λ (x : List ℕ). Holds f g x) (sym (did.content t)) (holds t))
         is
 
-  written_ok : {T E : Type 0} (x : T) (at : ℕ) (written : List ℕ) → Writes {T = T} {E = E} at written (Ok x) old new
+  written_ok : {grows : Bool} (x : Unit {0}) (at : ℕ) (written : List ℕ) → Writes grows at written (Ok x) old new
       → HasWritten at written false
   written_ok x at written did = record { content = λ t runs. did.content t; crash = did.crash; since = did.since }
 
-  written_err : {T E : Type 0} (e : E) (at : ℕ) (written : List ℕ) → Writes {T = T} {E = E} at written (Err e) old new
+  written_err : {grows : Bool} (e : DiskError) (at : ℕ) (written : List ℕ) → Writes grows at written (Err e) old new
       → HasWritten at written true
   written_err e at written did = record { content = λ t runs. absurd (true≢false runs); crash = did.crash; since = did.since }
 
@@ -234,12 +236,12 @@ module _ (old new : Device) (blocks : ℕ) (superblock : List ℕ) (room : List 
       (λ t. after_home (λ g. without_at g old ≡ without_at (Home j i) old) n (sizes_of f) j i (λ e d. refl) (λ e d. refl) (λ e. refl))
 
   -- a failed call that wrote nothing
-  no_more : (s : Next) (was : Was s) → (IsTrue old.tells → LeavesNoMore old new) → IsTrue old.tells
+  no_more : (s : Next) (was : Was s) → LeavesNoMore old new → IsTrue old.tells
       → IsTold new blocks (part 20 128 superblock) s true f × (blocks_without m s new.content ≡ blocks_without m s old.content)
   no_more s was left t = told_failed old new blocks (part 20 128 superblock) s f was.place (was.told t) (left t)
       (law (subst (λ (b : Bool). IsTrue b) (sym time.tells) t))
 
-  pub kept_failed : (s : Next) → s ≢ Descriptor → Was s → (IsTrue old.tells → LeavesNoMore old new)
+  pub kept_failed : (s : Next) → s ≢ Descriptor → Was s → LeavesNoMore old new
       → IsKept new blocks superblock s true room filled is_last
   kept_failed s other was left = record {
     size = time.size ∙ was.size;
@@ -260,7 +262,7 @@ module _ (old new : Device) (blocks : ℕ) (superblock : List ℕ) (room : List 
     formats = λ tells c left_now. let t = subst (λ (b : Bool). IsTrue b) time.tells tells in was.formats t c (left t c left_now);
   }
 
-  after_failed_sync : {T E : Type 0} (e : E) (s : Next) → s ≢ Descriptor → Was s → Syncs {T = T} {E = E} (Err e) old new
+  after_failed_sync : {grows : Bool} (e : DiskError) (s : Next) → s ≢ Descriptor → Was s → Syncs grows (Err e) old new
       → IsAfter s true (without_at s old)
   after_failed_sync e s other was did = record {
     is_kept = kept_failed s other was did.crash;
@@ -269,7 +271,7 @@ module _ (old new : Device) (blocks : ℕ) (superblock : List ℕ) (room : List 
   }
 
   -- the sync that commits lays the batch over
-  after_committing : {T E : Type 0} (x : T) → Was Commit → Syncs {T = T} {E = E} (Ok x) old new
+  after_committing : {grows : Bool} (x : Unit {0}) → Was Commit → Syncs grows (Ok x) old new
       → IsAfter (following n (sizes_of f) Commit) false (laid_over (without_at Commit old) f.batch.numbers f.batch.images)
   after_committing x was did =
       after_sync Commit was tt x (following n (sizes_of f) Commit) (laid_over (without_at Commit old) f.batch.numbers f.batch.images) did
@@ -291,7 +293,7 @@ module _ (old new : Device) (blocks : ℕ) (superblock : List ℕ) (room : List 
           (staged_in Commit was tt t) holds.0 holds.1 holds.2 (less_before room filled is_last was.there (was.order tt))
 
   -- the sync after a gate was closed
-  after_a_gate : {T E : Type 0} (x : T) (j : ℕ) → Was (Finish j) → Syncs {T = T} {E = E} (Ok x) old new
+  after_a_gate : {grows : Bool} (x : Unit {0}) (j : ℕ) → Was (Finish j) → Syncs grows (Ok x) old new
       → IsAfter (following n (sizes_of f) (Finish j)) false (without_at (Finish j) old)
   after_a_gate x j was did =
       let last = last_where f (omega (arith, was.within)) in
@@ -308,47 +310,50 @@ module _ (old new : Device) (blocks : ℕ) (superblock : List ℕ) (room : List 
       (λ e. holds))
       (λ t. after_gate (λ g. without_at g old ≡ without_at (Finish j) old) n (sizes_of f) j (λ e. refl) (λ e. refl))
 
-  abbrev Called : {T E : Type 0} → Next → Result T E → Type 0
-  Called s result = Does (call_at s (length room) (all_of f) m f.batch.descriptor f.batch.images) result old new
+  module _ (write_grows sync_grows : Bool) where
+    abbrev Called : Next → Result (Unit {0}) DiskError → Type 0
+    Called s result =
+        Does write_grows sync_grows (call_at s (length room) (all_of f) m f.batch.descriptor f.batch.images) result old new
 
-  -- after any good call
-  pub after_ok : (T E : Type 0) (x : T) (s : Next) → s ≢ Idle → Was s → Called {T = T} {E = E} s (Ok x)
-      → IsAfter (following n (sizes_of f) s) false
-      (blocks_then s (without_at s old) (laid_over (without_at s old) f.batch.numbers f.batch.images))
-  after_ok T E x Idle flies was did = absurd (flies refl)
-  after_ok T E x Descriptor flies was did = after_descriptor false was (written_ok x (4096 * descriptor_place m) f.batch.descriptor did)
-  after_ok T E x (Image i) flies was did =
-      after_an_image i false was (written_ok x (4096 * image_place m i) (get_or f.batch.images i []) did)
-  after_ok T E x Seal flies was did =
-      after_sync Seal was tt x OpenGate (without_at Seal old) did tt (λ o. tt) (λ e. cc)
-      (λ t. tt) (λ t. (was.told t).holds refl) (λ t. refl)
-  after_ok T E x OpenGate flies was did = after_open_gate false was (written_ok x (4096 * gate_place m) (1 ∷ []) did)
-  after_ok T E x Commit flies was did = after_committing x was did
-  after_ok T E x (Home j i) flies was did =
-      after_a_home j i false was (written_ok x (4096 * home_place (length room) (get_or (held_at (all_of f) j).batch.numbers i 0))
-      (get_or (held_at (all_of f) j).batch.images i []) did)
-  after_ok T E x Settle flies was did =
-      after_sync Settle was tt x (CloseGate 0) (without_at Settle old) did was.within (λ o. absurd o) (λ e. cc)
-      (λ t. tt) (λ t. holds_settled f old.content (part 20 128 superblock) (was.told t).stands (was.told t).count ((was.told t).holds refl))
-      (λ t. refl)
-  after_ok T E x (CloseGate j) flies was did =
-      after_close_gate j false was (written_ok x (4096 * gate_place (held_at (all_of f) j).place) (0 ∷ []) did)
-  after_ok T E x (Finish j) flies was did = after_a_gate x j was did
+    -- after any good call
+    pub after_ok : (x : Unit {0}) (s : Next) → s ≢ Idle → Was s → Called s (Ok x)
+        → IsAfter (following n (sizes_of f) s) false
+        (blocks_then s (without_at s old) (laid_over (without_at s old) f.batch.numbers f.batch.images))
+    after_ok x Idle flies was did = absurd (flies refl)
+    after_ok x Descriptor flies was did = after_descriptor false was (written_ok x (4096 * descriptor_place m) f.batch.descriptor did)
+    after_ok x (Image i) flies was did =
+        after_an_image i false was (written_ok x (4096 * image_place m i) (get_or f.batch.images i []) did)
+    after_ok x Seal flies was did =
+        after_sync Seal was tt x OpenGate (without_at Seal old) did tt (λ o. tt) (λ e. cc)
+        (λ t. tt) (λ t. (was.told t).holds refl) (λ t. refl)
+    after_ok x OpenGate flies was did = after_open_gate false was (written_ok x (4096 * gate_place m) (1 ∷ []) did)
+    after_ok x Commit flies was did = after_committing x was did
+    after_ok x (Home j i) flies was did =
+        after_a_home j i false was (written_ok x (4096 * home_place (length room) (get_or (held_at (all_of f) j).batch.numbers i 0))
+        (get_or (held_at (all_of f) j).batch.images i []) did)
+    after_ok x Settle flies was did =
+        after_sync Settle was tt x (CloseGate 0) (without_at Settle old) did was.within (λ o. absurd o) (λ e. cc)
+        (λ t. tt) (λ t. holds_settled f old.content (part 20 128 superblock) (was.told t).stands (was.told t).count
+        ((was.told t).holds refl))
+        (λ t. refl)
+    after_ok x (CloseGate j) flies was did =
+        after_close_gate j false was (written_ok x (4096 * gate_place (held_at (all_of f) j).place) (0 ∷ []) did)
+    after_ok x (Finish j) flies was did = after_a_gate x j was did
 
-  -- and after any failed one
-  pub after_err : (T E : Type 0) (e : E) (s : Next) → s ≢ Idle → Was s → Called {T = T} {E = E} s (Err e)
-      → IsAfter (at_fault n (sizes_of f) s) true (without_at s old)
-  after_err T E e Idle flies was did = absurd (flies refl)
-  after_err T E e Descriptor flies was did = after_descriptor true was (written_err e (4096 * descriptor_place m) f.batch.descriptor did)
-  after_err T E e (Image i) flies was did =
-      after_an_image i true was (written_err e (4096 * image_place m i) (get_or f.batch.images i []) did)
-  after_err T E e Seal flies was did = after_failed_sync e Seal (λ d. cc) was did
-  after_err T E e OpenGate flies was did = after_open_gate true was (written_err e (4096 * gate_place m) (1 ∷ []) did)
-  after_err T E e Commit flies was did = after_failed_sync e Commit (λ d. cc) was did
-  after_err T E e (Home j i) flies was did =
-      after_a_home j i true was (written_err e (4096 * home_place (length room) (get_or (held_at (all_of f) j).batch.numbers i 0))
-      (get_or (held_at (all_of f) j).batch.images i []) did)
-  after_err T E e Settle flies was did = after_failed_sync e Settle (λ d. cc) was did
-  after_err T E e (CloseGate j) flies was did =
-      after_close_gate j true was (written_err e (4096 * gate_place (held_at (all_of f) j).place) (0 ∷ []) did)
-  after_err T E e (Finish j) flies was did = after_failed_sync e (Finish j) (λ d. cc) was did
+    -- and after any failed one
+    pub after_err : (e : DiskError) (s : Next) → s ≢ Idle → Was s → Called s (Err e)
+        → IsAfter (at_fault n (sizes_of f) s) true (without_at s old)
+    after_err e Idle flies was did = absurd (flies refl)
+    after_err e Descriptor flies was did = after_descriptor true was (written_err e (4096 * descriptor_place m) f.batch.descriptor did)
+    after_err e (Image i) flies was did =
+        after_an_image i true was (written_err e (4096 * image_place m i) (get_or f.batch.images i []) did)
+    after_err e Seal flies was did = after_failed_sync e Seal (λ d. cc) was did
+    after_err e OpenGate flies was did = after_open_gate true was (written_err e (4096 * gate_place m) (1 ∷ []) did)
+    after_err e Commit flies was did = after_failed_sync e Commit (λ d. cc) was did
+    after_err e (Home j i) flies was did =
+        after_a_home j i true was (written_err e (4096 * home_place (length room) (get_or (held_at (all_of f) j).batch.numbers i 0))
+        (get_or (held_at (all_of f) j).batch.images i []) did)
+    after_err e Settle flies was did = after_failed_sync e Settle (λ d. cc) was did
+    after_err e (CloseGate j) flies was did =
+        after_close_gate j true was (written_err e (4096 * gate_place (held_at (all_of f) j).place) (0 ∷ []) did)
+    after_err e (Finish j) flies was did = after_failed_sync e (Finish j) (λ d. cc) was did

@@ -1,9 +1,10 @@
 -- How many writes and syncs the device counts at each call.
 use Rattle.std.proofs.Common.{◌≡◌, ◌≢◌, ℕ, ◌+◌, ◌%◌, ◌^◌, Bool, true, false, if◌then◌else◌, List, sym, ◌∙◌, ap, subst, arith, refl, Ok}
 use Rattle.std.proofs.Math.Nat.{mod-add-mod, mod-mod}
+use Rattle.disk.specs.Calls.{Does}
 use Rattle.disk.specs.Device.{Device, IsSync, IsWrite, one_more}
 use Rattle.segment_laws.specs.Held.{HeldBatch}
-use Rattle.journal.specs.Calls.{Does, call_at}
+use Rattle.journal.specs.Calls.{call_at}
 use Rattle.journal.specs.Order.{IsMore, following, is_sync, syncs_made, writes_made}
 use Rattle.journal.specs.declared.Next.{Next}
 use Rattle.journal.specs.declared.Next.TheVariants.{Idle, Descriptor, Image, Seal, OpenGate, Commit, Home, Settle, CloseGate, Finish}
@@ -22,19 +23,20 @@ abbrev pub Asks : Bool → Device → Device → Type 0
 Asks true old new = IsSync old new
 Asks false old new = IsWrite old new
 
-pub asks_by : (T E : Type 0) (next : Next) (segments : ℕ) (held : List HeldBatch) (place : ℕ) (descriptor : List ℕ) (images : List (List ℕ))
-    (x : T) (old new : Device)
-    → Does {T = T} {E = E} (call_at next segments held place descriptor images) (Ok x) old new → next ≢ Idle → Asks (is_sync next) old new
-asks_by T E Idle segments held place descriptor images x old new did flies = absurd (flies refl)
-asks_by T E Descriptor segments held place descriptor images x old new did flies = did.asks
-asks_by T E (Image i) segments held place descriptor images x old new did flies = did.asks
-asks_by T E Seal segments held place descriptor images x old new did flies = did.asks
-asks_by T E OpenGate segments held place descriptor images x old new did flies = did.asks
-asks_by T E Commit segments held place descriptor images x old new did flies = did.asks
-asks_by T E (Home j i) segments held place descriptor images x old new did flies = did.asks
-asks_by T E Settle segments held place descriptor images x old new did flies = did.asks
-asks_by T E (CloseGate j) segments held place descriptor images x old new did flies = did.asks
-asks_by T E (Finish j) segments held place descriptor images x old new did flies = did.asks
+pub asks_by : (write_grows sync_grows : Bool) (next : Next) (segments : ℕ) (held : List HeldBatch) (place : ℕ) (descriptor : List ℕ)
+    (images : List (List ℕ)) (x : Unit {0}) (old new : Device)
+    → Does write_grows sync_grows (call_at next segments held place descriptor images) (Ok x) old new → next ≢ Idle
+    → Asks (is_sync next) old new
+asks_by write_grows sync_grows Idle segments held place descriptor images x old new did flies = absurd (flies refl)
+asks_by write_grows sync_grows Descriptor segments held place descriptor images x old new did flies = did.call
+asks_by write_grows sync_grows (Image i) segments held place descriptor images x old new did flies = did.call
+asks_by write_grows sync_grows Seal segments held place descriptor images x old new did flies = did.call
+asks_by write_grows sync_grows OpenGate segments held place descriptor images x old new did flies = did.call
+asks_by write_grows sync_grows Commit segments held place descriptor images x old new did flies = did.call
+asks_by write_grows sync_grows (Home j i) segments held place descriptor images x old new did flies = did.call
+asks_by write_grows sync_grows Settle segments held place descriptor images x old new did flies = did.call
+asks_by write_grows sync_grows (CloseGate j) segments held place descriptor images x old new did flies = did.call
+asks_by write_grows sync_grows (Finish j) segments held place descriptor images x old new did flies = did.call
 
 -- a good call adds to both counts what it adds to those of the batch
 pub writes_on : (n : ℕ) (sizes : List ℕ) (next : Next) (first : ℕ) (old new : Device) → next ≢ Idle → Asks (is_sync next) old new

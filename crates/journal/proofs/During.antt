@@ -318,8 +318,8 @@ module _ {D : Type 0} (device : D → Device) (old now new : JournalView D) (so_
       → IsMore w (device old.disk).writes (device new.disk).writes)
       × ((s : ℕ) → 2 + s ≡ syncs_made (sizes new) new.next → IsMore s (device old.disk).syncs (device new.disk).syncs)
   counted p call =
-      let asks = asks_by Progress JournalError now.next now.segments (all_held now) now.place
-      (descriptor_of now.number now.last now.numbers) now.images p (device now.disk) (device new.disk) call.does flies in
+      let asks = asks_by true true now.next now.segments (all_held now) now.place
+      (descriptor_of now.number now.last now.numbers) now.images tt (device now.disk) (device new.disk) call.does flies in
       let n = length now.numbers in
       let size : length new.numbers ≡ n = ap length call.same.numbers in
       let same = same_sizes now new call.same in (

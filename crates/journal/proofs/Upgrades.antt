@@ -1,20 +1,19 @@
 -- The opening of the format's gate: what the journal keeps after it, and what a crash within it leaves.
-use Rattle.std.proofs.Common.{◌≡◌, ◌≢◌, ◌⊎◌, inl, inr, ⊎_elim, ◌<◌, ◌≤◌, ℕ, ◌+◌, ◌-◌, ◌*◌, Bool, true, false, IsTrue, cond, eqb, List, []}
-use Rattle.std.proofs.Common.{◌∷◌, length, get_or, map, take, refl, sym, ◌∙◌, ap, subst, arith, Result, Ok, Err}
+use Rattle.std.proofs.Common.{◌≡◌, ◌≢◌, ◌⊎◌, inl, inr, ⊎_elim, ◌≤◌, ℕ, Bool, true, false, IsTrue, List, []}
+use Rattle.std.proofs.Common.{◌∷◌, length, map, take, refl, sym, ◌∙◌, ap, subst, arith, Result, Ok, Err}
 use Rattle.std.proofs.lemmas.Bool.{true≢false}
+use Rattle.disk.specs.Calls.{Syncs, Writes}
 use Rattle.disk.specs.Device.{Device, Elapses, IsRefused, IsTornImage, LeavesNoMore, LeavesOnly, LeftNoMore, LeftTornAt, TearsAt, one_more}
 use Rattle.disk.specs.declared.DiskError.{DiskError}
 use Rattle.disk.specs.declared.DiskError.TheVariants as disk_errors
 use Rattle.disk.specs.Image.{Torn, overwritten, part}
 use Rattle.segment_laws.specs.Held.{AreOpen}
-use Rattle.segment_laws.specs.Images.{SameBut}
 use Rattle.segment_laws.proofs.Blocks.{same_but_equal}
 use Rattle.segment_laws.proofs.Formats.{gate_opens, overwritten_torn, some_format}
 use Rattle.segment_laws.proofs.Standing.{format_open, format_unread}
 use Rattle.segment_laws.proofs.Whole.{stands_length}
 use Rattle.journal_segments.specs.Staged.{Staged, held_as}
 use Rattle.journal.specs.Flight.{Flight, flight_in, left_of}
-use Rattle.journal.specs.Calls.{Call, IsAsked}
 use Rattle.journal.specs.Inside.{IsAdmitted, IsKept, IsTold, Touched, blocks_without}
 use Rattle.journal.specs.Journal.{JournalView}
 use Rattle.journal.specs.Upgrading.{IsSameButFormat, Upgrades}
@@ -22,9 +21,9 @@ use Rattle.journal.specs.declared.JournalError.{JournalError}
 use Rattle.journal.specs.declared.JournalError.TheVariants.{Fault, Memory}
 use Rattle.journal.specs.declared.Next.{Next}
 use Rattle.journal.proofs.Whole.{kept_refused}
-use Rattle.model.specs.Volume.{StandsFor, block, format_in, format_number, home_place, home_size, laid_over, logical_blocks, number_at}
+use Rattle.model.specs.Volume.{StandsFor, block, format_in, format_number, home_size, laid_over, logical_blocks, number_at}
 use Rattle.model.specs.Volume.{segment_count}
-use Rattle.journal.specs.declared.Next.TheVariants.{Commit, Descriptor, Idle}
+use Rattle.journal.specs.declared.Next.TheVariants.{Descriptor, Idle}
 
 pub at_rest : (label : List ℕ) (bs after : List (List ℕ)) (c : List ℕ) → IsAdmitted Idle label bs after c → StandsFor c label bs
 at_rest label bs after c (inl stands) = stands
@@ -216,26 +215,28 @@ module _ {D : Type 0} (device : D → Device) (before later : D) (blocks : ℕ) 
   abbrev Kept : Next → Bool → Type 0
   Kept next h = IsKept (device before) blocks superblock next h room filled is_last
 
-  abbrev Asked : {T : Type 0} → Call → Result T DiskError → D → D → Type 0
-  Asked call result d e = IsAsked call result (device d) (device e)
+  abbrev WritesGate : Bool → Result (Unit {0}) DiskError → D → D → Type 0
+  WritesGate grows result d e = Writes grows 148 (2 ∷ []) result (device d) (device e)
 
-  abbrev gate : Call
-  gate = Call.Write 148 (2 ∷ [])
+  abbrev SyncsGate : Bool → Result (Unit {0}) DiskError → D → D → Type 0
+  SyncsGate grows result d e = Syncs grows result (device d) (device e)
 
   -- the torn images of the write, also after a sync that failed
-  torn_after : (mid : D) → TearsAt 148 1 (device before) (device mid) → LeavesNoMore (device mid) (device later) → (c : List ℕ)
-      → (device later).may_leave c → IsTornImage 148 1 (device before) c
-  torn_after mid tears no_more c left = tears c (no_more c left)
+  torn_after : (mid : D) → (IsTrue (device before).tells → IsTrue (device mid).tells) → TearsAt 148 1 (device before) (device mid)
+      → LeavesNoMore (device mid) (device later) → TearsAt 148 1 (device before) (device later)
+  torn_after mid mid_tells tears no_more t c left = tears t c (no_more (mid_tells t) c left)
 
-  since_after : (mid : D) (t : ℕ) (c : List ℕ) → (device before).clock ≤ (device mid).clock → t ≤ (device before).clock
-      → LeftTornAt 148 1 (device before) (device mid) → LeftNoMore (device mid) (device later) → (device later).left_since t c
-      → (device before).left_since t c ⊎ IsTornImage 148 1 (device before) c
-  since_after mid t c clock low tears no_more left = tears t c low (no_more t c (omega (arith, clock, low)) left)
+  since_after : (mid : D) → (IsTrue (device before).tells → IsTrue (device mid).tells) → (device before).clock ≤ (device mid).clock
+      → LeftTornAt 148 1 (device before) (device mid) → LeftNoMore (device mid) (device later)
+      → LeftTornAt 148 1 (device before) (device later)
+  since_after mid mid_tells clock tears no_more t time c low left =
+      tears t time c low (no_more (mid_tells t) time c (omega (arith, clock, low)) left)
 
   module _ (law : IsTrue (device later).tells → (device later).may_leave (device later).content) (first : format_in superblock ≡ 1) where
     -- both calls were good
-    idle_ok : (mid : D) (after : List ℕ) → length after ≡ 4096 → part 20 128 after ≡ part 20 128 superblock → format_in after ≡ 2
-        → (x y : Unit {0}) → Kept Idle false → Asked gate (Ok x) before mid → Asked Call.Sync (Ok y) mid later
+    idle_ok : {write_grows sync_grows : Bool} (mid : D) (after : List ℕ) → length after ≡ 4096
+        → part 20 128 after ≡ part 20 128 superblock → format_in after ≡ 2
+        → (x y : Unit {0}) → Kept Idle false → WritesGate write_grows (Ok x) before mid → SyncsGate sync_grows (Ok y) mid later
         → IsKept (device later) blocks after Idle false room filled is_last × Upgrades device (view before superblock Idle false)
         (view later after Idle false) (Ok tt)
     idle_ok mid after size label format x y kept wrote synced =
@@ -248,9 +249,9 @@ module _ {D : Type 0} (device : D → Device) (before later : D) (blocks : ℕ) 
           later = omega (arith, wrote.time.later, synced.time.later);
         } in
         let content : IsTrue (device before).tells → (device later).content ≡ overwritten 148 (2 ∷ []) (device before).content =
-        λ t. synced.does.content (mid_tells t) ∙ wrote.does.content t in
+        λ t. synced.content (mid_tells t) ∙ wrote.content t in
         let only : IsTrue (device before).tells → LeavesOnly (device later) (overwritten 148 (2 ∷ []) (device before).content) =
-        λ t c left. synced.does.durable (mid_tells t) c left ∙ wrote.does.content t in
+        λ t c left. synced.durable (mid_tells t) c left ∙ wrote.content t in
         let now = opened_kept (device before) blocks superblock room filled is_last kept first
         (device later) time after content only size label format in (
           now,
@@ -261,8 +262,8 @@ module _ {D : Type 0} (device : D → Device) (before later : D) (blocks : ℕ) 
             format = format;
             running = refl;
             synced = λ t c left. only t c left ∙ sym (content t);
-            writes = synced.does.asks.writes ∙ wrote.does.asks.writes;
-            syncs = synced.does.asks.syncs ∙ ap one_more wrote.does.asks.syncs;
+            writes = synced.call.writes ∙ wrote.call.writes;
+            syncs = synced.call.syncs ∙ ap one_more wrote.call.syncs;
             time = time;
             failures = record { ok = synced.cause.ok ∙ wrote.cause.ok; fault = tt };
             no_other = tt;
@@ -272,15 +273,13 @@ module _ {D : Type 0} (device : D → Device) (before later : D) (blocks : ℕ) 
             since = λ t time' c low left.
                 ⊎_elim (λ earlier. inl earlier)
                 (λ from. inr (still_admitted (device before) blocks superblock room filled is_last kept first t c from))
-                (since_after mid time' c wrote.time.later low (wrote.does.since t) (synced.does.since (mid_tells t)) left);
+                (since_after mid mid_tells wrote.time.later wrote.since synced.since t time' c low left);
           },
         )
 
     -- the write failed, or the sync after it: the images are torn ones
     cut_off : (e : JournalError) → Elapses (device before) (device later) → Kept Idle false
-        → (IsTrue (device before).tells → (c : List ℕ) → (device later).may_leave c → IsTornImage 148 1 (device before) c)
-        → (IsTrue (device before).tells → (t : ℕ) (c : List ℕ) → t ≤ (device before).clock → (device later).left_since t c
-        → (device before).left_since t c ⊎ IsTornImage 148 1 (device before) c)
+        → TearsAt 148 1 (device before) (device later) → LeftTornAt 148 1 (device before) (device later)
         → (e ≡ Fault) ⊎ (e ≡ Memory) → (e ≡ Fault → (device later).failures ≢ (device before).failures)
         → (e ≡ Memory → (device later).failures ≡ (device before).failures)
         → IsKept (device later) blocks superblock Idle true room filled is_last × Upgrades device (view before superblock Idle false)
@@ -311,33 +310,34 @@ module _ {D : Type 0} (device : D → Device) (before later : D) (blocks : ℕ) 
           },
         )
 
-    idle_unwritten : (e : DiskError) → e ≡ disk_errors.Fault → Kept Idle false → Asked {T = Unit {0}} gate (Err e) before later
+    idle_unwritten : {write_grows : Bool} (e : DiskError) → e ≡ disk_errors.Fault → Kept Idle false
+        → WritesGate write_grows (Err e) before later
         → IsKept (device later) blocks superblock Idle true room filled is_last × Upgrades device (view before superblock Idle false)
         (view later superblock Idle true) (Err Fault)
     idle_unwritten e is kept wrote =
-        let does = wrote.does is in
-        cut_off Fault wrote.time kept does.crash does.since (inl refl) (λ f. wrote.cause.fault is)
+        cut_off Fault wrote.time kept wrote.crash wrote.since (inl refl) (λ f. wrote.cause.fault is)
         (λ m. absurd (let both : Fault ≡ Memory = m in cc))
 
-    idle_unsynced : (mid : D) (x : Unit {0}) (e : DiskError) → e ≡ disk_errors.Fault → Kept Idle false → Asked gate (Ok x) before mid
-        → Asked {T = Unit {0}} Call.Sync (Err e) mid later
+    idle_unsynced : {write_grows sync_grows : Bool} (mid : D) (x : Unit {0}) (e : DiskError) → e ≡ disk_errors.Fault → Kept Idle false
+        → WritesGate write_grows (Ok x) before mid
+        → SyncsGate sync_grows (Err e) mid later
         → IsKept (device later) blocks superblock Idle true room filled is_last × Upgrades device (view before superblock Idle false)
         (view later superblock Idle true) (Err Fault)
     idle_unsynced mid x e is kept wrote failed =
         let mid_tells : IsTrue (device before).tells → IsTrue (device mid).tells =
         λ t. subst (λ (b : Bool). IsTrue b) (sym wrote.time.tells) t in
-        let does = failed.does is in
         cut_off Fault (record {
           size = failed.time.size ∙ wrote.time.size;
           tells = failed.time.tells ∙ wrote.time.tells;
           later = omega (arith, wrote.time.later, failed.time.later);
         }) kept
-        (λ t c left. torn_after mid (wrote.does.crash t) (does.crash (mid_tells t)) c left)
-        (λ t time' c low left. since_after mid time' c wrote.time.later low (wrote.does.since t) (does.since (mid_tells t)) left)
+        (torn_after mid mid_tells wrote.crash failed.crash)
+        (since_after mid mid_tells wrote.time.later wrote.since failed.since)
         (inl refl) (λ f same. failed.cause.fault is (same ∙ sym wrote.cause.ok)) (λ m. absurd (let both : Fault ≡ Memory = m in cc))
 
-    idle_unsynced_for_memory : (mid : D) (x : Unit {0}) (e : DiskError) → e ≡ disk_errors.Memory → Kept Idle false
-        → Asked gate (Ok x) before mid → Asked {T = Unit {0}} Call.Sync (Err e) mid later
+    idle_unsynced_for_memory : {write_grows sync_grows : Bool} (mid : D) (x : Unit {0}) (e : DiskError) → e ≡ disk_errors.Memory
+        → Kept Idle false
+        → WritesGate write_grows (Ok x) before mid → SyncsGate sync_grows (Err e) mid later
         → IsKept (device later) blocks superblock Idle true room filled is_last × Upgrades device (view before superblock Idle false)
         (view later superblock Idle true) (Err Memory)
     idle_unsynced_for_memory mid x e is kept wrote failed =
@@ -349,8 +349,8 @@ module _ {D : Type 0} (device : D → Device) (before later : D) (blocks : ℕ) 
           tells = failed.time.tells ∙ wrote.time.tells;
           later = omega (arith, wrote.time.later, failed.time.later);
         }) kept
-        (λ t c left. torn_after mid (wrote.does.crash t) (refused.crash (mid_tells t)) c left)
-        (λ t time' c low left. since_after mid time' c wrote.time.later low (wrote.does.since t) (refused.since (mid_tells t)) left)
+        (torn_after mid mid_tells wrote.crash refused.crash)
+        (since_after mid mid_tells wrote.time.later wrote.since refused.since)
         (inr refl) (λ f. absurd (let both : Memory ≡ Fault = f in cc)) (λ m. refused.failures ∙ wrote.cause.ok)
 
     -- the write was refused for want of memory: nothing changed
@@ -385,8 +385,9 @@ module _ {D : Type 0} (device : D → Device) (before later : D) (blocks : ℕ) 
           let now : Kept Idle false = subst (λ (b : Bool). Kept Idle b) running (subst (λ (n : Next). Kept n h) is kept) in
           subst (λ (n : Next). P n h) (sym is) (subst (λ (b : Bool). P Idle b) (sym running) (p now))
 
-      pub when_ok : (mid : D) (after : List ℕ) → length after ≡ 4096 → part 20 128 after ≡ part 20 128 superblock → format_in after ≡ 2
-          → (x y : Unit {0}) → Asked gate (Ok x) before mid → Asked Call.Sync (Ok y) mid later
+      pub when_ok : {write_grows sync_grows : Bool} (mid : D) (after : List ℕ) → length after ≡ 4096
+          → part 20 128 after ≡ part 20 128 superblock → format_in after ≡ 2
+          → (x y : Unit {0}) → WritesGate write_grows (Ok x) before mid → SyncsGate sync_grows (Ok y) mid later
           → IsKept (device later) blocks after next h room filled is_last
           × Upgrades device (view before superblock next h) (view later after next h) (Ok tt)
       when_ok mid after size label format x y wrote synced =
@@ -398,15 +399,18 @@ module _ {D : Type 0} (device : D → Device) (before later : D) (blocks : ℕ) 
       Cut e n b = IsKept (device later) blocks superblock n true room filled is_last
           × Upgrades device (view before superblock n b) (view later superblock n true) (Err e)
 
-      pub when_unwritten : (e : DiskError) → e ≡ disk_errors.Fault → Asked {T = Unit {0}} gate (Err e) before later → Cut Fault next h
+      pub when_unwritten : {write_grows : Bool} (e : DiskError) → e ≡ disk_errors.Fault → WritesGate write_grows (Err e) before later
+          → Cut Fault next h
       when_unwritten e fails wrote = at_idle (Cut Fault) (λ now. idle_unwritten e fails now wrote)
 
-      pub when_unsynced : (mid : D) (x : Unit {0}) (e : DiskError) → e ≡ disk_errors.Fault → Asked gate (Ok x) before mid
-          → Asked {T = Unit {0}} Call.Sync (Err e) mid later → Cut Fault next h
+      pub when_unsynced : {write_grows sync_grows : Bool} (mid : D) (x : Unit {0}) (e : DiskError) → e ≡ disk_errors.Fault
+          → WritesGate write_grows (Ok x) before mid
+          → SyncsGate sync_grows (Err e) mid later → Cut Fault next h
       when_unsynced mid x e fails wrote failed = at_idle (Cut Fault) (λ now. idle_unsynced mid x e fails now wrote failed)
 
-      pub when_unsynced_for_memory : (mid : D) (x : Unit {0}) (e : DiskError) → e ≡ disk_errors.Memory → Asked gate (Ok x) before mid
-          → Asked {T = Unit {0}} Call.Sync (Err e) mid later → Cut Memory next h
+      pub when_unsynced_for_memory : {write_grows sync_grows : Bool} (mid : D) (x : Unit {0}) (e : DiskError) → e ≡ disk_errors.Memory
+          → WritesGate write_grows (Ok x) before mid
+          → SyncsGate sync_grows (Err e) mid later → Cut Memory next h
       when_unsynced_for_memory mid x e fails wrote failed =
           at_idle (Cut Memory) (λ now. idle_unsynced_for_memory mid x e fails now wrote failed)
 

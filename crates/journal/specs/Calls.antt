@@ -1,10 +1,11 @@
 -- The device calls of a batch, and what each does.
-use Rattle.std.specs.Prelude.{◌≡◌, ◌≤◌, ℕ, ◌+◌, ◌*◌, false, true, IsTrue, List, [], ◌∷◌, length, slice_index, slice_index_or, Result, OnOk}
-use Rattle.std.specs.Prelude.{IfOk, IfErr, MatchResult}
+use Rattle.std.specs.Prelude.{◌≡◌, ◌≤◌, ℕ, ◌+◌, ◌*◌, false, true, IsTrue, List, [], ◌∷◌, length, slice_index, slice_index_or, Result, Ok}
+use Rattle.std.specs.Prelude.{Err, OnOk, IfOk, IfErr, MatchResult}
 use Rattle.disk.specs.declared.DiskError.{DiskError}
-use Rattle.disk.specs.Device.{Device, Elapses, HasCause, IsRefused, IsSync, IsWrite, LeavesNoMore, LeavesOnly, LeftNoMore, LeftTornAt}
-use Rattle.disk.specs.Device.{OnAsked, OnRefused, TearsAt}
-use Rattle.disk.specs.Image.{overwritten}
+use Rattle.disk.specs.declared.DiskError.TheVariants as disk_error
+use Rattle.disk.specs.Calls.{Call, Does}
+use Rattle.disk.specs.Calls.Call.{Write, Sync}
+use Rattle.disk.specs.Device.{Device, Elapses, IsRefused}
 use Rattle.model.specs.Volume.{descriptor_of, descriptor_place, gate_place, home_place, image_place}
 use Rattle.segment_laws.specs.Held.{HeldBatch}
 use Rattle.journal.specs.Flight.{held_at}
@@ -14,14 +15,9 @@ use Rattle.journal.specs.Order.{IsMore, all_calls, answer, at_fault, following, 
 use Rattle.journal.specs.declared.Progress.{Progress}
 use Rattle.journal.specs.declared.Progress.TheVariants.{Committed}
 use Rattle.journal.specs.declared.JournalError.{JournalError}
-use Rattle.journal.specs.declared.JournalError.TheVariants.{Fault, Memory}
+use Rattle.journal.specs.declared.JournalError.TheVariants.{Fault, Halted, Memory, NotAVolume}
 use Rattle.journal.specs.declared.Next.{Next}
 use Rattle.journal.specs.declared.Next.TheVariants.{Descriptor, Image, OpenGate, Home, CloseGate}
-
--- octets to be written from a place on, or a sync
-pub data Call : Type 0 where
-  Write : ℕ → List ℕ → Call
-  Sync : Call
 
 -- The next call. It depends on the number of segments, on those that are open once the batch is committed, on the place
 -- of its segment, and on its descriptor block and images. At `Idle` there is none.
@@ -38,32 +34,13 @@ abbrev pub call_of : {D : Type 0} → JournalView D → Call
 call_of journal = call_at journal.next journal.segments (all_held journal) journal.place
     (descriptor_of journal.number journal.last journal.numbers) journal.images
 
--- exactly one write was asked, of these octets at this place
-pub record Writes {T E : Type 0} (at : ℕ) (octets : List ℕ) (result : Result T E) (old new : Device) : Type 0 where
-  pub asks : IsWrite old new
-  pub content : IsTrue old.tells → OnOk result (new.content ≡ overwritten at octets old.content)
-  pub crash : IsTrue old.tells → TearsAt at (length octets) old new
-  pub since : IsTrue old.tells → LeftTornAt at (length octets) old new
-
--- exactly one sync was asked
-pub record Syncs {T E : Type 0} (result : Result T E) (old new : Device) : Type 0 where
-  pub asks : IsSync old new
-  pub durable : IsTrue old.tells → OnOk result (LeavesOnly new old.content)
-  pub content : IsTrue old.tells → OnOk result (new.content ≡ old.content)
-  pub crash : IsTrue old.tells → LeavesNoMore old new
-  pub since : IsTrue old.tells → LeftNoMore old new
-
--- this call was asked, once, and no other
-abbrev pub Does : {T E : Type 0} → Call → Result T E → Device → Device → Type 0
-Does (Write at octets) result old new = Writes at octets result old new
-Does Sync result old new = Syncs result old new
-
--- the call was asked once, of a device that may refuse it for want of memory
-pub record IsAsked {T : Type 0} (call : Call) (result : Result T DiskError) (old new : Device) : Type 0 where
-  pub does : OnAsked result (Does call result old new)
-  pub time : Elapses old new
-  pub cause : HasCause result old new
-  pub refused : OnRefused result old new
+-- the answer of the device that a step hands on
+abbrev pub device_answer : Result Progress JournalError → Result (Unit {0}) DiskError
+device_answer (Ok progress) = Ok tt
+device_answer (Err Fault) = Err disk_error.Fault
+device_answer (Err NotAVolume) = Err disk_error.Fault
+device_answer (Err Halted) = Err disk_error.Fault
+device_answer (Err Memory) = Err disk_error.Memory
 
 -- the logical blocks after a good call: the sync that commits lays the batch over
 abbrev pub blocks_after : {D : Type 0} → JournalView D → Progress → List (List ℕ)
@@ -72,7 +49,7 @@ blocks_after journal progress = journal.blocks
 
 -- one call of a batch in flight
 pub record MakesCall {D : Type 0} (device : D → Device) (old new : JournalView D) (result : Result Progress JournalError) : Type 0 where
-  pub does : Does (call_of old) result (device old.disk) (device new.disk)
+  pub does : Does true true (call_of old) (device_answer result) (device old.disk) (device new.disk)
   pub time : Elapses (device old.disk) (device new.disk)
   pub failures : CountsFailures result (device old.disk) (device new.disk)
   pub same : IsSameBatch old new

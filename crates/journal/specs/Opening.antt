@@ -55,7 +55,7 @@ pub record SyncsFirst {D : Type 0} (device : D → Device) (first last : D) : Ty
   pub no_write : (device synced).writes ≡ (device first).writes
   pub before : (device first).clock ≤ (device synced).clock
   pub later : (device synced).clock ≤ (device last).clock
-  pub until : IsTrue (device first).tells → LeftNoMore (device first) (device synced)
+  pub until : LeftNoMore (device first) (device synced)
   pub content : IsTrue (device first).tells → (device synced).content ≡ (device first).content
   pub only : IsTrue (device first).tells → LeavesOnly (device synced) (device first).content
   pub after : IsTrue (device first).tells → (t : ℕ) (c : List ℕ) → t ≤ (device synced).clock → (device last).left_since t c
@@ -63,8 +63,7 @@ pub record SyncsFirst {D : Type 0} (device : D → Device) (first last : D) : Ty
 
 -- no sync was good, and nothing was written
 abbrev pub NeverSyncs : {D : Type 0} → (D → Device) → D → D → Type 0
-NeverSyncs device first last = ((device last).writes ≡ (device first).writes) × (IsTrue (device first).tells
-    → LeftNoMore (device first) (device last))
+NeverSyncs device first last = ((device last).writes ≡ (device first).writes) × LeftNoMore (device first) (device last)
 
 -- the writes that carry these open segments home: each of their images, and each gate
 abbrev pub home_writes : List ℕ → List ℕ → ℕ

@@ -8,7 +8,8 @@ ghost use Rattle.journal.specs.Flight.{all_of, flight_in, sizes_of};
 ghost use Rattle.journal.specs.Inside.{IsWithin};
 ghost use Rattle.journal.specs.Order.{following, calls_made, writes_made, syncs_made, is_growing, is_sync, at_fault, answer};
 ghost use Rattle.journal.specs.Opening.{IsMore};
-ghost use Rattle.journal.specs.Calls.{Call, IsAsked, call_at};
+ghost use Rattle.disk.specs.Calls.{Does, Syncs, Writes};
+ghost use Rattle.journal.specs.Calls.{call_at};
 
 use crate::{Journal, JournalError, Next, Progress};
 use disk::{Disk, DiskError};
@@ -124,7 +125,7 @@ fn ask<D: Disk>(
     requires home { (j i : ℕ) → next ≡ Next.Home j i
         → 4096 * home_place (length room.now.items) (slice_index (staged_at room.now.items j).numbers i) + 4096 ≤ (D.device disk.old).size }
     requires gate { (j : ℕ) → next ≡ Next.CloseGate j → (j ≤ filled) × ((staged_at room.now.items j).place < length room.now.items) }
-    ensures asked { IsAsked
+    ensures does { Does D.write_grows D.sync_grows
         (call_at next (length room.now.items) (all_of (flight_in room.now.items filled true)) (staged_at room.now.items filled).place
         (staged_at room.now.items filled).descriptor (staged_at room.now.items filled).images)
         result (D.device disk.old) (D.device disk.new) }
@@ -151,10 +152,8 @@ fn segment_at(room: &Vec<Segment>, i: usize) -> &Segment
 fn write_descriptor<D: Disk>(disk: &mut D, segment: &Segment) -> Result<(), DiskError>
     requires low { segment.now.place < 8 }
     requires size { 4096 * gate_place (segment.now.place + 1) ≤ (D.device disk.old).size }
-    ensures asked { IsAsked
-        (Call.Write (4096 * descriptor_place segment.now.place) segment.now.descriptor)
+    ensures { Writes D.write_grows (4096 * descriptor_place segment.now.place) segment.now.descriptor
         result (D.device disk.old) (D.device disk.new) }
-    ensures memory { IfErr result (λ error. error ≡ DiskError.Memory → IsTrue D.write_grows) }
 {
     write(
         disk,
@@ -167,10 +166,8 @@ fn write_image<D: Disk>(disk: &mut D, segment: &Segment, i: usize) -> Result<(),
     requires low { segment.now.place < 8 }
     requires size { 4096 * gate_place (segment.now.place + 1) ≤ (D.device disk.old).size }
     requires there { i < length segment.now.numbers }
-    ensures asked { IsAsked
-        (Call.Write (4096 * image_place segment.now.place i) (slice_index_or segment.now.images i []))
+    ensures { Writes D.write_grows (4096 * image_place segment.now.place i) (slice_index_or segment.now.images i [])
         result (D.device disk.old) (D.device disk.new) }
-    ensures memory { IfErr result (λ error. error ≡ DiskError.Memory → IsTrue D.write_grows) }
 {
     prove!(i < segment.count());
     let image = segment.image(i);
@@ -180,8 +177,7 @@ fn write_image<D: Disk>(disk: &mut D, segment: &Segment, i: usize) -> Result<(),
 fn write_gate<D: Disk>(disk: &mut D, segment: &Segment, octet: u8) -> Result<(), DiskError>
     requires low { segment.now.place < 8 }
     requires size { 4096 * gate_place (segment.now.place + 1) ≤ (D.device disk.old).size }
-    ensures asked { IsAsked (Call.Write (4096 * gate_place segment.now.place) (octet ∷ [])) result (D.device disk.old) (D.device disk.new) }
-    ensures memory { IfErr result (λ error. error ≡ DiskError.Memory → IsTrue D.write_grows) }
+    ensures { Writes D.write_grows (4096 * gate_place segment.now.place) (octet ∷ []) result (D.device disk.old) (D.device disk.new) }
 {
     write(disk, gate_block(segment.place()), &[octet])
 }
@@ -195,10 +191,8 @@ fn write_home<D: Disk>(
     requires few { segments ≤ 8 }
     requires there { i < length segment.now.numbers }
     requires size { 4096 * home_place segments (slice_index segment.now.numbers i) + 4096 ≤ (D.device disk.old).size }
-    ensures asked { IsAsked
-        (Call.Write (4096 * home_place segments (slice_index segment.now.numbers i)) (slice_index_or segment.now.images i []))
+    ensures { Writes D.write_grows (4096 * home_place segments (slice_index segment.now.numbers i)) (slice_index_or segment.now.images i [])
         result (D.device disk.old) (D.device disk.new) }
-    ensures memory { IfErr result (λ error. error ≡ DiskError.Memory → IsTrue D.write_grows) }
 {
     let home = home_block(segments, u64::from(segment.number(i)));
     write(disk, home, segment.image(i))
@@ -207,15 +201,13 @@ fn write_home<D: Disk>(
 fn write<D: Disk>(disk: &mut D, block: u64, octets: &[u8]) -> Result<(), DiskError>
     requires low { block < 2 ^ 40 }
     requires fits { 4096 * block + length octets.now ≤ (D.device disk.old).size }
-    ensures asked { IsAsked (Call.Write (4096 * block) octets.now) result (D.device disk.old) (D.device disk.new) }
-    ensures memory { IfErr result (λ error. error ≡ DiskError.Memory → IsTrue D.write_grows) }
+    ensures { Writes D.write_grows (4096 * block) octets.now result (D.device disk.old) (D.device disk.new) }
 {
     disk.write(start_of(block), octets)
 }
 
 pub(crate) fn sync<D: Disk>(disk: &mut D) -> Result<(), DiskError>
-    ensures asked { IsAsked Call.Sync result (D.device disk.old) (D.device disk.new) }
-    ensures memory { IfErr result (λ error. error ≡ DiskError.Memory → IsTrue D.sync_grows) }
+    ensures { Syncs D.sync_grows result (D.device disk.old) (D.device disk.new) }
 {
     disk.sync()
 }

@@ -1,9 +1,9 @@
 //! Makes a volume of format 1 one of format 2.
 
 ghost use Rattle.std.specs.Prelude.{◌≡◌, ◌⊎◌, ◌+◌, ◌≤◌, [], ◌∷◌, IfErr, IsTrue, length};
+ghost use Rattle.disk.specs.Calls.{Syncs, Writes};
 ghost use Rattle.disk.specs.Image.{overwritten, part};
 ghost use Rattle.model.specs.Volume.{format_in};
-ghost use Rattle.journal.specs.Calls.{Call, IsAsked};
 
 use crate::stepping::sync;
 use crate::{Journal, JournalError};
@@ -54,15 +54,13 @@ impl<D: Disk> Journal<D> {
 
 fn write_gate_of_format<D: Disk>(disk: &mut D) -> Result<(), DiskError>
     requires size { 149 ≤ (D.device disk.old).size }
-    ensures asked { IsAsked (Call.Write 148 (2 ∷ [])) result (D.device disk.old) (D.device disk.new) }
-    ensures memory { IfErr result (λ error. error ≡ DiskError.Memory → IsTrue D.write_grows) }
+    ensures { Writes D.write_grows 148 (2 ∷ []) result (D.device disk.old) (D.device disk.new) }
 {
     disk.write(FORMAT_AT as u64, &[IS_FORMAT_2])
 }
 
 fn sync_gate_of_format<D: Disk>(disk: &mut D) -> Result<(), DiskError>
-    ensures asked { IsAsked Call.Sync result (D.device disk.old) (D.device disk.new) }
-    ensures memory { IfErr result (λ error. error ≡ DiskError.Memory → IsTrue D.sync_grows) }
+    ensures { Syncs D.sync_grows result (D.device disk.old) (D.device disk.new) }
 {
     sync(disk)
 }

@@ -1,6 +1,6 @@
-use Rattle.std.proofs.Common.{◌≡◌, ◌∙◌, ap}
+use Rattle.std.proofs.Common.{◌∙◌, ap}
 use Rattle.journal.specs.Journal.{JournalView}
-use Rattle.journal.proofs.Upgrades.{when_ok, when_refused, when_unsynced, when_unsynced_for_memory, when_unwritten}
+use Rattle.journal.proofs.Upgrades.{when_ok, when_unsynced, when_unsynced_for_memory, when_unwritten}
 use Rattle.journal.proofs.Journal.upgrade.Goals as goal
 
 pub invariant_of-self : goal.invariant_of-self
@@ -11,7 +11,7 @@ invariant_of-self g c =
     (when_unwritten g.D.Disk.device c.self.inside.disk c.write_gate_of_format.new.disk c.self.inside.blocks c.self.inside.superblock.items
     c.self.inside.room.items c.self.inside.filled c.self.inside.is_last (g.met.D.Disk.counts_content c.write_gate_of_format.new.disk)
     first c.self.inside.next c.self.inside.halted is running c.self.invariant c.in-Err-Fault.field-0 c.in-Err-Fault.field-0-is
-    c.in-Err-Fault.ensures.asked).0
+    c.in-Err-Fault.ensures).0
 
 pub returns-in-Err-Fault-clause-upgrades : goal.returns-in-Err-Fault-clause-upgrades
 returns-in-Err-Fault-clause-upgrades g c =
@@ -21,7 +21,7 @@ returns-in-Err-Fault-clause-upgrades g c =
     rw (← c.self.view_is) ((when_unwritten g.D.Disk.device c.self.inside.disk c.write_gate_of_format.new.disk c.self.inside.blocks
     c.self.inside.superblock.items c.self.inside.room.items c.self.inside.filled c.self.inside.is_last
     (g.met.D.Disk.counts_content c.write_gate_of_format.new.disk) first c.self.inside.next c.self.inside.halted is running
-    c.self.invariant c.in-Err-Fault.field-0 c.in-Err-Fault.field-0-is c.in-Err-Fault.ensures.asked).1)
+    c.self.invariant c.in-Err-Fault.field-0 c.in-Err-Fault.field-0-is c.in-Err-Fault.ensures).1)
 
 pub invariant_of-self-in-Ok-sync_gate_of_format : goal.invariant_of-self-in-Ok-sync_gate_of_format
 invariant_of-self-in-Ok-sync_gate_of_format g c =
@@ -32,7 +32,7 @@ invariant_of-self-in-Ok-sync_gate_of_format g c =
     c.self.inside.room.items c.self.inside.filled c.self.inside.is_last (g.met.D.Disk.counts_content c.sync_gate_of_format.new.disk)
     first c.self.inside.next c.self.inside.halted is running c.self.invariant c.write_gate_of_format.new.disk
     c.open_gate.new.superblock.items c.open_gate.ensures.size c.open_gate.ensures.label c.open_gate.ensures.format c.in-Ok.field-0
-    c.in-Ok-sync_gate_of_format.field-0 c.in-Ok.ensures.asked c.in-Ok-sync_gate_of_format.ensures.asked).0
+    c.in-Ok-sync_gate_of_format.field-0 c.in-Ok.ensures c.in-Ok-sync_gate_of_format.ensures).0
 
 pub returns-in-Ok-sync_gate_of_format-clause-upgrades : goal.returns-in-Ok-sync_gate_of_format-clause-upgrades
 returns-in-Ok-sync_gate_of_format-clause-upgrades g c =
@@ -43,8 +43,8 @@ returns-in-Ok-sync_gate_of_format-clause-upgrades g c =
     c.self.inside.superblock.items c.self.inside.room.items c.self.inside.filled c.self.inside.is_last
     (g.met.D.Disk.counts_content c.sync_gate_of_format.new.disk) first c.self.inside.next c.self.inside.halted is running
     c.self.invariant c.write_gate_of_format.new.disk c.open_gate.new.superblock.items c.open_gate.ensures.size c.open_gate.ensures.label
-    c.open_gate.ensures.format c.in-Ok.field-0 c.in-Ok-sync_gate_of_format.field-0 c.in-Ok.ensures.asked
-    c.in-Ok-sync_gate_of_format.ensures.asked).1)
+    c.open_gate.ensures.format c.in-Ok.field-0 c.in-Ok-sync_gate_of_format.field-0 c.in-Ok.ensures
+    c.in-Ok-sync_gate_of_format.ensures).1)
 
 pub invariant_of-self-in-Err-Fault-sync_gate_of_format : goal.invariant_of-self-in-Err-Fault-sync_gate_of_format
 invariant_of-self-in-Err-Fault-sync_gate_of_format g c =
@@ -54,8 +54,8 @@ invariant_of-self-in-Err-Fault-sync_gate_of_format g c =
     (when_unsynced g.D.Disk.device c.self.inside.disk c.sync_gate_of_format.new.disk c.self.inside.blocks c.self.inside.superblock.items
     c.self.inside.room.items c.self.inside.filled c.self.inside.is_last (g.met.D.Disk.counts_content c.sync_gate_of_format.new.disk)
     first c.self.inside.next c.self.inside.halted is running c.self.invariant c.write_gate_of_format.new.disk c.in-Ok.field-0
-    c.in-Err-Fault-sync_gate_of_format.field-0 c.in-Err-Fault-sync_gate_of_format.field-0-is c.in-Ok.ensures.asked
-    c.in-Err-Fault-sync_gate_of_format.ensures.asked).0
+    c.in-Err-Fault-sync_gate_of_format.field-0 c.in-Err-Fault-sync_gate_of_format.field-0-is c.in-Ok.ensures
+    c.in-Err-Fault-sync_gate_of_format.ensures).0
 
 pub returns-in-Err-Fault-sync_gate_of_format-clause-upgrades : goal.returns-in-Err-Fault-sync_gate_of_format-clause-upgrades
 returns-in-Err-Fault-sync_gate_of_format-clause-upgrades g c =
@@ -66,7 +66,7 @@ returns-in-Err-Fault-sync_gate_of_format-clause-upgrades g c =
     c.self.inside.superblock.items c.self.inside.room.items c.self.inside.filled c.self.inside.is_last
     (g.met.D.Disk.counts_content c.sync_gate_of_format.new.disk) first c.self.inside.next c.self.inside.halted is running
     c.self.invariant c.write_gate_of_format.new.disk c.in-Ok.field-0 c.in-Err-Fault-sync_gate_of_format.field-0
-    c.in-Err-Fault-sync_gate_of_format.field-0-is c.in-Ok.ensures.asked c.in-Err-Fault-sync_gate_of_format.ensures.asked).1)
+    c.in-Err-Fault-sync_gate_of_format.field-0-is c.in-Ok.ensures c.in-Err-Fault-sync_gate_of_format.ensures).1)
 
 pub invariant_of-self-in-Err-Memory-sync_gate_of_format : goal.invariant_of-self-in-Err-Memory-sync_gate_of_format
 invariant_of-self-in-Err-Memory-sync_gate_of_format g c =
@@ -77,7 +77,7 @@ invariant_of-self-in-Err-Memory-sync_gate_of_format g c =
     c.self.inside.superblock.items c.self.inside.room.items c.self.inside.filled c.self.inside.is_last
     (g.met.D.Disk.counts_content c.sync_gate_of_format.new.disk) first c.self.inside.next c.self.inside.halted is running
     c.self.invariant c.write_gate_of_format.new.disk c.in-Ok.field-0 c.in-Err-Memory-sync_gate_of_format.field-0
-    c.in-Err-Memory-sync_gate_of_format.field-0-is c.in-Ok.ensures.asked c.in-Err-Memory-sync_gate_of_format.ensures.asked).0
+    c.in-Err-Memory-sync_gate_of_format.field-0-is c.in-Ok.ensures c.in-Err-Memory-sync_gate_of_format.ensures).0
 
 pub returns-in-Err-Memory-sync_gate_of_format-clause-upgrades : goal.returns-in-Err-Memory-sync_gate_of_format-clause-upgrades
 returns-in-Err-Memory-sync_gate_of_format-clause-upgrades g c =
@@ -88,4 +88,4 @@ returns-in-Err-Memory-sync_gate_of_format-clause-upgrades g c =
     c.self.inside.superblock.items c.self.inside.room.items c.self.inside.filled c.self.inside.is_last
     (g.met.D.Disk.counts_content c.sync_gate_of_format.new.disk) first c.self.inside.next c.self.inside.halted is running
     c.self.invariant c.write_gate_of_format.new.disk c.in-Ok.field-0 c.in-Err-Memory-sync_gate_of_format.field-0
-    c.in-Err-Memory-sync_gate_of_format.field-0-is c.in-Ok.ensures.asked c.in-Err-Memory-sync_gate_of_format.ensures.asked).1)
+    c.in-Err-Memory-sync_gate_of_format.field-0-is c.in-Ok.ensures c.in-Err-Memory-sync_gate_of_format.ensures).1)

@@ -1,9 +1,8 @@
-use Rattle.std.proofs.Common.{◌*◌}
-use Rattle.journal.proofs.Made.{did_write}
+use Rattle.std.proofs.Common.{ℕ, subst}
+use Rattle.disk.specs.Calls.{Writes}
 use Rattle.journal.proofs.stepping.write.Goals as goal
 
-pub returns-clause-asked : goal.returns-clause-asked
-returns-clause-asked g c =
-    did_write c.start_of.result (4096 * c.args.block) c.args.octets.now c.write.result _ _ c.start_of.ensures c.write.ensures.time
-    c.write.ensures.cause c.write.ensures.refused c.write.ensures.call c.write.ensures.content c.write.ensures.crash
-    c.write.ensures.since
+pub returns : goal.returns
+returns g c =
+    subst (λ (at : ℕ). Writes g.D.Disk.write_grows at c.args.octets.now c.write.result (g.D.Disk.device c.args.disk.now)
+    (g.D.Disk.device c.write.new.self)) c.start_of.ensures c.write.ensures
