@@ -102,13 +102,13 @@ module _ (first now next : Device) (at octet : ℕ) (its : IsItsGate first at oc
       let under = partly.crash t torn.0 torn.1 in
       (under.0, (under.1.0, torn_once_more first at under.0 torn.0 c (its.gate t) under.1.1 torn.2))
 
-  since_then : (result : Result (Unit {0}) DiskError) → Writes at (octet ∷ []) result now next → IsTrue first.tells → (t : ℕ) (c : List ℕ)
-      → t ≤ first.clock → next.left_since t c → first.left_since t c ⊎ MayLeaveTorn first c
+  since_then : {grows : Bool} (result : Result (Unit {0}) DiskError) → Writes grows at (octet ∷ []) result now next → IsTrue first.tells
+      → (t : ℕ) (c : List ℕ) → t ≤ first.clock → next.left_since t c → first.left_since t c ⊎ MayLeaveTorn first c
   since_then result did t time c before left =
       ⊎_elim (λ earlier. partly.since t time c before earlier) (λ torn. inr (torn_then t c torn))
       (did.since (now_tells first now partly t) time c (omega (arith, before, partly.time.later)) left)
 
-  one_more_write : Writes at (octet ∷ []) (Ok tt) now next → IsPartly first next
+  one_more_write : {grows : Bool} → Writes grows at (octet ∷ []) (Ok tt) now next → IsPartly first next
   one_more_write did = record {
     time = elapses_then first now next partly.time did.time;
     failures = did.cause.ok ∙ partly.failures;
@@ -121,7 +121,7 @@ module _ (first now next : Device) (at octet : ℕ) (its : IsItsGate first at oc
     since = since_then (Ok tt) did;
   }
 
-  refused_write : (e : DiskError) → Writes at (octet ∷ []) (Err e) now next → Leaves (Err e) first next
+  refused_write : {grows : Bool} (e : DiskError) → Writes grows at (octet ∷ []) (Err e) now next → Leaves (Err e) first next
   refused_write e did = record {
     content = λ t. tt;
     untaken = λ t is. (did.refused is).content (now_tells first now partly t) ∙ partly.content t;
@@ -133,7 +133,7 @@ module _ (first now next : Device) (at octet : ℕ) (its : IsItsGate first at oc
     uncounted = λ is. (did.refused is).failures ∙ partly.failures;
   }
     where
-      syncs_same : (e : DiskError) → Writes at (octet ∷ []) (Err e) now next → next.syncs ≡ first.syncs
+      syncs_same : {grows : Bool} (e : DiskError) → Writes grows at (octet ∷ []) (Err e) now next → next.syncs ≡ first.syncs
       syncs_same DiskError.Fault did = (did.call refl).syncs ∙ partly.syncs
       syncs_same DiskError.Memory did = (did.refused refl).syncs ∙ partly.syncs
 
@@ -228,10 +228,11 @@ module _ (a b c : Device) (look : IsLook a b) (seen : IsSeen a b) where
     uncounted = λ is. left.uncounted is ∙ seen.failures;
   }
 
-module _ (D : Type 0) (device : D → Device) (sized : (d : D) → IsTrue (device d).tells → length (device d).content ≡ (device d).size) where
+module _ (D : Type 0) (device : D → Device) (write_grows sync_grows : Bool)
+    (sized : (d : D) → IsTrue (device d).tells → length (device d).content ≡ (device d).size) where
   go : (first : D) (octets : List ℕ) (s : ℕ) (result : Result (Unit {0}) DiskError) (now new : D)
       → ((k : ℕ) → k < length octets → IsItsGate (device first) (gate_at (s + k)) (get_or octets k 0))
-      → IsPartly (device first) (device now) → Makes device (writes_from s octets) result now new
+      → IsPartly (device first) (device now) → Makes device write_grows sync_grows (writes_from s octets) result now new
       → Leaves result (device first) (device new)
   go first [] s result now new its partly made =
       subst (λ (d : D). Leaves result (device first) (device d)) (sym made.1)
@@ -258,7 +259,7 @@ module _ (D : Type 0) (device : D → Device) (sized : (d : D) → IsTrue (devic
       subst (λ (n : ℕ). IsItsGate (device first) (gate_at n) octet) none (its 0 (omega arith))) partly e refused.1
 
   -- what any run of the calls leaves
-  pub leaves : (result : Result (Unit {0}) DiskError) (first last : D) → WritesThem device result first last
+  pub leaves : (result : Result (Unit {0}) DiskError) (first last : D) → WritesThem device write_grows sync_grows result first last
       → Leaves result (device first) (device last)
   leaves result first last them =
       go first them.octets 0 result them.read last its (looked (device first) (device them.read) them.look them.seen) them.written

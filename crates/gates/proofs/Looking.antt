@@ -104,9 +104,9 @@ module _ (a b : Device) (look : IsLook a b) (seen : IsSeen a b) (t : IsTrue a.te
   )
 
 -- what is written back after them
-module _ (D : Type 0) (device : D → Device) where
+module _ (D : Type 0) (device : D → Device) (write_grows sync_grows : Bool) where
   pub back_then : (result : Result (Unit {0}) DiskError) (a b c : D) → IsLook (device a) (device b) → IsSeen (device a) (device b)
-      → WritesBack device result b c → WritesBack device result a c
+      → WritesBack device write_grows sync_grows result b c → WritesBack device write_grows sync_grows result a c
   back_then result a b c look seen (inl them) = inl (record {
     octets = them.octets;
     few = them.few;

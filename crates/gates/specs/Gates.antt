@@ -1,6 +1,6 @@
 -- The gates of a volume, read and written back.
-use Rattle.std.specs.Prelude.{◌≡◌, ◌⊎◌, ◌<◌, ◌≤◌, ℕ, ◌+◌, ◌-◌, ◌*◌, ◌==◌, if◌then◌else◌, IsTrue, List, [], ◌∷◌, length, slice_index, Result}
-use Rattle.std.specs.Prelude.{IfErr, IsErr, OnOk}
+use Rattle.std.specs.Prelude.{◌≡◌, ◌⊎◌, ◌<◌, ◌≤◌, ℕ, ◌+◌, ◌-◌, ◌*◌, ◌==◌, Bool, if◌then◌else◌, IsTrue, List, [], ◌∷◌, length, slice_index}
+use Rattle.std.specs.Prelude.{Result, IfErr, IsErr, OnOk}
 use Rattle.disk.specs.Calls.{Call, Makes}
 use Rattle.disk.specs.Calls.Call.{Write}
 use Rattle.disk.specs.Device.{Device, Elapses, HasCause, LeavesNoMore, LeftNoMore}
@@ -38,8 +38,8 @@ pub record IsLook (old new : Device) : Type 0 where
   pub time : Elapses old new
   pub writes : new.writes ≡ old.writes
   pub syncs : new.syncs ≡ old.syncs
-  pub crash : IsTrue old.tells → LeavesNoMore old new
-  pub since : IsTrue old.tells → LeftNoMore old new
+  pub crash : LeavesNoMore old new
+  pub since : LeftNoMore old new
 
 -- reads that did not fail
 pub record IsSeen (old new : Device) : Type 0 where
@@ -47,7 +47,8 @@ pub record IsSeen (old new : Device) : Type 0 where
   pub failures : new.failures ≡ old.failures
 
 -- The octet of each gate was read, and then each was written to its place, in rising order, up to the first refusal.
-pub record WritesThem {D : Type 0} (device : D → Device) (result : Result (Unit {0}) DiskError) (old new : D) : Type 0 where
+pub record WritesThem {D : Type 0} (device : D → Device) (write_grows sync_grows : Bool) (result : Result (Unit {0}) DiskError)
+    (old new : D) : Type 0 where
   pub octets : List ℕ
   pub few : length octets ≤ 9
   pub read : D
@@ -55,11 +56,12 @@ pub record WritesThem {D : Type 0} (device : D → Device) (result : Result (Uni
   pub seen : IsSeen (device old) (device read)
   pub count : IsTrue (device old).tells → IsCount (length octets) (device old)
   pub gates : IsTrue (device old).tells → AreGates octets (device old).content
-  pub written : Makes device (writes_from 0 octets) result read new
+  pub written : Makes device write_grows sync_grows (writes_from 0 octets) result read new
 
 -- the gates were written back up to the first refusal, or the call was refused before the first write
-abbrev pub WritesBack : {D : Type 0} → (D → Device) → Result (Unit {0}) DiskError → D → D → Type 0
-WritesBack device result old new = WritesThem device result old new ⊎ (IsErr result × IsLook (device old) (device new))
+abbrev pub WritesBack : {D : Type 0} → (D → Device) → (write_grows sync_grows : Bool) → Result (Unit {0}) DiskError → D → D → Type 0
+WritesBack device write_grows sync_grows result old new =
+    WritesThem device write_grows sync_grows result old new ⊎ (IsErr result × IsLook (device old) (device new))
 
 -- a place of one of these gates
 abbrev pub IsGate : Device → ℕ → Type 0

@@ -27,7 +27,7 @@ const MOST_GATES: usize = 9;
 ///
 /// What a read gives stays as it was. Until a sync a crash may leave any octets at the gates, as after each write.
 pub fn write_gates_back<D: Disk>(alloc: Global, disk: &mut D) -> Result<(), DiskError>
-    ensures calls { WritesBack D.device result disk.old disk.new }
+    ensures calls { WritesBack D.device D.write_grows D.sync_grows result disk.old disk.new }
     ensures leaves { Leaves result (D.device disk.old) (D.device disk.new) }
 {
     match zeros(alloc, BLOCK) {
@@ -45,7 +45,7 @@ fn write_back<D: Disk>(disk: &mut D, gates: &mut [u8]) -> Result<(), DiskError>
     requires few { length gates.old ≤ 9 }
     requires within { AreWithin (length gates.old) (D.device disk.old).size }
     requires count { IsTrue (D.device disk.old).tells → IsCount (length gates.old) (D.device disk.old) }
-    ensures calls { WritesBack D.device result disk.old disk.new }
+    ensures calls { WritesBack D.device D.write_grows D.sync_grows result disk.old disk.new }
     ensures leaves { Leaves result (D.device disk.old) (D.device disk.new) }
 {
     read_gates(disk, gates)?;
@@ -143,7 +143,7 @@ fn read_gate<D: Disk>(disk: &mut D, gate: u32) -> Result<u8, DiskError>
 fn write_gates<D: Disk>(disk: &mut D, gates: &[u8]) -> Result<(), DiskError>
     requires few { length gates.now ≤ 9 }
     requires within { AreWithin (length gates.now) (D.device disk.old).size }
-    ensures { Makes D.device (writes_from 0 gates.now) result disk.old disk.new }
+    ensures { Makes D.device D.write_grows D.sync_grows (writes_from 0 gates.now) result disk.old disk.new }
 {
     for i in 0..gates.len() {
         write_gate(disk, i as u32, gates[i])?;
@@ -154,7 +154,7 @@ fn write_gates<D: Disk>(disk: &mut D, gates: &[u8]) -> Result<(), DiskError>
 fn write_gate<D: Disk>(disk: &mut D, gate: u32, octet: u8) -> Result<(), DiskError>
     requires low { gate < 9 }
     requires within { gate_at gate < (D.device disk.old).size }
-    ensures { Writes (gate_at gate) (octet ∷ []) result (D.device disk.old) (D.device disk.new) }
+    ensures { Writes D.write_grows (gate_at gate) (octet ∷ []) result (D.device disk.old) (D.device disk.new) }
 {
     disk.write(place_of(gate), &[octet])
 }

@@ -3,7 +3,8 @@
 #![tactic(auto)]
 
 ghost use Rattle.std.specs.Prelude.{◌≡◌, ◌+◌, ◌≤◌, IsTrue, Some, None, IfErr, OnErr, OnOk, length, map, replicate};
-ghost use Rattle.disk.specs.Device.{Elapses, HasCause, IsRead, IsSync, IsWrite, OnAsked, OnRefused};
+ghost use Rattle.disk.specs.Calls.{Reads, Syncs, Writes};
+ghost use Rattle.disk.specs.Device.{IsRead};
 ghost use Rattle.disk.specs.Image.{overwritten, part};
 ghost use Rattle.wcache.specs.Cache.{cache_device};
 
@@ -63,10 +64,7 @@ impl<D: Disk> Disk for Overlay<D> {
             → OnOk result (into.new ≡ part at (length into.old) (cache_device D.device self.old.below).content) }
         ensures below { IsRead (D.device self.old.below.disk) (D.device self.new.below.disk) }
         ensures kept { self.new.below.collected ≡ self.old.below.collected }
-        ensures time { Elapses (overlay_device D.device self.old) (overlay_device D.device self.new) }
-        ensures call { IsRead (overlay_device D.device self.old) (overlay_device D.device self.new) }
-        ensures cause { HasCause result (overlay_device D.device self.old) (overlay_device D.device self.new) }
-        ensures no_memory { IfErr result (λ error. error ≡ DiskError.Fault) }
+        ensures reads { Reads at (length into.old) into.new result (overlay_device D.device self.old) (overlay_device D.device self.new) }
     {
         self.below.read(at, into)
     }
@@ -79,10 +77,7 @@ impl<D: Disk> Disk for Overlay<D> {
             ≡ overwritten at (map (λ octet. Some octet) from.now) self.old.below.collected) }
         ensures only_memory { IfErr result (λ error. error ≡ DiskError.Memory) }
         ensures untouched { OnErr result (self.new ≡ self.old) }
-        ensures time { Elapses (overlay_device D.device self.old) (overlay_device D.device self.new) }
-        ensures call { OnAsked result (IsWrite (overlay_device D.device self.old) (overlay_device D.device self.new)) }
-        ensures cause { HasCause result (overlay_device D.device self.old) (overlay_device D.device self.new) }
-        ensures refused { OnRefused result (overlay_device D.device self.old) (overlay_device D.device self.new) }
+        ensures writes { Writes true at from.now result (overlay_device D.device self.old) (overlay_device D.device self.new) }
     {
         self.below.write(at, from)
     }
@@ -91,7 +86,7 @@ impl<D: Disk> Disk for Overlay<D> {
     fn sync(&mut self) -> Result<(), DiskError>
         ensures below { self.new.below ≡ self.old.below }
         ensures done { result ≡ Ok tt }
-        ensures call { IsSync (overlay_device D.device self.old) (overlay_device D.device self.new) }
+        ensures syncs { Syncs false result (overlay_device D.device self.old) (overlay_device D.device self.new) }
     {
         self.syncs = self.syncs.wrapping_add(1);
         Ok(())

@@ -218,7 +218,7 @@ pub fn find<R: Files<File = File>>(
     alloc: Global,
     path: &str,
 ) -> Result<FileDisk, CommandError>
-    ensures { IfOk result (λ disk. (opened : FileDisk) × WritesBack file_device (Ok tt) opened disk) }
+    ensures { IfOk result (λ disk. (opened : FileDisk) × WritesBack file_device false false (Ok tt) opened disk) }
 {
     let mut disk = match FileDisk::open_existing(rt, path) {
         Ok(disk) => disk,

@@ -18,7 +18,8 @@ returns-clause-calls g c =
 
 pub returns-clause-leaves : goal.returns-clause-leaves
 returns-clause-leaves g c =
-    leaves _ g.D.Disk.device (λ d t. g.met.D.Disk.image_size d (g.D.Disk.device d).content t (g.met.D.Disk.counts_content d t))
+    leaves _ g.D.Disk.device g.D.Disk.write_grows g.D.Disk.sync_grows (λ d t. g.met.D.Disk.image_size d (g.D.Disk.device d).content t
+    (g.met.D.Disk.counts_content d t))
     c.write_gates.result c.args.disk.now c.write_gates.new.disk
     (record {
       octets = c.read_gates.new.gates;

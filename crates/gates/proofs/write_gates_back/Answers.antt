@@ -17,7 +17,8 @@ write_back-requires-clause-count g c t =
 
 pub returns-in_ok-count-in-Ok-clause-calls : goal.returns-in_ok-count-in-Ok-clause-calls
 returns-in_ok-count-in-Ok-clause-calls g c =
-    back_then _ g.D.Disk.device c.write_back.result c.args.disk.now c.count_gates.new.disk c.write_back.new.disk c.count_gates.ensures.look
+    back_then _ g.D.Disk.device g.D.Disk.write_grows g.D.Disk.sync_grows c.write_back.result c.args.disk.now c.count_gates.new.disk
+    c.write_back.new.disk c.count_gates.ensures.look
     c.in_ok-count-in-Ok.ensures.seen c.write_back.ensures.calls
 
 pub returns-in_ok-count-in-Ok-clause-leaves : goal.returns-in_ok-count-in-Ok-clause-leaves
