@@ -1,6 +1,5 @@
 -- The last octet of the magic, in images that a crash may leave.
-use Rattle.std.proofs.Common.{◌≡◌, ◌⊎◌, inl, inr, ◌<◌, ◌≤◌, ℕ, ◌+◌, Bool, IsTrue, [], ◌∷◌, length, get_or}
-use Rattle.std.proofs.Common.{refl, sym, ◌∙◌, ap, subst, arith}
+use Rattle.std.proofs.Common.{◌≡◌, ◌⊎◌, inl, inr, ◌<◌, ◌≤◌, ℕ, ◌+◌, Bool, IsTrue, [], ◌∷◌, length, get_or, refl, sym, ◌∙◌, ap, subst, arith}
 use Rattle.std.proofs.lemmas.Bool.{cases_eq, cases_lt}
 use Rattle.std.proofs.lemmas.List.{ext_get_or, get_or-take}
 use Rattle.disk.specs.Device.{Device, Elapses, IsTornImage, LeavesNoMore, LeavesOnly, LeftNoMore, LeftTornAt, TearsAt}
@@ -89,11 +88,11 @@ left_weaker P Q a b more or tells t image le left = elim (or tells t image le le
 pub left_none : (P : Octets → Type 0) (a : Device) → LeftOr P a a
 left_none P a tells t image le left = inl left
 
-pub left_quiet : (P : Octets → Type 0) (a b : Device) → (IsTrue a.tells → LeftNoMore a b) → LeftOr P a b
+pub left_quiet : (P : Octets → Type 0) (a b : Device) → LeftNoMore a b → LeftOr P a b
 left_quiet P a b quiet tells t image le left = inl (quiet tells t image le left)
 
 -- a write where each torn image is one of these
-pub left_torn : (P : Octets → Type 0) (at n : ℕ) (a b : Device) → (IsTrue a.tells → LeftTornAt at n a b)
+pub left_torn : (P : Octets → Type 0) (at n : ℕ) (a b : Device) → LeftTornAt at n a b
     → ((image : Octets) → IsTornImage at n a image → P image) → LeftOr P a b
 left_torn P at n a b torn each tells t image le left = elim (torn tells t image le left) [
   | inl was ↦ inl was
@@ -103,7 +102,7 @@ left_torn P at n a b torn each tells t image le left = elim (torn tells t image 
 -- a write over the octet, where it is there, on a device that was synced
 pub left_over : (a b : Device) (content : Octets) → (IsTrue a.tells → 8 ≤ length content) → (IsTrue a.tells → LeavesOnly a content)
     → (IsTrue a.tells → LacksMagic content → ⊥) → (IsTrue a.tells → (t : ℕ) → t ≤ a.clock → a.left_since t content)
-    → (IsTrue a.tells → LeftTornAt 7 1 a b) → LeftOr LacksMagic a b
+    → LeftTornAt 7 1 a b → LeftOr LacksMagic a b
 left_over a b content room only has kept torn tells t image le left = elim (torn tells t image le left) [
   | inl was ↦ inl was
   | inr here ↦
@@ -116,7 +115,7 @@ left_over a b content room only has kept torn tells t image le left = elim (torn
 
 -- a write of the octet on a device that was synced
 pub left_last : (a b : Device) (content : Octets) → (IsTrue a.tells → 8 ≤ length content) → (IsTrue a.tells → LeavesOnly a content)
-    → (IsTrue a.tells → LeftTornAt 7 1 a b) → LeftOr (λ image. LacksMagic image ⊎ (image ≡ completed content)) a b
+    → LeftTornAt 7 1 a b → LeftOr (λ image. LacksMagic image ⊎ (image ≡ completed content)) a b
 left_last a b content room only torn tells t image le left = elim (torn tells t image le left) [
   | inl was ↦ inl was
   | inr here ↦
@@ -142,8 +141,8 @@ out_then a b c first second = record {
 }
 
 -- a write beside it
-pub out_beside : (at n : ℕ) (a b : Device) → (at + n ≤ 7) ⊎ (8 ≤ at) → Elapses a b → (IsTrue a.tells → TearsAt at n a b)
-    → (IsTrue a.tells → LeftTornAt at n a b) → LeavesItOut a b
+pub out_beside : (at n : ℕ) (a b : Device) → (at + n ≤ 7) ⊎ (8 ≤ at) → Elapses a b → TearsAt at n a b
+    → LeftTornAt at n a b → LeavesItOut a b
 out_beside at n a b beside time crash since = record {
   time = time;
   all = λ t lack image left. let torn = crash t image left in lacks_torn at n torn.0 image beside torn.2 (lack torn.0 torn.1);
@@ -151,7 +150,7 @@ out_beside at n a b beside time crash since = record {
 }
 
 -- a call that writes nothing
-pub out_quiet : (a b : Device) → Elapses a b → (IsTrue a.tells → LeavesNoMore a b) → (IsTrue a.tells → LeftNoMore a b) → LeavesItOut a b
+pub out_quiet : (a b : Device) → Elapses a b → LeavesNoMore a b → LeftNoMore a b → LeavesItOut a b
 out_quiet a b time crash since = record {
   time = time;
   all = λ t lack image left. lack image (crash t image left);

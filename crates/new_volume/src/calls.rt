@@ -14,8 +14,8 @@ pub(crate) fn write<D: Disk>(disk: &mut D, at: u64, from: &[u8]) -> Result<(), F
     requires { at + length from.now ≤ (D.device disk.old).size }
     ensures content { IsTrue (D.device disk.old).tells
         → OnOk result ((D.device disk.new).content ≡ overwritten at from.now (D.device disk.old).content) }
-    ensures crash { IsTrue (D.device disk.old).tells → TearsAt at (length from.now) (D.device disk.old) (D.device disk.new) }
-    ensures since { IsTrue (D.device disk.old).tells → LeftTornAt at (length from.now) (D.device disk.old) (D.device disk.new) }
+    ensures crash { TearsAt at (length from.now) (D.device disk.old) (D.device disk.new) }
+    ensures since { LeftTornAt at (length from.now) (D.device disk.old) (D.device disk.new) }
     ensures time { Elapses (D.device disk.old) (D.device disk.new) }
     ensures failures { CountsFaults result (D.device disk.old) (D.device disk.new) }
 {
@@ -41,8 +41,8 @@ pub(crate) fn write_beside<D: Disk>(disk: &mut D, at: u64, from: &[u8]) -> Resul
 pub(crate) fn sync<D: Disk>(disk: &mut D) -> Result<(), FormatError>
     ensures content { IsTrue (D.device disk.old).tells → OnOk result ((D.device disk.new).content ≡ (D.device disk.old).content) }
     ensures synced { IsTrue (D.device disk.old).tells → OnOk result (LeavesOnly (D.device disk.new) (D.device disk.old).content) }
-    ensures crash { IsTrue (D.device disk.old).tells → LeavesNoMore (D.device disk.old) (D.device disk.new) }
-    ensures since { IsTrue (D.device disk.old).tells → LeftNoMore (D.device disk.old) (D.device disk.new) }
+    ensures crash { LeavesNoMore (D.device disk.old) (D.device disk.new) }
+    ensures since { LeftNoMore (D.device disk.old) (D.device disk.new) }
     ensures time { Elapses (D.device disk.old) (D.device disk.new) }
     ensures failures { CountsFaults result (D.device disk.old) (D.device disk.new) }
 {
@@ -57,8 +57,8 @@ pub(crate) fn octet_at<D: Disk>(disk: &mut D, at: u64) -> Result<u8, FormatError
     requires { at < (D.device disk.old).size }
     ensures value { IsTrue (D.device disk.old).tells → IfOk result (λ octet. octet ≡ slice_index (D.device disk.old).content at) }
     ensures content { IsTrue (D.device disk.old).tells → OnOk result ((D.device disk.new).content ≡ (D.device disk.old).content) }
-    ensures crash { IsTrue (D.device disk.old).tells → LeavesNoMore (D.device disk.old) (D.device disk.new) }
-    ensures since { IsTrue (D.device disk.old).tells → LeftNoMore (D.device disk.old) (D.device disk.new) }
+    ensures crash { LeavesNoMore (D.device disk.old) (D.device disk.new) }
+    ensures since { LeftNoMore (D.device disk.old) (D.device disk.new) }
     ensures time { Elapses (D.device disk.old) (D.device disk.new) }
     ensures failures { CountsFaults result (D.device disk.old) (D.device disk.new) }
 {
