@@ -2,10 +2,10 @@
 
 ghost use Rattle.std.specs.Prelude.{◌≡◌, ◌++◌, ◌∷◌, ◌+◌, ◌*◌, ◌<◌, [], length, true, false};
 ghost use Rattle.std.specs.Prelude.{OnOk, OnErr, IfOk, IfErr, IfSome, IfNone, IsTrue};
-ghost use Rattle.journal.specs.Journal.{IsDuring, IsIdle, IsReady, LeavesAdmitted, sizes};
+ghost use Rattle.journal.specs.Journal.{IsDuring, IsIdle, IsReady, LeavesAdmitted, MayBegin, sizes};
 ghost use Rattle.journal.specs.Order.{following};
 ghost use Rattle.journal.specs.declared.Next.{Next};
-ghost use Rattle.flusher.specs.Flush.{Carries, Commits, Failed, HasBegun, HasNotFailed, MayBegin, Turns, begun, has_failed};
+ghost use Rattle.flusher.specs.Flush.{Carries, Commits, Failed, HasBegun, HasNotFailed, Turns, begun, has_failed};
 
 use crate::turn_seat::TurnSeat;
 use blocks::BLOCK_SIZE;
@@ -160,7 +160,7 @@ pub fn commit_batch<R: Wait, D: Disk>(
     requires { IsIdle journal.old }
     ensures receipt { IfOk result (λ receipt. receipt.last ≡ last) }
     ensures ok { OnOk result (Commits D.device (begun journal.old batch.now last) journal.new) }
-    ensures begins { OnOk result (MayBegin journal.old batch.now) }
+    ensures begins { OnOk result (MayBegin journal.old batch.now.numbers batch.now.images) }
     ensures fault { IfErr result (λ error. error ≡ FlushError.Fault → Failed D.device journal.old journal.new) }
     ensures halted { IfErr result (λ error. error ≡ FlushError.Halted → journal.new ≡ journal.old) }
 {
@@ -174,7 +174,7 @@ pub fn commit_batch<R: Wait, D: Disk>(
 
 /// Whether the journal can begin this batch.
 fn may_begin<D: Disk>(journal: &Journal<D>, batch: &BatchBuf) -> bool
-    ensures { IsTrue result → MayBegin journal.now batch.now }
+    ensures { IsTrue result → MayBegin journal.now batch.now.numbers batch.now.images }
 {
     let numbers = batch.numbers();
     let count = numbers.len();
