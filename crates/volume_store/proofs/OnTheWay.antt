@@ -2,13 +2,13 @@
 use Rattle.std.proofs.Common.{◌≡◌, ◌≢◌, ◌⊎◌, inl, inr, ◌<◌, ◌+◌, ◌-◌, ℕ, Bool, true, false, eqb, if◌then◌else◌, IsTrue, List}
 use Rattle.std.proofs.Common.{length, refl, sym, ◌∙◌, ap, subst, arith, Ok, Err}
 use Rattle.std.proofs.lemmas.Bool.{cond_both}
+use Rattle.disk.specs.Calls.{Call, Does, Syncs}
+use Rattle.disk.specs.Calls.Call.{Sync}
 use Rattle.disk.specs.Device.{Device, Elapses, LeavesOnly}
 use Rattle.disk.proofs.Devices.{elapses_then}
 use Rattle.segment_laws.specs.Held.{HeldBatch}
-use Rattle.journal.specs.Calls.{Call, Does, IsRetried, MakesCall, OnMade, OnRetried, Syncs, blocks_after, call_at}
-use Rattle.journal.specs.Calls.Call.{Sync}
-use Rattle.journal.specs.Journal.{IsCaused, IsSameBatch, JournalView}
-use Rattle.journal.specs.Journal.{all_held, calls, sizes, with_batch}
+use Rattle.journal.specs.Calls.{IsRetried, MakesCall, OnMade, OnRetried, blocks_after, call_at}
+use Rattle.journal.specs.Journal.{IsCaused, IsSameBatch, JournalView, all_held, calls, sizes, with_batch}
 use Rattle.journal.specs.Order.{all_calls, answer, following, is_sync, is_to_commit}
 use Rattle.journal.specs.declared.Next.{Next}
 use Rattle.journal.specs.declared.Next.TheVariants.{Idle, Descriptor, Image, Seal, OpenGate, Commit, Home, Settle, CloseGate, Finish}
@@ -109,8 +109,8 @@ module _ {D : Type 0} (device : D → Device) (old now new : JournalView D) (so_
       let last : is_sync now.next ≡ true = ends (length now.numbers) (sizes now) now.next flies (sym call.next.0 ∙ is) in
       let sync : call_at now.next now.segments (all_held now) now.place (descriptor_of now.number now.last now.numbers) now.images ≡ Sync =
       sync_of now.next now.segments (all_held now) now.place (descriptor_of now.number now.last now.numbers) now.images last in
-      let did : Syncs {T = Progress} {E = JournalError} (Ok p) (device now.disk) (device new.disk) =
-      subst (λ (c : Call). Does {T = Progress} {E = JournalError} c (Ok p) (device now.disk) (device new.disk)) sync call.does in
+      let did : Syncs true (Ok tt) (device now.disk) (device new.disk) =
+      subst (λ (c : Call). Does true true c (Ok tt) (device now.disk) (device new.disk)) sync call.does in
       λ c left. did.durable (tells t) c left ∙ sym (did.content (tells t))
 
   -- a call that was made

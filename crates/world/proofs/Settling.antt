@@ -22,8 +22,7 @@ use Rattle.model.specs.Stream.{Octets}
 use Rattle.model.specs.Volume.{descriptor_of}
 use Rattle.traced_kernel.specs.Events.{with_kernel}
 use Rattle.traced_kernel.specs.Traced.{TracedView}
-use Rattle.world.specs.Draining.{CarriesOut, FinishesBatch, IsHindered, RunsInner}
-use Rattle.world.specs.Draining.{syncs_left, with_batch_durable, writes_left}
+use Rattle.world.specs.Draining.{CarriesOut, FinishesBatch, IsHindered, RunsInner, syncs_left, with_batch_durable, writes_left}
 use Rattle.world.specs.Events.{Did, DidDev, dev_answer, news_of, told}
 use Rattle.world.specs.Images.{EachSince, Fits, LeftFits}
 use Rattle.world.specs.Tied.{AreFaults, AreFaultsOrStopped, IsTied, IsWorld, Phase, Quiet, Flying, IsToBeTold}
@@ -221,8 +220,8 @@ module _ {D : Type 0} (device : D → Device) (write_grows sync_grows : Bool) wh
       by_made (p, m) =
           let n = length now.journal.numbers in
           let counts = sizes now.journal in
-          let asks = asks_by Progress JournalError now.journal.next now.journal.segments (all_held now.journal) now.journal.place
-          (descriptor_of now.journal.number now.journal.last now.journal.numbers) now.journal.images p (device now.journal.disk)
+          let asks = asks_by true true now.journal.next now.journal.segments (all_held now.journal) now.journal.place
+          (descriptor_of now.journal.number now.journal.last now.journal.numbers) now.journal.images tt (device now.journal.disk)
           (device new.journal.disk) m.call.does m.flies in
           let runs : new.journal.halted ≡ false = m.call.next.1 in
           let made : writes_made (length new.journal.numbers) (sizes new.journal) new.journal.next

@@ -1,7 +1,6 @@
 -- What the fields keep, through each event.
-use Rattle.std.proofs.Common.{◌≡◌, ◌≢◌, ◌⊎◌, ◌↔◌, ◌==◌, inl, inr, ⊎_elim, ℕ, ◌+◌, Bool, true, false, eqb, List, [], ◌∷◌, ◌++◌, length}
-use Rattle.std.proofs.Common.{Option}
-use Rattle.std.proofs.Common.{Some, None, refl, ap, sym, ◌∙◌, subst}
+use Rattle.std.proofs.Common.{◌≡◌, ◌≢◌, ◌⊎◌, ◌↔◌, ◌==◌, inl, inr, ⊎_elim, ℕ, ◌+◌, Bool, true, false, List, [], ◌∷◌, ◌++◌, length}
+use Rattle.std.proofs.Common.{Option, Some, None, refl, ap, sym, ◌∙◌, subst}
 use Rattle.std.proofs.lemmas.Bool.{eqb-true, eqb-false}
 use Rattle.std.proofs.lemmas.List.{append-nil}
 use Rattle.disk.specs.Device.{Device}
@@ -18,8 +17,7 @@ use Rattle.shared_kernel.specs.declared.errors.ExecError.TheVariants as exec
 use Rattle.world.specs.declared.events.StepAnswer.TheVariants as answer
 use Rattle.std.specs.Prelude.{drop, ◌||◌, ◌&&◌, not, is_none, nat_le, nat_lt, IfOk, map, option_map, slice_index_or, OnErr, OnOk, Result}
 use Rattle.std.specs.Prelude.{Ok, Err, IsTrue, if◌then◌else◌}
-use Rattle.journal.specs.Journal.{IsReady, JournalView, sizes, still_open}
-use Rattle.journal.specs.declared.Next.TheVariants.{Descriptor}
+use Rattle.journal.specs.Journal.{IsReady, JournalView, begins, sizes}
 use Rattle.kernel.specs.Errors.{of_exec}
 use Rattle.kernel.specs.Kernel.{AgreesBehind, KernelView, halted_for_good, made_durable, Refusal, Takes, Tested, TestedOrMemory, buffered}
 use Rattle.kernel.specs.Kernel.{admin_refusal_of, exec_refusal, expire_refusal_of, first_failing, has_batch, is_block, mode_at, most_dirty}
@@ -150,32 +148,11 @@ module _ {D : Type 0} (old : WorldView D) (served : TracedView) where
 -- ---- Take
 
 -- the journal that begins, by what its call says
-pub is_begun : {D : Type 0} (old new : JournalView D) (kernel : KernelView) (last : ℕ) (numbers : List ℕ) (images : List Octets)
-    → new.disk ≡ old.disk → new.label ≡ old.label → new.format ≡ old.format → new.size ≡ old.size → new.segments ≡ old.segments
-    → new.blocks ≡ old.blocks → new.next ≡ Descriptor → new.halted ≡ old.halted
-    → new.held ≡ still_open old → new.place ≡ length (still_open old) → new.number ≡ length (still_open old) + 1
-    → new.is_last ≡ eqb (length (still_open old) + 1) old.segments
-    → new.last ≡ last → new.numbers ≡ numbers → new.images ≡ images → last ≡ length kernel.spool → numbers ≡ kernel.dirty
-    → images ≡ map (λ n. slice_index_or kernel.blocks n []) numbers → new ≡ begun old kernel
-is_begun old new kernel last numbers images disk label format size segments blocks next halted held place number is_last last_is numbers_are
-    images_are serial dirty copies =
-    λ i. record {
-      disk = disk i;
-      label = label i;
-      format = format i;
-      size = size i;
-      segments = segments i;
-      blocks = blocks i;
-      next = next i;
-      halted = halted i;
-      held = held i;
-      place = place i;
-      number = number i;
-      last = (last_is ∙ serial) i;
-      numbers = (numbers_are ∙ dirty) i;
-      images = (images_are ∙ (copies ∙ ap (map (λ n. slice_index_or kernel.blocks n [])) dirty)) i;
-      is_last = is_last i;
-    }
+pub is_begun : {D : Type 0} (old : JournalView D) (kernel : KernelView) (last : ℕ) (numbers : List ℕ) (images : List Octets)
+    → last ≡ length kernel.spool → numbers ≡ kernel.dirty → images ≡ map (λ n. slice_index_or kernel.blocks n []) numbers
+    → begins old last numbers images ≡ begun old kernel
+is_begun old kernel last numbers images serial dirty copies =
+    λ i. begins old (serial i) (dirty i) ((copies ∙ ap (map (λ n. slice_index_or kernel.blocks n [])) dirty) i)
 
 no_ticket : (ticket : Option Ticket) → option_map (λ (t : Ticket). t.last) ticket ≡ None → ticket ≡ None
 no_ticket None is = refl
