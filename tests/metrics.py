@@ -85,7 +85,8 @@ def the_file_tells_what_callers_did(volume):
         assert (first["newsd_blocks"], first["newsd_inodes"], first["newsd_inodes_used"]) == (8192, 4096, 3)
         with server.call() as caller, server.call() as other, server.call() as third:
             assert caller.post(article(1)) == caller.post(article(2)) == "240 Article received"
-            for bad in (article(1), article(3).replace(b"Newsgroups: x.a", b"Newsgroups: x.b"), article(4).replace(b"Subject: one\r\n", b"")):
+            elsewhere = article(3).replace(b"Newsgroups: x.a", b"Newsgroups: x.b")
+            for bad in (article(1), elsewhere, article(4).replace(b"Subject: one\r\n", b"")):
                 assert caller.post(bad) == "441 Article not accepted"
             assert other.ask("POST").startswith("340") and third.ask("QUIT") == "205 Bye"
             seen = metrics.wait(lambda values: values["newsd_sessions_ended_total"] == 1)
