@@ -29,6 +29,8 @@ LONGEST_HEADER = 8192
 MANY, VOLUMES, KILLS_EACH = 1000, 4, 5
 # a volume with room for them is small, and soon made and opened
 SMALL = {"blocks": 2048, "inodes": 1088}
+# a volume of so many inodes has so many that an article leaves; the inodes of a group
+INODES, LEFT, GROUP_FILES = 2048, 64, 3
 KINDS = ("filed", "here", "no group")
 NO_END = "no empty line follows the header"
 # the causes for which an article is refused, in the order in which they are counted
@@ -257,7 +259,7 @@ def a_full_volume_ends_an_import(volume):
     """What was filed before is durable. The same batch goes on in a larger volume."""
     texts = [with_lf(text_of(number)) for number in range(80)]
     larger = [with_lf(long_article(number, 200_000)[:-3]) for number in range(30)]
-    for name, batched, lacking in (("inodes", texts, "no inode is free"), ("blocks", larger, "fewer than 256 blocks are free")):
+    for name, batched, lacking in (("inodes", texts, "too few inodes are free"), ("blocks", larger, "too few blocks are free")):
         small = volume.another(name, blocks=1024, inodes=64)
         small.make_group()
         done = imported(small, batch(batched))
@@ -276,6 +278,29 @@ def a_full_volume_ends_an_import(volume):
     larger_one.make_group()
     import_whole(larger_one, batch(texts), filed=len(texts))
     assert larger_one.export() == batch(texts)
+
+
+def an_import_leaves_a_part_to_the_operator(volume):
+    """Of 2,048 inodes it leaves 64, where a group and expiries find room. So does a renewal to as many. One of fewer leaves none."""
+    roomy, large, small = (volume.another(str(inodes), blocks=8192, inodes=inodes) for inodes in (4096, INODES, INODES - LEFT))
+    texts = [with_lf(text_of(number)) for number in range(INODES)]
+    filed = INODES - LEFT - GROUP_FILES
+    octet, lacking = len(batch(texts[:filed])), "too few inodes are free"
+    roomy.make_group()
+    import_whole(roomy, batch(texts), filed=INODES)
+    for each in (large, small):
+        each.make_group()
+        done = imported(each, batch(texts))
+        assert (done.returncode, done.stdout.decode()) == (1, counts(filed=filed)), done
+        assert done.stderr.decode() == "newsd: E6 Full: article %d at octet %d: %s\n" % (filed + 1, octet, lacking), done
+        done = roomy.run("renew", roomy.path, each.path + ".new", "--inodes", str(INODES if each is large else INODES - LEFT))
+        assert (done.returncode, done.stdout) == (1, b""), done
+        assert done.stderr.decode() == "newsd: E6 Full: change %d: %s\n" % (filed + 2, lacking), done
+    assert large.make_group("x.b") == filed + 2
+    assert [large.expire(number) for number in range(1, 11)] == list(range(filed + 3, filed + 13))
+    for words in (["group", small.path, "x.b", "y", "1000000000", "test"], ["expire", small.path, GROUP, "1"]):
+        done = small.run(*words)
+        assert (done.returncode, done.stdout, done.stderr) == (1, b"", b"newsd: E6 Full\n"), done
 
 
 def a_stream_that_fails_ends_an_import(volume):
@@ -560,6 +585,7 @@ TESTS = [
     each_article_has_an_outcome,
     what_is_no_batch_ends_an_import,
     a_full_volume_ends_an_import,
+    an_import_leaves_a_part_to_the_operator,
     a_stream_that_fails_ends_an_import,
     what_can_not_be_imported_into_is_refused,
     a_batch_comes_in_any_pieces,

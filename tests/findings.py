@@ -16,14 +16,16 @@ SEGMENT_BLOCKS = 514
 RECORD = 64
 # in an inode
 SIZE_AT, POINTERS_AT, INDIRECT_AT, DOUBLE_AT, SPARE_AT = 4, 12, 52, 56, 60
-# the gate of the format in the superblock, and the first of the zeros after it
-FORMAT_AT, REST_AT = 148, 149
-# the largest files of the two formats
+# the two gates of the formats in the superblock, the epoch, and the first of the zeros after it
+GATES_AT, EPOCH_AT, REST_AT = 148, 150, 151
+# the largest files of format 1 and of the later ones
 MOST_OCTETS_1, MOST_OCTETS_2 = 4235264, 4294963200
 # in a descriptor
 COUNT_AT, ZEROS_AT, NUMBERS_AT = 16, 20, 24
 # the inodes of the files, the last of which is free
-GROUP_FILE, NUMBERS, OVERVIEW, ARTICLE, LONG, EXPIRY, FREE = range(7)
+GROUP_FILE, NUMBERS, OVERVIEW, ARTICLE, LONG, PACK, FREE = range(7)
+# in the pack, of its one file: the name, the size of the content, and the content
+PACKED_NAME, PACKED_SIZE, PACKED = 1, 13, 17
 LONG_OCTETS = 50000
 TOO_LATE = 253402300800
 NOT_A_VOLUME, DAMAGED = "E3 NotAVolume", "E5 Damaged"
@@ -51,7 +53,8 @@ class Image:
     def __init__(self, path):
         self.path, self.octets = path, octets(path)
         self.blocks, self.segments, self.inodes = struct.unpack_from("<III", self.octets, 12)
-        self.open = [it for it in range(self.segments) if self.octets[self.gate(it)] == 1]
+        self.epoch = 2 if self.octets[EPOCH_AT] == 2 else 1
+        self.open = [it for it in range(self.segments) if self.octets[self.gate(it)] == self.epoch]
 
     def gate(self, segment):
         return (1 + SEGMENT_BLOCKS * segment) * BLOCK
@@ -61,10 +64,13 @@ class Image:
 
     def image(self, segment, block):
         """Where the image of a block stands that this segment has."""
+        return self.descriptor(segment) + BLOCK * (1 + self.listed(segment).index(block))
+
+    def listed(self, segment):
+        """The blocks of the batch that this segment has."""
         at = self.descriptor(segment)
         count, = struct.unpack_from("<I", self.octets, at + COUNT_AT)
-        numbers = struct.unpack_from("<%dI" % count, self.octets, at + NUMBERS_AT)
-        return at + BLOCK * (1 + numbers.index(block))
+        return struct.unpack_from("<%dI" % count, self.octets, at + NUMBERS_AT)
 
     def block(self, number):
         return (1 + SEGMENT_BLOCKS * self.segments + number) * BLOCK
@@ -103,7 +109,8 @@ class Image:
 
 
 def small_one(volume):
-    """A volume with a group, an article of one block, one with a block of pointers and an expiry. All segments are closed."""
+    """A volume with a group, an article of one block, one with a block of pointers, and an expiry, which stands in the pack. All
+    segments are closed."""
     small = volume.another("small", blocks=1024, inodes=64)
     small.make_group()
     with small.serve() as server, server.call() as caller:
@@ -168,7 +175,7 @@ def what_is_no_volume_is_told(volume):
         (25, b"\x1b", r"the label's host '\x1bews.example' is no name of a server"),
         (37, b"\1", "octet 37 of the superblock isn't zero"),
         (147, b"\1", "octet 147 of the superblock isn't zero"),
-        (REST_AT, b"\1", "octet 149 of the superblock isn't zero"),
+        (REST_AT, b"\1", "octet 151 of the superblock isn't zero"),
         (4095, b"\xff", "octet 4095 of the superblock isn't zero"),
     ]
     assert_rows(small, image, NOT_A_VOLUME, [([(at, changed)], said) for at, changed, said in rows])
@@ -211,7 +218,7 @@ def open_segments_are_told(volume):
         ([(at + ZEROS_AT + 3, b"\1")], "octet 23 of the descriptor of open segment %d isn't zero" % second),
         ([(at, image.octets[image.descriptor(first):][:8])], "open segments %d and %d both have number 1" % (first, second)),
         # a segment is open whose descriptor was never written
-        ([(image.gate(7), b"\1")], "open segment 7 counts 0 images, where a batch has 1 to 512"),
+        ([(image.gate(7), bytes([image.epoch]))], "open segment 7 counts 0 images, where a batch has 1 to 512"),
     ], stays=False, accepted=3)
 
 
@@ -239,16 +246,16 @@ def damaged_inodes_are_told(volume):
     size = image.size(ARTICLE)
     past = POINTERS_AT + 4
     rows = [
-        (inode(EXPIRY), b"\7", "inode 5 is of kind 7, where 0 is free and 1 is a file"),
+        (inode(PACK), b"\7", "inode 5 is of kind 7, where 0 is free and 1 is a file"),
         (inode(FREE) + 9, b"\1", "inode 6 is free, and octet 9 of it isn't zero"),
         (slot(FREE), b"\1", "inode 6 is free, and octet 0 of its slot isn't zero"),
         (slot(63) + 63, b"\1", "inode 63 is free, and octet 63 of its slot isn't zero"),
-        (slot(EXPIRY), b"\0", "inode 5 is a file, and its slot is free"),
-        (slot(EXPIRY), b"\x40", "the slot of inode 5 has a name of 64 octets, where names have 1 to 63"),
-        (slot(EXPIRY) + 13, b"\1", "octet 13 of the slot of inode 5, after the name, isn't zero"),
-        (slot(EXPIRY) + 63, b"\1", "octet 63 of the slot of inode 5, after the name, isn't zero"),
-        (inode(ARTICLE) + SIZE_AT, u64(MOST_OCTETS_2 + 1), too_large("a.0000000002", MOST_OCTETS_2 + 1, 2)),
-        (inode(ARTICLE) + SIZE_AT, u64(10**18), too_large("a.0000000002", 10**18, 2)),
+        (slot(PACK), b"\0", "inode 5 is a file, and its slot is free"),
+        (slot(PACK), b"\x40", "the slot of inode 5 has a name of 64 octets, where names have 1 to 63"),
+        (slot(PACK) + 2, b"\1", "octet 2 of the slot of inode 5, after the name, isn't zero"),
+        (slot(PACK) + 63, b"\1", "octet 63 of the slot of inode 5, after the name, isn't zero"),
+        (inode(ARTICLE) + SIZE_AT, u64(MOST_OCTETS_2 + 1), too_large("a.0000000002", MOST_OCTETS_2 + 1, 3)),
+        (inode(ARTICLE) + SIZE_AT, u64(10**18), too_large("a.0000000002", 10**18, 3)),
         (inode(ARTICLE) + SPARE_AT, b"\1", "octet 60 of the inode of file a.0000000002 isn't zero"),
         (inode(ARTICLE) + SPARE_AT + 3, b"\1", "octet 63 of the inode of file a.0000000002 isn't zero"),
         (inode(ARTICLE) + SIZE_AT, u64(MOST_OCTETS_1 + 1), "file a.0000000002 of 4,235,265 octets has no double-indirect block"),
@@ -265,9 +272,9 @@ def damaged_inodes_are_told(volume):
     # octets of a name that a terminal wouldn't show
     odd = [(slot(ARTICLE) + 1, b"\x1b.\xff"), (inode(ARTICLE) + SPARE_AT, b"\1")]
     told = [(odd, r"octet 60 of the inode of file \x1b.\xff000000002 isn't zero")]
-    # whatever is at the gate of format 1, a refusal leaves it there
-    for gate in (b"\0", b"\1", b"\xff"):
-        large = [(FORMAT_AT, gate), (inode(ARTICLE) + SIZE_AT, u64(MOST_OCTETS_1 + 1))]
+    # whatever is at the gates of format 1, a refusal leaves it there
+    for gates in (b"\0\0", b"\1\2", b"\xff\xff"):
+        large = [(GATES_AT, gates), (inode(ARTICLE) + SIZE_AT, u64(MOST_OCTETS_1 + 1))]
         told.append((large, too_large("a.0000000002", MOST_OCTETS_1 + 1, 1)))
     assert_rows(small, image, DAMAGED, told + [([(at, changed)], said) for at, changed, said in rows])
 
@@ -313,7 +320,7 @@ def damaged_large_files_are_told(volume):
     none_of_data = "file z points to block %d, which is none of the data"
     rows = [
         ([], "file z has a name of no known form"),
-        ([(FORMAT_AT, b"\0")], too_large("z", 4239360, 1)),
+        ([(GATES_AT, b"\0\0")], too_large("z", 4239360, 1)),
         ([(inode + SIZE_AT, u64(MOST_OCTETS_2))], "file z of 4,294,963,200 octets has no block of pointers 2"),
         ([(inode + SIZE_AT, u64(MOST_OCTETS_1))], "file z of 4,235,264 octets has a double-indirect block"),
         ([(inode + DOUBLE_AT, u32(0))], of_size + "no double-indirect block"),
@@ -366,18 +373,17 @@ def damaged_files_are_told(volume):
         (slot(ARTICLE) + 1, b"z", "file z.0000000002 has a name of no known form"),
         (slot(ARTICLE) + 12, b"c", "file a.000000000c has a name of no known form"),
         (slot(GROUP_FILE) + 5, b".", "file g.x.. has a name of no known form"),
-        (slot(EXPIRY) + 2, b"-", "file x-0000000004 has a name of no known form"),
+        (slot(PACK) + 1, b"q", "file q has a name of no known form"),
+        (GATES_AT, b"\2\0", "file p has a name of no known form"),
         (slot(NUMBERS) + 5, b"b", "file g.x.a is there, and file n.x.a isn't"),
         (slot(OVERVIEW) + 5, b"b", "file g.x.a is there, and file o.x.a isn't"),
         (slot(GROUP_FILE) + 5, b"b", "file g.x.b is there, and file n.x.b isn't"),
         (inode(NUMBERS) + SIZE_AT, u64(17), "file n.x.a has 17 octets, which is no multiple of 16"),
         (inode(GROUP_FILE) + SIZE_AT, u64(16), "file g.x.a has 16 octets, fewer than the 17 of its header"),
         (inode(ARTICLE) + SIZE_AT, u64(20), "file a.0000000002 has 20 octets, fewer than the 21 of its header"),
-        (inode(EXPIRY) + SIZE_AT, u64(12), "file x.0000000004 has 12 octets, fewer than the 13 of its header"),
         (content(ARTICLE), b"\3", "file a.0000000002 has serial 3"),
-        (content(EXPIRY), b"\3", "file x.0000000004 has serial 3"),
-        (content(GROUP_FILE), b"\0", "file g.x.a has serial 0, which is none of 1 to 64"),
-        (content(GROUP_FILE), b"\x41", "file g.x.a has serial 65, which is none of 1 to 64"),
+        (content(GROUP_FILE), b"\0", "file g.x.a has serial 0, which is none of 1 to 65"),
+        (content(GROUP_FILE), b"\x42", "file g.x.a has serial 66, which is none of 1 to 65"),
         (content(GROUP_FILE), b"\2", "file g.x.a and file a.0000000002 both have serial 2"),
         (content(GROUP_FILE), b"\5", "no file has serial 1, and one has serial 2"),
         (content(GROUP_FILE) + 8, u64(TOO_LATE), "file g.x.a has the moment %d, which isn't before the year 10000" % TOO_LATE),
@@ -389,9 +395,70 @@ def damaged_files_are_told(volume):
         (inode(ARTICLE) + SIZE_AT, u64(short), "file a.0000000002 has %d octets, where its header asks for %d" % (short, short + 1)),
         (content(ARTICLE) + 16, u32(2**32 - 1), "file a.0000000002 has %d octets, where its header asks for 4,294,967,320" % (short + 1)),
         (content(ARTICLE) + 20, b"\xff", "file a.0000000002 has %d octets, in which its header doesn't end" % (short + 1)),
-        (content(EXPIRY) + 12, b"\4", "file x.0000000004 has 16 octets, where its header asks for 17"),
     ]
     assert_rows(small, image, DAMAGED, [([(at, changed)], said) for at, changed, said in rows])
+
+
+def a_damaged_pack_is_told(volume):
+    small, image = small_one(volume)
+    inode, content = image.inode(PACK), image.content(PACK)
+    assert image.octets[content:][:PACKED] == b"\x0cx.0000000004" + u32(16), image.octets[content:][:PACKED]
+    size, serial = inode + SIZE_AT, content + PACKED
+    empty = [(size, u64(0)), (inode + POINTERS_AT, u32(0)), image.bit(image.pointer(PACK))]
+    no_form = "the file at octet 0 of file p has a name of no form for a file in the pack"
+    assert_rows(small, image, DAMAGED, [
+        (empty, "file p, the pack, is empty"),
+        ([(size, u64(16))], "file p ends in the head of its file at octet 0"),
+        ([(size, u64(32))], "file p ends in its file at octet 0"),
+        ([(size, u64(34))], "file p ends in the head of its file at octet 33"),
+        ([(content, b"\x0d")], "the file at octet 0 of file p has a name of 13 octets, where one in the pack has 12"),
+        ([(content + PACKED_NAME, b"g")], no_form),
+        ([(content + PACKED_NAME + 11, b"c")], no_form),
+        ([(content + PACKED_SIZE, u32(2**32 - 1))], "file p ends in its file at octet 0"),
+        ([(content + PACKED_SIZE, u32(12)), (size, u64(29))],
+         "file x.0000000004 in the pack has 12 octets, fewer than the 13 of its header"),
+        ([(serial, b"\3")], "file x.0000000004 in the pack has serial 3"),
+        ([(content + PACKED_NAME + 11, b"3"), (serial, b"\3")],
+         "file a.0000000003 and file x.0000000003 in the pack both have serial 3"),
+        ([(content + PACKED_NAME + 10, b"66"), (serial, b"\x42")],
+         "file x.0000000066 in the pack has serial 66, which is none of 1 to 65"),
+        ([(serial + 12, b"\4")], "file x.0000000004 in the pack has 16 octets, where its header asks for 17"),
+    ])
+
+
+def a_file_behind_others_in_a_pack_is_told(volume):
+    """Of a pack that a renewal made: three articles that are gone, and the expiry that took them out."""
+    small = volume.another("small", blocks=1024, inodes=64)
+    small.make_group()
+    with small.serve() as server, server.call() as caller:
+        for number in range(4):
+            assert caller.post(article(number)) == "240 Article received"
+    small.expire(3)
+    small.run("renew", small.path, "--in-place").check_returncode()
+    small.settle()
+    image = Image(small.path)
+    inode, content, size = image.inode(ARTICLE), image.content(ARTICLE), image.size(ARTICLE)
+    member, = struct.unpack_from("<I", image.octets, content + PACKED_SIZE)
+    member += PACKED
+    second, third, last = (content + it * member for it in (1, 2, 3))
+    assert size == 3 * member + PACKED + 16 and [image.octets[it:][:2] for it in (second, third, last)] == [b"\x0ca", b"\x0ca", b"\x0cx"]
+    name = "file a.0000000003 in the pack"
+    assert_rows(small, image, DAMAGED, [
+        # each octet of the second one's size: what follows it is no file, or it has no end
+        ([(second + PACKED_SIZE, u32(member - PACKED + 1))],
+         "the file at octet %d of file p has a name of 97 octets, where one in the pack has 12" % (2 * member + 1)),
+        ([(second + PACKED_SIZE + 1, b"\7")], "file p ends in its file at octet %d" % member),
+        ([(second + PACKED_SIZE + 3, b"\1")], "file p ends in its file at octet %d" % member),
+        ([(second, b"\x0b")], "the file at octet %d of file p has a name of 11 octets, where one in the pack has 12" % member),
+        ([(inode + SIZE_AT, u64(size - 1))], "file p ends in its file at octet %d" % (3 * member)),
+        ([(inode + SIZE_AT, u64(2 * member))], "no file has serial 4, and one has serial 5"),
+        ([(second + PACKED, b"\2")], name + " has serial 2"),
+        ([(second + PACKED + 16, b"\1")], name + " has %d octets, where its header asks for 26" % (member - PACKED)),
+        ([(second + PACKED_NAME + 11, b"2"), (second + PACKED, b"\2")],
+         "file a.0000000002 in the pack and file a.0000000002 in the pack both have serial 2"),
+        # the pack of a volume that says format 2
+        ([(GATES_AT + 1, b"\0")], "file p has a name of no known form"),
+    ], accepted=6)
 
 
 def what_is_not_found_is_refused_as_ever(volume):
@@ -401,14 +468,14 @@ def what_is_not_found_is_refused_as_ever(volume):
         ([(image.content(ARTICLE) + 25, b"\0")], None),
         ([(image.content(NUMBERS), b"\7")], None),
         ([(image.content(OVERVIEW), b"\0")], None),
-        ([(image.content(EXPIRY) + 13, b"y")], None),
+        ([(image.content(PACK) + PACKED + 13, b"y")], None),
     ])
 
 
 def each_command_tells(volume):
     small, image = small_one(volume)
     for changes, said in (
-        ([(REST_AT, b"\1")], "E3 NotAVolume: octet 149 of the superblock isn't zero"),
+        ([(REST_AT, b"\1")], "E3 NotAVolume: octet 151 of the superblock isn't zero"),
         ([image.bit(1000)], "E5 Damaged: the bitmap marks block 1000, which no file owns"),
     ):
         image.write(changes)
@@ -421,7 +488,7 @@ def a_volume_that_another_has_meanwhile_is_refused_as_ever(volume):
     """The look needs the lock that the opening has let go. Whoever waits for it takes it in between, or not."""
     small, image = small_one(volume)
     image.write([(REST_AT, b"\1")])
-    ends = ("newsd: E3 NotAVolume: octet 149 of the superblock isn't zero\n", "newsd: E3 NotAVolume\n")
+    ends = ("newsd: E3 NotAVolume: octet 151 of the superblock isn't zero\n", "newsd: E3 NotAVolume\n")
     with subprocess.Popen([sys.executable, "-c", HOLDING, small.path], preexec_fn=end_with_parent) as holder:
         for _ in range(50):
             said = small.run("dump", small.path).stderr.decode()
@@ -434,7 +501,7 @@ def memory_that_is_refused_leaves_the_refusal(volume):
     """Each request for memory is refused in turn: to the opening, or to the look and its words."""
     small, image = small_one(volume)
     image.write([(REST_AT, b"\1")])
-    whole = "newsd: E3 NotAVolume: octet 149 of the superblock isn't zero\n"
+    whole = "newsd: E3 NotAVolume: octet 151 of the superblock isn't zero\n"
     with tempfile.TemporaryDirectory(prefix="newsd-findings-") as folder:
         library = compile_library(folder)
         if library is None:
@@ -462,6 +529,8 @@ TESTS = [
     damaged_large_files_are_told,
     damaged_owners_are_told,
     damaged_files_are_told,
+    a_damaged_pack_is_told,
+    a_file_behind_others_in_a_pack_is_told,
     what_is_not_found_is_refused_as_ever,
     each_command_tells,
     a_volume_that_another_has_meanwhile_is_refused_as_ever,

@@ -1,5 +1,5 @@
 #!/usr/bin/env python3
-"""System tests of the two formats of a volume: a group whose overview has a double-indirect block, and volumes of format 1 that are
+"""System tests of the formats of a volume: a group whose overview has a double-indirect block, and volumes of formats 1 and 2 that are
 opened. formats.py NEWSD [NAME..]"""
 import json
 import os
@@ -11,19 +11,22 @@ import subprocess
 import sys
 import time
 
+from findings import Image, u32, u64
 from newsd import GROUP, HOST, SECONDS, article, end_with_parent, free_port, message_id, octets
 from playing import Skipped, main
+from renewal import beside, fill, renewed, status_of, view
 from syncs import count_calls, have_failed, trace
 
 BLOCK = 4096
 SEGMENT_BLOCKS = 514
 RECORD = 64
-# where the gate of the format stands, and what it holds in the two formats
-FORMAT_AT, IS_FORMAT_1, IS_FORMAT_2 = 148, b"\0", b"\2"
+# where the two gates of the formats stand, the epoch and the zeros after it, and what the gates hold in a new volume of each format
+GATES_AT, EPOCH_AT, REST_AT = 148, 150, 151
+IS_FORMAT_1, IS_FORMAT_2, IS_FORMAT_3 = b"\0\0", b"\2\0", b"\2\3"
 MAGIC = b"XNNTPFS1"
 SYNCS = ("fsync", "fdatasync")
-# other values of the gate, which are format 1 as well
-ODD_GATES = (b"\1", b"\x4d", b"\xff")
+# other values of the gates, and the formats that they are
+ODD_GATES = ((b"\1\0", 1), (b"\x4d\x4d", 1), (b"\xff\xff", 1), (b"\3\2", 1), (b"\2\1", 2), (b"\2\x4d", 2), (b"\2\xff", 2))
 # in an inode
 SIZE_AT, INDIRECT_AT, DOUBLE_AT = 4, 52, 56
 # the octets of the largest file of format 1
@@ -54,14 +57,15 @@ def a_group_goes_on_past_the_largest_file_of_format_1(volume):
         numbers = there
         assert_reads_back(large, numbers)
     # as one of format 1 it has a file that is too large: it is refused, and stays as it is
-    put_gate(large, IS_FORMAT_1)
+    put_gates(large, IS_FORMAT_1)
     before = octets(large.path)
     for word in ("dump", "status"):
         done = large.run(word, large.path)
         assert (done.returncode, done.stdout) == (1, b"") and done.stderr.startswith(b"newsd: E5 Damaged"), (word, done)
     assert octets(large.path) == before
-    put_gate(large, IS_FORMAT_2)
-    assert articles_there(large) == numbers
+    # as one of format 2 it is sound, and is upgraded when it is opened
+    put_gates(large, IS_FORMAT_2)
+    assert articles_there(large) == numbers and gates_of(large) == IS_FORMAT_3
 
 
 def articles_there(volume):
@@ -71,14 +75,15 @@ def articles_there(volume):
     numbers = list(range(1, len(lines) - 1))
     changes = ["%d article %s %s" % (1 + number, message_id(number), GROUP) for number in numbers]
     assert lines == ["spool %d" % (1 + len(numbers)), "1 group %s y" % GROUP, *changes], lines[:3]
-    assert_has_double(octets(volume.path), sum(map(len, lines_of(numbers))))
+    assert_has_double(volume.path, sum(map(len, lines_of(numbers))))
     return numbers
 
 
-def assert_has_double(image, size):
+def assert_has_double(path, size):
     """The overview of the group has this many octets, and the blocks that name its blocks are as many as it needs."""
+    image = octets(path)
     _, segments, inodes = struct.unpack_from("<III", image, 12)
-    assert all(image[(1 + SEGMENT_BLOCKS * it) * BLOCK] == 0 for it in range(segments))
+    assert not Image(path).open
     home = (1 + SEGMENT_BLOCKS * segments) * BLOCK
     slots = home + (2 + inodes // 64) * BLOCK
     name = b"o." + GROUP.encode()
@@ -147,25 +152,27 @@ def batch(texts):
 
 
 def a_new_volume_has_the_format_that_is_asked(volume):
-    """Without a word it is format 2. The files of two new volumes differ in one octet, and once they were opened in none."""
-    default, first, second = (os.path.join(os.path.dirname(volume.path), name) for name in ("default", "first", "second"))
-    for path, words in ((default, []), (first, ["--format", "1"]), (second, ["--format", "2"])):
+    """Without a word it is format 3. The files of new volumes differ in their gates alone, and once they were opened each has format 3."""
+    names = ("default", "first", "second", "third")
+    paths = [os.path.join(os.path.dirname(volume.path), name) for name in names]
+    asked = ((IS_FORMAT_3, []), (IS_FORMAT_1, ["--format", "1"]), (IS_FORMAT_2, ["--format", "2"]), (IS_FORMAT_3, ["--format", "3"]))
+    for path, (_, words) in zip(paths, asked):
         volume.run("format", path, "--host", HOST, "--blocks", "1024", "--inodes", "64", *words).check_returncode()
-    new = octets(first)
-    assert octets(default) == octets(second) == new[:FORMAT_AT] + IS_FORMAT_2 + new[FORMAT_AT + 1:]
-    assert new[FORMAT_AT:FORMAT_AT + 1] == IS_FORMAT_1
-    for path in (default, first, second):
+    whole = octets(paths[0])
+    for path, (gates, _) in zip(paths, asked):
         before = octets(path)
+        assert before == with_gates(whole, gates), path
         done = volume.run("dump", path)
         assert (done.returncode, done.stdout) == (0, b"spool 0\n"), done
         assert octets(path) == before
         volume.run("import", path).check_returncode()
-    assert octets(default) == octets(first) == octets(second)
-    for word in ("0", "3", "12", "two"):
+        assert octets(path) == with_gates(whole, upgraded(gates)), path
+    first, before = paths[1], octets(paths[1])
+    for word in ("0", "4", "12", "two"):
         done = volume.run("format", first, "--host", HOST, "--format", word)
         assert (done.returncode, done.stdout) == (1, b""), (word, done)
         assert done.stderr.decode().startswith("newsd: E14 Bad: --format '%s' is " % word), (word, done)
-    assert octets(first) == octets(second)
+    assert octets(first) == before
 
 
 def a_format_that_is_cut_short_leaves_no_other_volume(volume):
@@ -196,14 +203,14 @@ def a_format_that_is_cut_short_leaves_no_other_volume(volume):
     assert found == [changes] * stood + ["E3 NotAVolume"] * (len(copies) - stood - 1) + [["spool 0"]], found
 
 
-def a_volume_of_format_1_is_upgraded_when_it_is_opened(volume):
+def a_volume_of_an_earlier_format_is_upgraded_when_it_is_opened(volume):
     """By each command that may write to one, before it does anything else. It has the changes that it had, and takes further ones. The
-    commands that only read it leave it as it is."""
+    commands that only read it leave it as it is. So it is with one whose gate an upgrade before has torn."""
     old = format_1(volume, "old")
-    assert status_format(old) == 1 and gate_of(old) == IS_FORMAT_1
+    assert status_format(old) == 1 and gates_of(old) == IS_FORMAT_1
     # a server has upgraded it before it listens
     with old.serve() as server, server.call() as caller:
-        assert gate_of(old) == IS_FORMAT_2
+        assert gates_of(old) == upgraded(IS_FORMAT_1)
         assert server.order("group %s y 1000000000 test" % GROUP) == "1"
         assert caller.post(article(1)) == "240 Article received"
         assert server.order("stop") == "stopped"
@@ -212,21 +219,91 @@ def a_volume_of_format_1_is_upgraded_when_it_is_opened(volume):
     old.settle()
     assert old.dump() == changes
     whole = octets(old.path)
-    assert whole[FORMAT_AT:FORMAT_AT + 1] == IS_FORMAT_2 and status_format(old) == 2
-    for gate in (IS_FORMAT_1, *ODD_GATES):
-        put_gate(old, gate)
+    assert whole == with_gates(whole, upgraded(IS_FORMAT_1)) and status_format(old) == 3
+    for gates, number in ((IS_FORMAT_1, 1), (IS_FORMAT_2, 2), *ODD_GATES):
+        put_gates(old, gates)
         first = octets(old.path)
         exported = old.export()
-        assert (status_format(old), old.dump(), exported.startswith(b"#! rnews ")) == (1, changes, True), gate
-        assert octets(old.path) == first, gate
+        assert (status_format(old), old.dump(), exported.startswith(b"#! rnews ")) == (number, changes, True), gates
+        assert octets(old.path) == first, gates
         old.settle()
-        assert octets(old.path) == whole and old.export() == exported, gate
+        assert octets(old.path) == with_gates(whole, upgraded(gates)) and old.export() == exported, gates
     for number, words in enumerate((["group", old.path, "x.b", "y", "1000000000", "test"], ["expire", old.path, GROUP, "1"]), 3):
-        put_gate(old, IS_FORMAT_1)
+        put_gates(old, IS_FORMAT_2)
         done = old.run(*words)
         assert (done.returncode, done.stdout.decode()) == (0, "%d\n" % number), done
-        assert gate_of(old) == IS_FORMAT_2, words
+        assert gates_of(old) == IS_FORMAT_3, words
     assert old.dump() == ["spool 4", *changes[1:], "3 group x.b y", "4 expire %s 1" % GROUP]
+
+
+def a_server_upgrades_each_earlier_format_and_keeps_all(volume):
+    """What a client asks for of groups, articles and overviews is the same, octet by octet, in a volume whose expiries have inodes of their
+    own, as earlier programs made it. The next expiry makes the pack, and a renewal puts the earlier ones there."""
+    fill(volume)
+    volume.settle()
+    kept, seen = (volume.dump(), volume.export()), view(volume)
+    volume.settle()
+    # the pack was one file, and the four expiries are four
+    used = status_of(volume)["inodes"]["used"] + 3
+    image = without_pack(volume)
+    for gates in (IS_FORMAT_1, IS_FORMAT_2):
+        write(volume.path, with_gates(image, gates))
+        assert (volume.dump(), volume.export()) == kept and status_of(volume)["inodes"]["used"] == used, gates
+        assert view(volume) == seen, gates
+        assert gates_of(volume) == upgraded(gates) and (volume.dump(), volume.export()) == kept, gates
+        for number, more in ((21, 1), (22, 1)):
+            volume.expire(number, "x.b")
+            assert status_of(volume)["inodes"]["used"] == used + more, (gates, number)
+        gone = status_of(volume)["gone"]["articles"]
+        assert renewed(volume, None)["husks"] == gone and gates_of(volume) == IS_FORMAT_3, gates
+        assert status_of(volume)["inodes"]["used"] == used - 4 - gone + 1, gates
+
+
+def a_volume_of_an_earlier_format_is_renewed(volume):
+    """The new one has format 3, and its pack has what had inodes before. The old one is opened to write, so it has format 3, too."""
+    fill(volume)
+    volume.settle()
+    kept, image = (volume.dump(), volume.export()), without_pack(volume)
+    for gates in (IS_FORMAT_1, IS_FORMAT_2):
+        write(volume.path, with_gates(image, gates))
+        new = beside(volume, "new")
+        done = renewed(volume, new)
+        assert (gates_of(new), gates_of(volume)) == (IS_FORMAT_3, upgraded(gates)), gates
+        assert (new.dump(), new.export()) == (volume.dump(), volume.export()) == kept, gates
+        used = [status_of(each)["inodes"]["used"] for each in (volume, new)]
+        assert used[0] - used[1] == done["husks"] + done["expiries"] - 1, (used, done)
+        os.unlink(new.path)
+
+
+def without_pack(volume):
+    """The octets of the volume, in which each file of the pack has an inode of its own."""
+    image = Image(volume.path)
+    inodes = range(image.inodes)
+    pack = next(it for it in inodes if image.octets[image.slot(it):].startswith(b"\1p\0"))
+    free = [it for it in inodes if image.octets[image.inode(it)] == 0]
+    unused = [it for it in range(image.blocks) if not image.octets[image.block(0) + it // 8] >> it % 8 & 1]
+    # the first of them takes the place of the pack
+    places = [(pack, image.pointer(pack)), *zip(free, unused)]
+    marked, changes = 0, []
+    for (inode, block), (name, content) in zip(places, packed_in(image, pack)):
+        changes += [
+            (image.inode(inode), u32(1) + u64(len(content)) + u32(block).ljust(RECORD - 12, b"\0")),
+            (image.slot(inode), (bytes([len(name)]) + name).ljust(RECORD, b"\0")),
+            (image.block(block), content.ljust(BLOCK, b"\0")),
+        ]
+        marked |= 1 << block
+    bits = int.from_bytes(image.octets[image.block(0):image.block(2)], "little") | marked
+    return image.changed([*changes, (image.block(0), bits.to_bytes(2 * BLOCK, "little"))])
+
+
+def packed_in(image, pack):
+    """The names and the contents of the files in a pack of one block."""
+    left = image.octets[image.content(pack):][:image.size(pack)]
+    while left:
+        size, = struct.unpack_from("<I", left, 1 + left[0])
+        at = 5 + left[0]
+        yield left[1:at - 4], left[at:at + size]
+        left = left[at + size:]
 
 
 def an_upgrade_is_one_write_and_one_sync(volume):
@@ -234,25 +311,26 @@ def an_upgrade_is_one_write_and_one_sync(volume):
     again = count_calls([old.program, "import", old.path])
     if again is None:
         raise Skipped("the program can't be traced")
-    put_gate(old, IS_FORMAT_1)
-    upgraded = count_calls([old.program, "import", old.path])
-    assert (upgraded["pwrite64"], upgraded["fdatasync"]) == (again["pwrite64"] + 1, again["fdatasync"] + 1), (again, upgraded)
-    assert count_calls([old.program, "import", old.path]) == again
-    assert gate_of(old) == IS_FORMAT_2 and old.dump() == changes
+    for gates in (IS_FORMAT_1, IS_FORMAT_2):
+        put_gates(old, gates)
+        calls = count_calls([old.program, "import", old.path])
+        assert (calls["pwrite64"], calls["fdatasync"]) == (again["pwrite64"] + 1, again["fdatasync"] + 1), (gates, again, calls)
+        assert count_calls([old.program, "import", old.path]) == again
+        assert gates_of(old) == upgraded(gates) and old.dump() == changes
 
 
 def a_sync_that_fails_refuses_the_opening(volume):
     """The first sync of an opening fails, or that of the upgrade. The next opening does what is left to do."""
     old, changes = one_with_an_article(volume)
-    for failing, gate in ((1, IS_FORMAT_1), (2, IS_FORMAT_2)):
-        put_gate(old, IS_FORMAT_1)
+    for failing, gates in ((1, IS_FORMAT_2), (2, IS_FORMAT_3)):
+        put_gates(old, IS_FORMAT_2)
         status = status_with_failing_sync([old.program, "import", old.path], failing)
         if status is None:
             raise Skipped("the program can't be traced")
         # the file keeps what was written, whatever the program was told of the sync
-        assert (status, gate_of(old)) == (1, gate), failing
+        assert (status, gates_of(old)) == (1, gates), failing
         old.settle()
-        assert old.dump() == changes and gate_of(old) == IS_FORMAT_2
+        assert old.dump() == changes and gates_of(old) == IS_FORMAT_3
 
 
 def status_with_failing_sync(words, failing):
@@ -268,14 +346,14 @@ def status_with_failing_sync(words, failing):
 
 
 def an_opening_that_is_killed_keeps_the_changes(volume):
-    """It is killed at random moments, in one of the two formats each time."""
+    """It is killed at random moments, in the format that it had or in format 3 each time."""
     old, changes = one_with_an_article(volume)
     start = time.monotonic()
     old.settle()
     seconds = time.monotonic() - start
     found = []
     for _ in range(KILLED_OPENINGS):
-        put_gate(old, IS_FORMAT_1)
+        put_gates(old, IS_FORMAT_2)
         words = [old.program, "import", old.path]
         process = subprocess.Popen(words, stdin=subprocess.DEVNULL, stdout=subprocess.DEVNULL, stderr=subprocess.DEVNULL, preexec_fn=end_with_parent)
         try:
@@ -283,21 +361,106 @@ def an_opening_that_is_killed_keeps_the_changes(volume):
         except subprocess.TimeoutExpired:
             process.kill()
         assert process.wait(SECONDS) in (0, -signal.SIGKILL)
-        found.append(gate_of(old)[0])
+        found.append(gates_of(old)[1])
         old.settle()
-        assert old.dump() == changes and gate_of(old) == IS_FORMAT_2
-    assert set(found) <= {0, 2}, found
+        assert old.dump() == changes and gates_of(old) == IS_FORMAT_3
+    assert set(found) <= {0, 3}, found
     print("  the gate after each kill", found, flush=True)
+
+
+def an_upgrade_that_is_killed_after_a_call_keeps_the_changes(volume):
+    """After each write and each sync of an opening that carries an open segment home and upgrades the volume. It has the format that it
+    had until the last write, and format 3 from then on."""
+    old = volume.another("open", blocks=1024, inodes=64)
+    old.make_group()
+    old.run("import", old.path, given=batch([text_of(1)])).check_returncode()
+    old.make_group("x.b")
+    changes, whole = old.dump(), octets(old.path)
+    assert Image(old.path).open
+    words = [old.program, "import", old.path]
+    for gates in (IS_FORMAT_1, IS_FORMAT_2):
+        begun = with_gates(whole, gates)
+        write(old.path, begun)
+        counts = count_calls(words)
+        if counts is None:
+            raise Skipped("the program can't be traced")
+        calls = sum(counts.values())
+        found = []
+        for number in range(calls):
+            write(old.path, begun)
+            assert killed_after(words, number) == -signal.SIGKILL, number
+            found.append(gates_of(old))
+            assert old.dump() == changes, (gates, number)
+            old.settle()
+            assert old.dump() == changes and gates_of(old) == upgraded(gates), (gates, number)
+        assert found == [gates] * (calls - 2) + [upgraded(gates)] * 2, found
+
+
+def an_opening_that_closes_all_segments_is_killed_after_a_call(volume):
+    """After each write and each sync of an opening that carries eight segments home, in each epoch. The changes are there, whatever a crash
+    leaves in the place of the epoch once that is written."""
+    eight = volume.another("eight", blocks=1024, inodes=64)
+    image = with_a_checkpoint(eight)
+    changes, words = eight.dump(), [eight.program, "import", eight.path]
+    torn = {block for it in range(image.segments) for block in image.listed(it)}
+    for epoch in (1, 2):
+        opened = [(EPOCH_AT, bytes([epoch])), *((image.gate(it), bytes([epoch])) for it in range(image.segments))]
+        # what stands at home was torn on the way there
+        begun = image.changed(opened + [(image.block(it), b"w" * BLOCK) for it in torn])
+        write(eight.path, begun)
+        counts = count_calls(words)
+        if counts is None:
+            raise Skipped("the program can't be traced")
+        calls, found = sum(counts.values()), []
+        for number in range(calls):
+            write(eight.path, begun)
+            assert killed_after(words, number) == -signal.SIGKILL, number
+            found.append(Image(eight.path).epoch)
+            left = octets(eight.path)
+            for octet in (None, 0, 1, 2, 77) if number == calls - 2 else (None,):
+                write(eight.path, left if octet is None else left[:EPOCH_AT] + bytes([octet]) + left[REST_AT:])
+                assert eight.dump() == changes, (epoch, number, octet)
+                eight.settle()
+                assert not Image(eight.path).open and eight.dump() == changes, (epoch, number, octet)
+        assert found == [epoch] * (calls - 2) + [3 - epoch] * 2, found
+
+
+def with_a_checkpoint(volume):
+    """The volume after eight batches of a server, whose images are home. All segments were closed at once."""
+    volume.make_group()
+    with volume.serve() as server, server.call() as caller:
+        for number in range(8):
+            assert caller.post(article(number)) == "240 Article received"
+        end = time.monotonic() + SECONDS
+        while Image(volume.path).epoch == 1:
+            assert time.monotonic() < end, "there is no checkpoint"
+            time.sleep(0.01)
+        server.kill()
+    image = Image(volume.path)
+    assert not image.open and all(image.octets[image.gate(it)] == 1 for it in range(image.segments))
+    return image
+
+
+def killed_after(words, number):
+    """The status of a run that is killed after this write or sync, counted from 0."""
+    seen = [0]
+
+    def at_result(pid, _):
+        if seen[0] == number:
+            os.kill(pid, signal.SIGKILL)
+        seen[0] += 1
+
+    return trace(words, at_result, is_silent=True)
 
 
 def what_is_refused_keeps_its_format(volume):
     """A volume that is no spool, or is in use, is not upgraded."""
     old, changes = one_with_an_article(volume)
-    put_gate(old, IS_FORMAT_1)
+    put_gates(old, IS_FORMAT_1)
     whole = octets(old.path)
     _, segments = struct.unpack_from("<II", whole, 12)
     home = (1 + SEGMENT_BLOCKS * segments) * BLOCK
-    for place, refusal in ((0, "E3 NotAVolume"), (FORMAT_AT + 1, "E3 NotAVolume"), (20, "E3 NotAVolume"), (home, "E5 Damaged")):
+    for place, refusal in ((0, "E3 NotAVolume"), (REST_AT, "E3 NotAVolume"), (20, "E3 NotAVolume"), (home, "E5 Damaged")):
         damaged = whole[:place] + bytes([whole[place] ^ 0xff]) + whole[place + 1:]
         write(old.path, damaged)
         for words in (["dump", old.path], ["import", old.path], ["serve", old.path, "--port", str(free_port())]):
@@ -308,7 +471,7 @@ def what_is_refused_keeps_its_format(volume):
     write(old.path, whole)
     assert old.dump() == changes and octets(old.path) == whole
     old.settle()
-    assert old.dump() == changes and gate_of(old) == IS_FORMAT_2
+    assert old.dump() == changes and gates_of(old) == upgraded(IS_FORMAT_1)
 
 
 def one_with_an_article(volume):
@@ -335,17 +498,26 @@ def status_format(volume):
     return json.loads(done.stdout)["format"]
 
 
-def gate_of(volume):
-    """The octet that is the gate of its format."""
+def gates_of(volume):
+    """The octets that are the gates of the formats."""
     with open(volume.path, "rb") as file:
-        file.seek(FORMAT_AT)
-        return file.read(1)
+        file.seek(GATES_AT)
+        return file.read(EPOCH_AT - GATES_AT)
 
 
-def put_gate(volume, gate):
+def put_gates(volume, gates):
     with open(volume.path, "r+b") as file:
-        file.seek(FORMAT_AT)
-        file.write(gate)
+        file.seek(GATES_AT)
+        file.write(gates)
+
+
+def upgraded(gates):
+    """What an opening makes of them: the gate of format 3 is open, and the other stays."""
+    return gates[:1] + IS_FORMAT_3[1:]
+
+
+def with_gates(image, gates):
+    return image[:GATES_AT] + gates + image[EPOCH_AT:]
 
 
 def write(path, content):
@@ -357,10 +529,14 @@ TESTS = [
     a_group_goes_on_past_the_largest_file_of_format_1,
     a_new_volume_has_the_format_that_is_asked,
     a_format_that_is_cut_short_leaves_no_other_volume,
-    a_volume_of_format_1_is_upgraded_when_it_is_opened,
+    a_volume_of_an_earlier_format_is_upgraded_when_it_is_opened,
+    a_server_upgrades_each_earlier_format_and_keeps_all,
+    a_volume_of_an_earlier_format_is_renewed,
     an_upgrade_is_one_write_and_one_sync,
     a_sync_that_fails_refuses_the_opening,
     an_opening_that_is_killed_keeps_the_changes,
+    an_upgrade_that_is_killed_after_a_call_keeps_the_changes,
+    an_opening_that_closes_all_segments_is_killed_after_a_call,
     what_is_refused_keeps_its_format,
 ]
 

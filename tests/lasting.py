@@ -30,8 +30,10 @@ LEFT = 6
 KILLS = 8
 # a day of a site, how many of them an article stays, and the octets of an article
 POSTS, DAYS_KEPT, SIZE = 4, 30, 60_000
-# a volume that has room for the articles of these days, and for a block of each article of a year
-SITE = {"blocks": 8192, "inodes": 4096}
+# a volume that has room for the articles of these days, and for the pack of some years
+SITE = {"blocks": 3072, "inodes": 192}
+# the files of two groups, and the pack
+OTHER_FILES = 7
 # the night of a large volume, and the days on which its articles were filed
 NIGHT, DAYS_FILED = 40, range(0, 40, 5)
 # seconds for a command on a large volume where others keep the processors busy
@@ -41,10 +43,10 @@ LONG = 240
 # ---- a large volume
 
 def a_large_volume_is_renewed(volume):
-    """What a client can ask for is the same, octet by octet: of groups, numbers and ids, also of those that are gone. Killed at any
-    moment, a renewal leaves what was there. What is posted then has the numbers and ids that it would have had."""
+    """What a client can ask for is the same, octet by octet: of groups, numbers and ids, also of those that are gone. What is posted then
+    has the numbers and ids that it would have had. A fifth of the blocks and inodes is in use at most."""
     count = articles_wanted()
-    at = volume.another("large", blocks=65_536, inodes=count + count // 10 + 64 - (count + count // 10) % 64)
+    at = large(volume, count)
     gone = make_large(at, count)
     before, seen = usage(at), digest(at, count)
     kept = spool_of(at)
@@ -57,9 +59,26 @@ def a_large_volume_is_renewed(volume):
     assert (spool_of(at), digest(at, count)) == (kept, seen)
     print("  %d articles, %d of them gone: renewed in %.1f s; blocks %d before and %d after, inodes %d and %d"
           % (count, gone, seconds, *before[:1], *after[:1], before[1], after[1]), flush=True)
-    killed(at, seconds, kept)
-    assert digest(at, count) == seen
+    # a sixth of the articles is left, and of the others what a pack has
+    assert all(left <= had / 5 for had, left in zip(before, after)), (before, after)
     as_posted(at, other, count)
+
+
+def a_large_renewal_is_killed(volume):
+    """Killed at any moment, a renewal leaves what was there, or has done its work."""
+    count = articles_wanted() // 3
+    at = large(volume, count)
+    make_large(at, count)
+    kept, seen = spool_of(at), digest(at, count)
+    start = time.monotonic()
+    renew(copy_of(at, "other"), "--in-place")
+    killed(at, time.monotonic() - start, kept)
+    assert digest(at, count) == seen
+
+
+def large(volume, count):
+    """A volume with room for so many articles."""
+    return volume.another("large", blocks=98_304 * count // ARTICLES + 8192, inodes=count + count // 10 + 64 - (count + count // 10) % 64)
 
 
 def articles_wanted():
@@ -85,8 +104,8 @@ def groups_of(number):
 
 
 def entry(number):
-    """An article in the form of a batch: some are shorter than a block, some longer."""
-    text = article(number, "subject %d" % number, "%070d\n" % number * (number % 90)).replace(b"\r\n", b"\n")[:-len(b".\n")]
+    """An article in the form of a batch: some are shorter than a block, some have five."""
+    text = article(number, "subject %d" % number, "%070d\n" % number * (number % 240)).replace(b"\r\n", b"\n")[:-len(b".\n")]
     text = text.replace(b"Newsgroups: x.a", b"Newsgroups: " + NAMES[number % len(NAMES)].encode())
     return b"#! rnews %d\n%s" % (len(text), text)
 
@@ -283,7 +302,7 @@ def a_year_of_a_site(volume):
 
 def site(volume, days):
     """Posts, an expiry by age, by the server or by a command, and a renewal in place each day. No number and no id comes twice, what is
-    young stays as it is, and the volume never fills, though it has room for the texts of some 60 days."""
+    young stays as it is, and the volume never fills, though it has room for the articles of some 40 days."""
     with tempfile.TemporaryDirectory(prefix="newsd-dating-") as folder:
         library = compile_library(folder, DATING)
         if library is None:
@@ -305,7 +324,7 @@ class Lived:
         self.library = library
         self.ids = []
         self.highs = dict.fromkeys(GROUPS[:2], 0)
-        self.most = 0
+        self.most_blocks = 0
 
     def dated(self, day):
         return ["env", "LD_PRELOAD=" + self.library, "NOW=%d" % (FIRST + day * DAY)]
@@ -317,7 +336,10 @@ class Lived:
                 assert answers(server, "expire-older %d" % DAYS_KEPT)[-1].startswith("articles ")
             assert server.order("stop") == "stopped"
             assert server.end() == (0, "")
-        self.most = max(self.most, usage(self.at)[0])
+        blocks, inodes = usage(self.at)
+        self.most_blocks = max(self.most_blocks, blocks)
+        # of what is gone no inode is kept: what is there has one, and so has what came after the last renewal
+        assert inodes <= OTHER_FILES + POSTS * (DAYS_KEPT + 2), (day, inodes)
         before = self.spool()
         for words in (["expire", self.at.path, "--older-than", str(DAYS_KEPT)], ["renew", self.at.path, "--in-place"]):
             done = subprocess.run([*self.dated(day), self.at.program, *words], capture_output=True, timeout=SECONDS)
@@ -367,7 +389,7 @@ class Lived:
         used, inodes = usage(self.at)
         whole = len(self.ids) * (SIZE // 4096 + 2)
         print("  %d articles of %d octets in %d blocks: at most %d were used, at the end %d, and %d inodes; all texts take %d"
-              % (len(self.ids), SIZE, SITE["blocks"], self.most, used, inodes, whole), flush=True)
+              % (len(self.ids), SIZE, SITE["blocks"], self.most_blocks, used, inodes, whole), flush=True)
         assert len(set(self.ids)) == len(self.ids)
 
 
@@ -402,7 +424,7 @@ ARTICLES_GIVEN = given_articles()
 TESTS = [forty_days_of_a_site]
 
 # each takes a minute or more
-LONG_ONES = [a_large_volume_is_renewed, a_night_of_a_large_volume, a_year_of_a_site]
+LONG_ONES = [a_large_volume_is_renewed, a_large_renewal_is_killed, a_night_of_a_large_volume, a_year_of_a_site]
 
 
 if __name__ == "__main__":

@@ -223,7 +223,7 @@ def each_refused_post_has_its_cause(volume):
 
 
 def a_refusal_of_the_volume_has_its_cause(volume):
-    """`full`: the volume has no room. `reserve`: what is free of a larger one is left to the operator. `stopped`: its device has failed."""
+    """`full`: the volume has no room, or of a larger one only what is left to the operator. `stopped`: its device has failed."""
     small = volume.another("small", blocks=1024, inodes=64)
     small.make_group()
     with small.serve() as server, server.call() as caller:
@@ -238,10 +238,12 @@ def a_refusal_of_the_volume_has_its_cause(volume):
     assert large.run("import", large.path, given=batch(1900)).returncode == 0
     with large.serve() as server, server.call() as caller:
         log = Log(server.process.stderr)
-        for number in range(1900, 2048):
-            if caller.post(article(number)) != "240 Article received":
-                break
-        assert log.wait("cause", 1)[-1][1] == {"session": "1", "cause": "reserve"}, log.lines[-3:]
+        taken = 0
+        while caller.post(article(1900 + taken)) == "240 Article received":
+            taken += 1
+        assert taken == 2048 - 64 - 3 - 1900, taken
+        assert log.wait("cause", 1)[-1][1] == {"session": "1", "cause": "full"}, log.lines[-3:]
+        assert server.order("group x.b y 1000000000 test") == str(1900 + taken + 2), log.lines[-3:]
     with volume.another("failing").serve() as server, server.call() as caller, server.call() as late:
         log = Log(server.process.stderr)
         server.order("group x.a y 1000000000 test")

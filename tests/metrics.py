@@ -24,7 +24,7 @@ STARTED = {
 }
 CALLER_CAUSES = ["access", "sessions", "address", "descriptors", "memory", "failed", "proxy", "halted"]
 POST_CAUSES = ["octets", "noend", "field", "twice", "missing", "id", "groups", "long", "repeat", "nogroup", "closed", "otherid", "full",
-               "reserve", "memory", "stopped"]
+               "memory", "stopped"]
 SAMPLE = re.compile(r'(newsd_[a-z_]+(?:\{(?:state|cause)="[a-z]+"\})?) (\d+(?:e-6)?)\Z')
 
 
@@ -80,7 +80,7 @@ def the_file_tells_what_callers_did(volume):
     with metrics.server as server:
         first = metrics.read()
         assert [first[cause("callers", name)] for name in CALLER_CAUSES] == [0] * 8
-        assert [first[cause("posts", name)] for name in POST_CAUSES] == [0] * 16
+        assert [first[cause("posts", name)] for name in POST_CAUSES] == [0] * 15
         assert (first["newsd_changes_accepted_total"], first["newsd_changes_durable_total"]) == (1, 1)
         assert (first["newsd_blocks"], first["newsd_inodes"], first["newsd_inodes_used"]) == (8192, 4096, 3)
         with server.call() as caller, server.call() as other, server.call() as third:

@@ -111,7 +111,7 @@ class Volume:
         return done.stdout.decode().splitlines()
 
     def settle(self):
-        """Opens it to write to it and makes no change: images of open segments are home then, and it has format 2. `dump` and the
+        """Opens it to write to it and makes no change: images of open segments are home then, and it has format 3. `dump` and the
         others that only read a volume leave each octet of it."""
         done = self.run("import", self.path)
         assert (done.returncode, done.stderr) == (0, b""), done

@@ -11,6 +11,7 @@ import sys
 import threading
 import time
 
+from findings import Image
 from logs import Log
 from newsd import (
     FAULT, GREETING, GROUP, HOST, NO_SUPERBLOCK, SECONDS, SERVICE_ENDS, Caller, article, end_with_parent, free_port, message_id, octets,
@@ -79,7 +80,7 @@ def assert_status(volume):
     listed = listing(volume)
     wanted = {
         "host": HOST,
-        "format": 2,
+        "format": 3,
         "blocks": {"all": used.blocks, "used": used.blocks_used, "free": used.blocks - used.blocks_used},
         "inodes": {"all": used.inodes, "used": used.inodes_used, "free": used.inodes - used.inodes_used},
         "changes": len(changes),
@@ -120,7 +121,7 @@ class Counted:
     def __init__(self, path):
         image = octets(path)
         self.blocks, segments, self.inodes = struct.unpack_from("<III", image, 12)
-        assert all(image[(1 + 514 * it) * BLOCK] == 0 for it in range(segments))
+        assert not Image(path).open
         home = (1 + 514 * segments) * BLOCK
         self.blocks_used = sum(bin(octet).count("1") for octet in image[home:home + 2 * BLOCK])
         inodes = home + 2 * BLOCK
@@ -240,7 +241,7 @@ def an_operator_asks_for_the_status(volume):
     volume.make_group()
     with volume.serve() as server:
         first = asked(server)
-        assert (first["host"], first["format"], first["sessions"], first["accepted"], first["durable"]) == (HOST, 2, 0, 1, 1), first
+        assert (first["host"], first["format"], first["sessions"], first["accepted"], first["durable"]) == (HOST, 3, 0, 1, 1), first
         callers = [server.call() for _ in range(3)]
         for number in range(20):
             assert callers[number % 3].post(article(number)) == "240 Article received"
@@ -289,6 +290,7 @@ def an_operator_sees_the_sessions_and_ends_them(volume):
         assert server.order("drop %d" % two["session"]) == "E12 NotFound"
         # by address
         assert server.order("drop 127.0.0.2") == "dropped 1" and other.has_ended()
+        wait_until(lambda: len(listed(server)) == 1)
         assert server.order("drop 192.0.2.0/24") == "E12 NotFound"
         for line in ("drop", "drop ", "drop x", "drop 1 2", "drop 127.0.0.1:9", "drop -1", "sessions 1", "Sessions"):
             assert server.order(line) == "E14 Bad", line

@@ -223,7 +223,7 @@ def contracts_are_of_their_crates():
 
 
 # where a page has the name of a crate: after a name of code in brackets, after the word, and as the first or second cell of a row
-NAMED_CRATES = [re.compile(r"` \(([a-z_]+)\)"), re.compile(r"`[\w:]+` in ([a-z_]+)\)"), re.compile(r"(?<!within the )\bcrates? `([a-z_]+)`"),
+NAMED_CRATES = [re.compile(r"`\)? \(([a-z_]+)\)"), re.compile(r"`[\w:]+` in ([a-z_]+)\)"), re.compile(r"(?<!within the )\bcrates? `([a-z_]+)`"),
                 re.compile(r"`((?:test|bench)_[a-z_]+)`")]
 # the crates of a step in the picture of a post
 OF_STEP = re.compile(r'<text [^>]*font-size="11.5"[^>]*>([a-z_]+(?:, [a-z_]+)*)</text>')
@@ -313,7 +313,7 @@ def product():
 
 
 def room_of_an_overview():
-    return int(re.search(r"OVERVIEW_ROOM: u32 = ([\d_]+);", read("crates/reporting/src/state.rt"))[1])
+    return int(re.search(r"OVERVIEW_ROOM: u32 = ([\d_]+);", read("crates/volume_states/src/state.rt"))[1])
 
 
 # a page, where it has a count, and what the count has to be
@@ -346,7 +346,7 @@ RELEASE = re.compile(r"^## \[(.*?)\](?: - (\d{4}-\d\d-\d\d))?$", re.MULTILINE)
 
 def the_changelog_has_the_version():
     """Between releases the version ends in -dev, and the first heading is [Unreleased]."""
-    version, (heading, date) = VERSION.findall(read("crates/command_table/src/syntax.rt"))[0], RELEASE.findall(read("CHANGELOG.md"))[0]
+    version, (heading, date) = VERSION.findall(read("crates/program_command_table/src/syntax.rt"))[0], RELEASE.findall(read("CHANGELOG.md"))[0]
     wanted = ("Unreleased", "") if version.endswith("-dev") else (version, date or "a date")
     if (heading, date) != wanted:
         yield "CHANGELOG.md: the version is %s, and the first heading [%s] %s" % (version, heading, date)
@@ -360,13 +360,13 @@ FALSE = [
     (each_link_leads_somewhere, "README.md", "](docs/GLOSSARY.md)", "](docs/GLOSSARIES.md)"),
     (each_named_file_is_there, "docs/THEOREM.md", "`synchrony/specs/Service.antt`", "`synchrony/specs/Services.antt`"),
     (no_line_is_too_long, "docs/GATE.md", "# The gate\n", "# The gate\n" + 141 * "x" + "\n"),
-    (promises_go_by_the_layers, "docs/PROMISES.md", "\n| memdisk | ", "\n| memdiskette | "),
+    (promises_go_by_the_layers, "docs/PROMISES.md", "\n| disk_memory | ", "\n| memdiskette | "),
     (contracts_are_of_their_crates, "docs/PROMISES.md", "`MemDisk::new`", "`MemDisk::now`"),
     (contracts_are_of_their_crates, "docs/PROMISES.md", "`is_group_name`", "`is_a_group_name`"),
     (contracts_are_of_their_crates, "docs/PROMISES.md", "`FileDisk::open`", "`FileError::open`"),
     (each_named_crate_is_there, "docs/THEOREM.md", "`World::step` (world)", "`World::step` (worlds)"),
-    (each_named_crate_is_there, "docs/ARCHITECTURE.md", "| filedisk | `filedisk/src/lib.rt`", "| filedisc | `filedisk/src/lib.rt`"),
-    (each_named_crate_is_there, "docs/pictures/post.svg", "seats, outbox<", "seat, outbox<"),
+    (each_named_crate_is_there, "docs/ARCHITECTURE.md", "| disk_file | `disk_file/src/lib.rt`", "| filedisc | `disk_file/src/lib.rt`"),
+    (each_named_crate_is_there, "docs/pictures/post.svg", "kernel_seats, kernel_outbox<", "kernel_seat, kernel_outbox<"),
     (each_named_crate_is_there, "tests/README.md", "| `test_model` |", "| `test_models` |"),
     (each_named_edit_is_there, "docs/THEOREM.md", "`happen.told_does_nothing`", "`happen.told_does_something`"),
     (each_name_of_code_is_there, "docs/ARCHITECTURE.md", "`write_home`", "`write_to_home`"),

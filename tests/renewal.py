@@ -22,7 +22,7 @@ from refusals import compile_library
 REPLACING = os.path.join(os.path.dirname(os.path.abspath(__file__)), "replacing.c")
 GROUPS = (GROUP, "x.b", "x.c")
 # articles of the volume whose renewal is killed, and how often it is
-MANY, KILLS = 400, 12
+MANY, KILLS = 400, 20
 # a volume with room for them is small, and soon made and opened
 SMALL = {"blocks": 2048, "inodes": 1088}
 ERASE = "\r\x1b[K"
@@ -71,12 +71,13 @@ def what_is_gone_gives_its_blocks_back(volume):
     for name, status in (("before", before), ("after", after)):
         assert said[name] == {"blocks": status["blocks"], "inodes": status["inodes"]}, (said, status)
     assert (said["groups"], said["kept"], said["husks"], said["expiries"]) == (1, 10, 90, 1), said
-    # 90 articles of four blocks have one each now, and the overview has one of two
-    assert before["blocks"]["used"] - after["blocks"]["used"] == 271, (before, after)
-    # which the status said, but for the overview
+    # 90 articles of four blocks share the pack with the expiry now, and the overview has one block of two
+    less = before["blocks"]["used"] - after["blocks"]["used"]
+    assert 90 * 4 - 4 <= less <= 90 * 4 + 1, (before, after)
+    # of which the status said what was sure
     assert before["gone"] == {"articles": 90, "texts": 90, "blocks": 270}, before
     assert after["gone"] == {"articles": 90, "texts": 0, "blocks": 0}, after
-    assert before["inodes"] == after["inodes"], (before, after)
+    assert before["inodes"]["used"] - after["inodes"]["used"] == 90, (before, after)
 
 
 def a_volume_grows(volume):
@@ -112,7 +113,7 @@ def a_volume_grows(volume):
 def blocks_may_lack(volume):
     post_long(volume, 20, 3000)
     done = volume.run("renew", volume.path, beside(volume, "new").path, "--blocks", "1024", "--inodes", "64")
-    found = re.fullmatch(r"newsd: E6 Full: change (\d+): fewer than 256 blocks are free\n", done.stderr.decode())
+    found = re.fullmatch(r"newsd: E6 Full: change (\d+): too few blocks are free\n", done.stderr.decode())
     assert (done.returncode, done.stdout) == (1, b"") and found and 2 < int(found.group(1)) < 21, done
     assert os.listdir(os.path.dirname(volume.path)) == ["volume"]
 

@@ -29,54 +29,67 @@ MOST_OF_A_READER = 1 << 20
 # how many sessions hold a long reply that is made whole
 MOST_LARGE = 8
 SECONDS_OF_A_REFUSAL = 2
-# callers that fill a volume, how many articles each sends in one piece, and the last words to it
+# callers that fill a volume, and how many articles each sends in one piece
 FILLING, IN_A_PIECE = 8, 20
-LET_GO = ["441 Article not accepted", SERVICE_ENDS]
+# what an article leaves of the volume, the blocks that it asks for, and the inodes of a group
+LEFT_INODES, LEFT_BLOCKS, ASKED_BLOCKS, GROUP_FILES = 64, 320, 256, 3
 # the octets of a large article, and those of memory that a refused one may take beside it
 LARGE, MOST_OF_A_REFUSED = 262_000, 1 << 20
 # what an operator does in a volume that callers have filled
 EXPIRIES = 20
 def who_fills_a_volume_leaves_its_operator_room(volume):
-    """By many articles, which take the inodes, and by large ones, which take the blocks. Reading goes on, and so does the operator."""
+    """By many articles, which take the inodes, and by large ones, which take the blocks. Who sends them stays and is told each time. Reading
+    goes on, and so does the operator, whose expiries share the pack."""
     for name, pieces in (("inodes", lambda at: (at * IN_A_PIECE + number for number in range(IN_A_PIECE))), ("blocks", lambda at: (at,))):
         full = volume.another(name)
         full.make_group()
         with full.serve(words=ALL_FROM_ONE) as server:
             log = Log(server.process.stderr)
-            took = []
-            side_by_side(*(lambda own=own: took.append(fill(server, own, pieces, name == "blocks")) for own in range(FILLING)))
-            assert all(took), took
-            ends = [fields["why"] for _, fields in log.wait("end", FILLING)]
-            assert ends == ["full"] * FILLING, ends
+            ends = []
+            side_by_side(*(lambda own=own: ends.append(fill(server, own, pieces, name == "blocks")) for own in range(FILLING)))
+            took, refused = map(sum, zip(*ends))
+            assert {fields["cause"] for _, fields in log.wait("cause", refused)} == {"full"}
+            assert {fields["why"] for _, fields in log.wait("end", FILLING)} == {"quit"}
             with server.call() as caller:
-                assert caller.ask("GROUP x.a") == "211 %d 1 %d x.a" % (sum(took), sum(took))
+                assert caller.ask("GROUP x.a") == "211 %d 1 %d x.a" % (took, took)
                 assert caller.ask("STAT 1").startswith("223 1 <") and caller.ask("IHAVE <new@a.example>") == "335 Send article"
                 caller.send(article("new"))
-                assert [caller.line(), caller.line()] == ["436 Try again later", SERVICE_ENDS] and caller.has_ended()
-            serial = sum(took) + 2
+                assert caller.line() == "436 Try again later" and caller.ask("STAT 1").startswith("223 1 <")
+            left = free_of(server)
+            assert left["inodes"] == LEFT_INODES if name == "inodes" else left["blocks"] < ASKED_BLOCKS + LEFT_BLOCKS, left
+            assert left["blocks"] >= LEFT_BLOCKS, left
+            serial = took + 2
             assert server.order("group x.b y 1000000000 test") == str(serial)
             for number in range(1, EXPIRIES):
                 assert server.order("expire x.a %d" % number) == str(serial + number)
+            assert left["inodes"] - free_of(server)["inodes"] == GROUP_FILES + 1
             assert server.order("stop") == "stopped" and server.process.wait(SECONDS) == 0
         assert full.expire(EXPIRIES) == serial + EXPIRIES
 
 
 def fill(server, own, pieces, are_large):
-    """Posts until the server lets the caller go, and says how many articles it took."""
-    took = 0
+    """Posts until the server takes no more, and says how many articles it took and how many it refused."""
+    took, refused = 0, 0
     with server.call() as caller:
         for at in range(10_000):
             ids = ["%d.%d" % (own, number) for number in pieces(at)]
             caller.send(b"".join(b"POST\r\n" + (long_article(it, 200_000) if are_large else article(it)) for it in ids))
             for _ in ids:
-                said = [caller.line(), caller.line()]
-                if said[1] != "240 Article received":
-                    # nothing more is read of it
-                    assert said == ["340 Send article", LET_GO[0]] and caller.line() == LET_GO[1], said
-                    return took
-                assert said[0] == "340 Send article", said
-                took += 1
-    raise AssertionError("it was never let go")
+                assert caller.line() == "340 Send article"
+                said = caller.line()
+                # what is full stays so
+                assert said == "441 Article not accepted" or said == "240 Article received" and not refused, said
+                took, refused = (took, refused + 1) if said.startswith("441") else (took + 1, refused)
+            if refused:
+                assert caller.ask("QUIT") == "205 Bye"
+                return took, refused
+    raise AssertionError("it never was full")
+
+
+def free_of(server):
+    """The blocks and the inodes that are free, by the operator's line."""
+    words = server.order("status").split()
+    return {name: int(words[at + 3]) - int(words[at + 1]) for at, name in enumerate(words) if name in ("blocks", "inodes")}
 
 
 LONG_ASKED = b"ARTICLE <long@a.example>\r\n"
@@ -512,7 +525,7 @@ def the_operator_looks(volume):
     volume.make_group()
     with volume.serve() as server, server.call() as caller:
         said = status_of(server.order("status").split())
-        assert (said["host"], said["format"]) == (HOST, "2"), said
+        assert (said["host"], said["format"]) == (HOST, "3"), said
         assert (said["blocks"][1], said["inodes"]) == ("8192", ("3", "4096")), said
         assert (said["sessions"], said["accepted"], said["durable"], said["batches"]) == ("1", "1", "1", "0"), said
         assert caller.post(article(1)) == "240 Article received"

@@ -114,7 +114,7 @@ def a_damaged_volume_is_not_opened(volume):
 def a_commit_syncs_the_device(volume):
     """An opening syncs once, and where a segment is open twice more, as it carries that home. In a new volume none is. Adding a
     group then syncs at the seal and at the gate of its batch. What only reads a volume writes nothing. The next opening to write carries
-    that home, and the one after it writes the gate of the format and the eight gates of segments back, and nothing else."""
+    that home, and the one after it writes the two gates of the formats, the epoch and the eight gates of segments back, and nothing else."""
     counted = count_calls([volume.program, "group", volume.path, GROUP, "y", "1000000000", "test"])
     if counted is None:
         raise Skipped("the program can't be traced")
@@ -125,7 +125,7 @@ def a_commit_syncs_the_device(volume):
     opened = count_calls([volume.program, "import", volume.path])
     assert opened["fdatasync"] == 3 and opened["pwrite64"] > 0, opened
     again = count_calls([volume.program, "import", volume.path])
-    assert again["fdatasync"] == 1 and again["pwrite64"] == 9, again
+    assert again["fdatasync"] == 1 and again["pwrite64"] == 11, again
 
 
 def what_only_reads_needs_no_right_to_write(volume):

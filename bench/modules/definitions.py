@@ -20,6 +20,8 @@ class Tree:
         for crate in self.graph.lines:
             for part, ending, kind in KINDS:
                 self.files.update((path, kind(self, path)) for path in self.paths(os.path.join(crate, part), ending))
+        for source in (it for it in self.files.values() if isinstance(it, Source)):
+            source.add_views()
 
     def paths(self, folder, ending):
         for below, _, names in os.walk(os.path.join(self.crates, folder)):

@@ -46,6 +46,9 @@ class Source(File):
             item = ITEM.match(line)
             if item:
                 self.add_item(at, *item.groups())
+
+    def add_views(self):
+        """Adds the views of the file's types, once all files are read: a view may speak of a trait that stands in another file."""
         for at, line in enumerate(self.lines):
             view = VIEW.match(line)
             if view and view[1] in self.owners:
@@ -168,7 +171,9 @@ class Source(File):
         """The head of a call or of what has calls, up to its clauses or its body."""
         text = []
         while not CLAUSE.match(self.lines[at]):
-            text.append(self.lines[at].strip())
+            line = self.lines[at].strip()
+            # the first clauses may have a comment of their own
+            text.append("" if line.startswith("//") else line)
             if text[-1].endswith(("{", "}", ";")):
                 break
             at += 1

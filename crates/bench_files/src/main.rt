@@ -7,15 +7,15 @@ ghost use Rattle.std.specs.Prelude.{◌≤◌, IfOk, OnOk};
 ghost use Rattle.bench_files.specs.Files.{HasFiles};
 
 use anyhow::{Result, ensure};
-use blocks::BLOCK_SIZE;
 use fs::{append, create, make_empty, read_at};
+use fs_blocks::BLOCK_SIZE;
+use journal_volume::Volume;
 use std::alloc::{AllocError, Global};
 use std::cmp::min;
 use std::collections::BTreeMap;
 use std::env;
 use std::io::Print;
 use std::time::{Clock, Instant};
-use volume::Volume;
 
 /// Blocks of the volume.
 const BLOCKS: u32 = 2048;

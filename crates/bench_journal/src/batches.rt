@@ -5,15 +5,15 @@ ghost use Rattle.std.specs.Prelude.{◌≤◌};
 
 use crate::carrying::{FORMAT, IMAGES, carry};
 use anyhow::{Result, bail, ensure};
+use disk_memory::MemDisk;
 use journal::{Journal, format_with};
-use memdisk::MemDisk;
 use std::rt::Clock;
 use std::time::Instant;
 
 /// Batches at each size.
 const BATCHES: u64 = 200;
 
-/// The device calls of a batch of six images: 7 writes, sync, gate, sync, 6 writes, sync, gate, sync.
+/// The device calls of a batch of six images: 7 writes, sync, gate, sync, 6 writes, sync, epoch, sync.
 const CALLS: u64 = 19;
 
 /// Prints the calls of all batches on volumes of 1,024 and of 16,384 blocks and, if asked, the time of a batch.

@@ -4,11 +4,11 @@
 
 use anyhow::{Result, ensure};
 use disk::Disk;
-use memdisk::MemDisk;
+use disk_cache::WCache;
+use disk_memory::MemDisk;
 use std::alloc::Global;
 use std::rt::Clock;
 use std::time::Instant;
-use wcache::WCache;
 
 /// Octets of a write to the cache.
 const PIECE: u64 = 64;

@@ -3,11 +3,11 @@
 use crate::carrying::{FORMAT, IMAGES, carry};
 use anyhow::{Result, bail, ensure};
 use disk::Disk;
+use disk_cache::WCache;
+use disk_memory::MemDisk;
 use journal::{Journal, format_with};
-use memdisk::MemDisk;
+use journal_layout::layout::{BLOCK, SEGMENT_BLOCKS};
 use std::alloc::Global;
-use volume_format::layout::{BLOCK, SEGMENT_BLOCKS};
-use wcache::WCache;
 
 /// Batches on each volume.
 const BATCHES: u64 = 64;

@@ -1,11 +1,11 @@
 //! How the time to read an article grows with its text.
 
 use anyhow::Result;
-use article::{Article, Origin};
 use std::alloc::{AllocError, Global};
 use std::cmp::min;
 use std::io::Print;
 use std::time::{Clock, Instant};
+use text_article::{Article, Origin};
 
 /// How often a text is read.
 const READS: u32 = 100;

@@ -3,10 +3,10 @@
 ghost use Rattle.std.specs.Prelude.{◌≡◌, ◌<◌, None};
 
 use anyhow::{Result, anyhow};
-use framing::{Message, Mode, Reader, stuff};
 use std::alloc::{AllocError, Global};
 use std::io::Print;
 use std::time::{Clock, Instant};
+use text_framing::{Message, Mode, Reader, stuff};
 
 /// The lines of the measured block, each of 32 octets with its CRLF.
 const LINES: u32 = 8_192;

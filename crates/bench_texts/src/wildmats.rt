@@ -1,10 +1,10 @@
 //! The time to match a name with a wildmat.
 
 use anyhow::Result;
-use names::{GroupName, Wildmat};
 use std::alloc::Global;
 use std::io::Print;
 use std::time::{Clock, Instant};
+use text_names::{GroupName, Wildmat};
 
 /// How often a wildmat is matched.
 const MATCHES: u32 = 100_000;

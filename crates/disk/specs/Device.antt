@@ -32,9 +32,13 @@ one_more n = (n + 1) % 2 ^ 64
 abbrev pub LeavesOnly : Device → List ℕ → Type 0
 LeavesOnly device image = (c : List ℕ) → device.may_leave c → c ≡ image
 
+-- after Ok, if the device tells its octets
+abbrev pub OnTold : {T : Type 0} → Result T DiskError → Device → Type 0 → Type 0
+OnTold result device told = IsTrue device.tells → OnOk result told
+
 -- a crash leaves nothing that it could not have left before
 abbrev pub LeavesNoMore : Device → Device → Type 0
-LeavesNoMore old new = (c : List ℕ) → new.may_leave c → old.may_leave c
+LeavesNoMore old new = IsTrue old.tells → (c : List ℕ) → new.may_leave c → old.may_leave c
 
 -- an image that might have been left, with any octets in the n from that place on
 abbrev pub IsTornImage : ℕ → ℕ → Device → List ℕ → Type 0
@@ -42,7 +46,7 @@ IsTornImage at n old c = (d : List ℕ) × old.may_leave d × Torn at n d c
 
 -- each image is an earlier one with any octets in the n from that place on
 abbrev pub TearsAt : ℕ → ℕ → Device → Device → Type 0
-TearsAt at n old new = (c : List ℕ) → new.may_leave c → IsTornImage at n old c
+TearsAt at n old new = IsTrue old.tells → (c : List ℕ) → new.may_leave c → IsTornImage at n old c
 
 -- no call changes the size or whether the octets are told, and the time does not fall
 pub record Elapses (old new : Device) : Type 0 where
@@ -52,12 +56,13 @@ pub record Elapses (old new : Device) : Type 0 where
 
 -- a crash since an earlier time might have left only what it might have left before
 abbrev pub LeftNoMore : Device → Device → Type 0
-LeftNoMore old new = (t : ℕ) (c : List ℕ) → t ≤ old.clock → new.left_since t c → old.left_since t c
+LeftNoMore old new = IsTrue old.tells → (t : ℕ) (c : List ℕ) → t ≤ old.clock → new.left_since t c → old.left_since t c
 
 -- a crash since an earlier time might have left only what it might have left before or, during or after a write, an
 -- image torn where the write went
 abbrev pub LeftTornAt : ℕ → ℕ → Device → Device → Type 0
-LeftTornAt at n old new = (t : ℕ) (c : List ℕ) → t ≤ old.clock → new.left_since t c → old.left_since t c ⊎ IsTornImage at n old c
+LeftTornAt at n old new =
+    IsTrue old.tells → (t : ℕ) (c : List ℕ) → t ≤ old.clock → new.left_since t c → old.left_since t c ⊎ IsTornImage at n old c
 
 -- `Ok` leaves the count of failures as it was, and a fault changes it
 pub record HasCause {T : Type 0} (result : Result T DiskError) (old new : Device) : Type 0 where
@@ -89,8 +94,8 @@ pub record IsSync (old new : Device) : Type 0 where
 pub record IsRefused (old new : Device) : Type 0 where
   pub time : Elapses old new
   pub content : IsTrue old.tells → new.content ≡ old.content
-  pub crash : IsTrue old.tells → LeavesNoMore old new
-  pub since : IsTrue old.tells → LeftNoMore old new
+  pub crash : LeavesNoMore old new
+  pub since : LeftNoMore old new
   pub reads : new.reads ≡ old.reads
   pub writes : new.writes ≡ old.writes
   pub syncs : new.syncs ≡ old.syncs

@@ -1,11 +1,10 @@
 //! A block device: an array of octets that a crash may leave torn where it was written since the last good sync.
-//! `specs/Device.antt` says what a device is at one moment; the clauses of `Disk` say what each call does to that.
+//! `specs/Device.antt` says what a device is at one moment, `specs/Calls.antt` what each call does to that.
 #![tactic(auto)]
 
-ghost use Rattle.std.specs.Prelude.{◌≡◌, ◌+◌, ◌≤◌, Bool, List, ℕ, IsTrue, length, IfErr, OnOk};
-ghost use Rattle.disk.specs.Device.{Device, Elapses, HasCause, IsRead, IsSync, IsUnchanged, IsWrite, LeavesOnly, LeavesNoMore, LeftNoMore};
-ghost use Rattle.disk.specs.Device.{LeftTornAt, OnAsked, OnRefused, TearsAt};
-ghost use Rattle.disk.specs.Image.{part, overwritten};
+ghost use Rattle.std.specs.Prelude.{◌≡◌, ◌+◌, ◌≤◌, Bool, List, ℕ, IsTrue, length};
+ghost use Rattle.disk.specs.Calls.{Reads, Syncs, Writes};
+ghost use Rattle.disk.specs.Device.{Device, IsUnchanged};
 
 /// Why a device call was refused.
 #[derive(Clone, Copy, Debug, PartialEq, Eq)]
@@ -45,42 +44,19 @@ pub trait Disk {
     /// which leaves any octets in `into`.
     fn read(&mut self, at: u64, into: &mut [u8]) -> Result<(), DiskError>
         requires { at + length into.old ≤ (device self.old).size }
-        ensures value { IsTrue (device self.old).tells → OnOk result (into.new ≡ part at (length into.old) (device self.old).content) }
-        ensures content { IsTrue (device self.old).tells → OnOk result ((device self.new).content ≡ (device self.old).content) }
-        ensures crash { IsTrue (device self.old).tells → LeavesNoMore (device self.old) (device self.new) }
-        ensures since { IsTrue (device self.old).tells → LeftNoMore (device self.old) (device self.new) }
-        ensures time { Elapses (device self.old) (device self.new) }
-        ensures call { IsRead (device self.old) (device self.new) }
-        ensures cause { HasCause result (device self.old) (device self.new) }
-        ensures no_memory { IfErr result (λ error. error ≡ DiskError.Fault) };
+        ensures { Reads at (length into.old) into.new result (device self.old) (device self.new) };
 
     /// Writes the octets from `at` on. The range must lie within the device. Until a good sync, a crash may leave any
     /// octets there, even after a fault. `Memory` comes only from a device whose writes take memory; then the call had
     /// no effect.
     fn write(&mut self, at: u64, from: &[u8]) -> Result<(), DiskError>
         requires { at + length from.now ≤ (device self.old).size }
-        ensures content { IsTrue (device self.old).tells
-            → OnOk result ((device self.new).content ≡ overwritten at from.now (device self.old).content) }
-        ensures crash { IsTrue (device self.old).tells → TearsAt at (length from.now) (device self.old) (device self.new) }
-        ensures since { IsTrue (device self.old).tells → LeftTornAt at (length from.now) (device self.old) (device self.new) }
-        ensures time { Elapses (device self.old) (device self.new) }
-        ensures call { OnAsked result (IsWrite (device self.old) (device self.new)) }
-        ensures cause { HasCause result (device self.old) (device self.new) }
-        ensures refused { OnRefused result (device self.old) (device self.new) }
-        ensures memory { IfErr result (λ error. error ≡ DiskError.Memory → IsTrue write_grows) };
+        ensures { Writes write_grows at from.now result (device self.old) (device self.new) };
 
     /// Makes the content durable: after `Ok` a crash leaves exactly what a read gives. `Fault` makes nothing durable.
     /// `Memory` comes only from a device whose syncs take memory; then the call had no effect.
     fn sync(&mut self) -> Result<(), DiskError>
-        ensures durable { IsTrue (device self.old).tells → OnOk result (LeavesOnly (device self.new) (device self.old).content) }
-        ensures content { IsTrue (device self.old).tells → OnOk result ((device self.new).content ≡ (device self.old).content) }
-        ensures crash { IsTrue (device self.old).tells → LeavesNoMore (device self.old) (device self.new) }
-        ensures since { IsTrue (device self.old).tells → LeftNoMore (device self.old) (device self.new) }
-        ensures time { Elapses (device self.old) (device self.new) }
-        ensures call { OnAsked result (IsSync (device self.old) (device self.new)) }
-        ensures cause { HasCause result (device self.old) (device self.new) }
-        ensures refused { OnRefused result (device self.old) (device self.new) }
-        ensures memory { IfErr result (λ error. error ≡ DiskError.Memory → IsTrue sync_grows) };
+        ensures { Syncs sync_grows result (device self.old) (device self.new) };
 
     /// Each image has as many octets as the device.
     ghost image_size: { (d : Self) (c : List ℕ) → IsTrue (device d).tells → (device d).may_leave c → length c ≡ (device d).size };

@@ -5,7 +5,7 @@ use Rattle.std.proofs.lemmas.List.Elements.{All-take, All-drop, All-replicate, A
 use Rattle.model.specs.Volume.{blocks_from}
 use Rattle.model.specs.Files.{HasRoom, first_data}
 use Rattle.model.proofs.Blocks.{get_or-blocks_from}
-use Rattle.blocks.proofs.Octets.{length-blocks_from, blocks_whole}
+use Rattle.fs_blocks.proofs.Octets.{length-blocks_from, blocks_whole}
 
 -- there is room for so many inodes
 pub has_room : (inodes count : ℕ) (octets : List ℕ) (blocks : List (List ℕ)) → blocks ≡ blocks_from 0 count octets → 64 ≤ inodes

@@ -6,7 +6,7 @@ ghost use Rattle.fs.specs.Changes.{SameMarks};
 ghost use Rattle.fs.specs.Touches.{Touches, touched_by_cut};
 ghost use Rattle.fs.specs.Calls.{IsName, IsThere, IsFileAt, Creates, HasNoFreeInode, Unlinks, file_names};
 
-use blocks::Blocks;
+use fs_blocks::Blocks;
 use fs_inodes::{remove_empty, shrink_to};
 use fs_layout::FsError;
 use fs_layout::inodes::{FILE_KIND, size_of};
@@ -32,18 +32,25 @@ pub fn size<B: Blocks>(blocks: &B, inodes: u32, name: &[u8]) -> Result<u64, FsEr
 /// Makes an empty file in the lowest free inode, and answers that inode. `Exists` exactly if a file has the name, else
 /// `Full` exactly if no inode is free; both change nothing. After `Memory` the caller must drop the stage.
 pub fn create<B: Blocks>(blocks: &mut B, inodes: u32, name: &[u8]) -> Result<u32, FsError>
+    // A file system, and a name for a file.
     requires room { HasRoom inodes (B.blocks blocks.old) }
     requires name { IsName name.now }
     requires rule { IsFileSystem inodes (B.blocks blocks.old) }
+
+    // The new file, which takes no block, and how many blocks change at most.
     ensures created { IfOk result (λ at. Creates inodes name.now at (B.blocks blocks.old) (B.blocks blocks.new)) }
     ensures touches { OnOk result (Touches 2 (B.blocks blocks.old) (B.blocks blocks.new)) }
     ensures marks { OnOk result (SameMarks (B.blocks blocks.old) (B.blocks blocks.new)) }
+
+    // The cause of each refusal, and what it leaves.
     ensures exists { IfErr result (λ e. e ≡ FsError.Exists
         → IsThere (table inodes (B.blocks blocks.old)) name.now × (blocks.new ≡ blocks.old)) }
     ensures full { IfErr result (λ e. e ≡ FsError.Full
         → (¬ (IsThere (table inodes (B.blocks blocks.old)) name.now))
         × HasNoFreeInode inodes (B.blocks blocks.old) × (blocks.new ≡ blocks.old)) }
     ensures no_other { IfErr result (λ e. (e ≢ FsError.Damaged) × (e ≢ FsError.NotFound)) }
+
+    // Only the stage changes.
     ensures kept { B.applied blocks.new ≡ B.applied blocks.old }
 {
     if let Some(_) = find(blocks, inodes, &slot_for(name)) {
@@ -61,16 +68,23 @@ pub fn create_absent<B: Blocks>(
     name: &[u8],
     from: u32,
 ) -> Result<u32, FsError>
+    // A file system, a new name, and where the search may start.
     requires room { HasRoom inodes (B.blocks blocks.old) }
     requires name { IsName name.now }
     requires rule { IsFileSystem inodes (B.blocks blocks.old) }
     requires absent { ¬ (IsThere (table inodes (B.blocks blocks.old)) name.now) }
     requires used { (k : ℕ) → k < from → slice_index_or (table inodes (B.blocks blocks.old)) k None ≢ None }
+
+    // The new file, which takes no block, and how many blocks change at most.
     ensures created { IfOk result (λ at. Creates inodes name.now at (B.blocks blocks.old) (B.blocks blocks.new)) }
     ensures touches { OnOk result (Touches 2 (B.blocks blocks.old) (B.blocks blocks.new)) }
     ensures marks { OnOk result (SameMarks (B.blocks blocks.old) (B.blocks blocks.new)) }
+
+    // The cause of a refusal, and what it leaves.
     ensures full { IfErr result (λ e. e ≡ FsError.Full → HasNoFreeInode inodes (B.blocks blocks.old) × (blocks.new ≡ blocks.old)) }
     ensures no_other { IfErr result (λ e. (e ≢ FsError.Damaged) × (e ≢ FsError.NotFound) × (e ≢ FsError.Exists)) }
+
+    // Only the stage changes.
     ensures kept { B.applied blocks.new ≡ B.applied blocks.old }
 {
     let Some(at) = find_from(blocks, inodes, from, &[0; RECORD_SIZE]) else {
@@ -87,15 +101,22 @@ pub fn create_absent<B: Blocks>(
 /// Removes a file and frees its blocks. `NotFound` exactly if no file has the name; it changes nothing. After `Memory`
 /// the caller must drop the stage.
 pub fn unlink<B: Blocks>(blocks: &mut B, inodes: u32, name: &[u8]) -> Result<(), FsError>
+    // A file system, and a name for a file.
     requires room { HasRoom inodes (B.blocks blocks.old) }
     requires name { IsName name.now }
     requires rule { IsFileSystem inodes (B.blocks blocks.old) }
+
+    // The files without this one, and how many blocks change at most.
     ensures unlinked { OnOk result (Unlinks inodes name.now (B.blocks blocks.old) (B.blocks blocks.new)) }
     ensures touches { OnOk result ((k : ℕ) (content : List ℕ) → IsFileAt (table inodes (B.blocks blocks.old)) k name.now content
         → Touches (1 + touched_by_cut (length content) 0) (B.blocks blocks.old) (B.blocks blocks.new)) }
+
+    // The cause of a refusal, and what it leaves.
     ensures not_found { IfErr result (λ e. e ≡ FsError.NotFound
         → (¬ (IsThere (table inodes (B.blocks blocks.old)) name.now)) × (blocks.new ≡ blocks.old)) }
     ensures no_other { IfErr result (λ e. (e ≢ FsError.Damaged) × (e ≢ FsError.Full) × (e ≢ FsError.Exists)) }
+
+    // Only the stage changes.
     ensures kept { B.applied blocks.new ≡ B.applied blocks.old }
 {
     let Some(at) = find(blocks, inodes, &slot_for(name)) else {
@@ -106,7 +127,7 @@ pub fn unlink<B: Blocks>(blocks: &mut B, inodes: u32, name: &[u8]) -> Result<(),
     Ok(())
 }
 
-/// The names of all files, by rising inode. Refused only for want of memory.
+/// The names of all files, by rising inode.
 pub fn names<B: Blocks>(alloc: Global, blocks: &B, inodes: u32) -> Result<Vec<Vec<u8>>, AllocError>
     requires room { HasRoom inodes (B.blocks blocks.now) }
     requires rule { IsFileSystem inodes (B.blocks blocks.now) }

@@ -11,7 +11,7 @@ pub use directory::{create, create_absent, names, size, unlink};
 pub use fs_check::check;
 pub use fs_inodes as by_inode;
 pub use fs_layout::FsError;
+pub use fs_layout::bitmap::free_block_count;
 pub use fs_layout::inodes::free_inode_count;
-pub use fs_layout::marks::free_block_count;
 pub use octets::{append, read_at, truncate, write_at};
 pub use whole::{bitmap_block, make_empty};

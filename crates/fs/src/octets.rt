@@ -8,7 +8,7 @@ ghost use Rattle.fs.specs.Changes.{Rewrites};
 ghost use Rattle.fs.specs.Touches.{Touches, touched_by_growth, touched_by_truncation, touched_by_write};
 ghost use Rattle.fs.specs.Growing.{Appends, CannotGrow};
 
-use blocks::Blocks;
+use fs_blocks::Blocks;
 use fs_inodes::{extend, extend_zeros, has_room_for, overwrite, read_entry, shrink_to};
 use fs_layout::FsError;
 use fs_layout::inodes::size_of;
@@ -51,19 +51,26 @@ pub fn append<B: Blocks>(
     name: &[u8],
     octets: &[u8],
 ) -> Result<(), FsError>
+    // A file system, and a name for a file.
     requires room { HasRoom inodes (B.blocks blocks.old) }
     requires name { IsName name.now }
     requires rule { IsFileSystem inodes (B.blocks blocks.old) }
+
+    // The longer file, how many blocks change at most, and sizes that the format allows.
     ensures appended { OnOk result (Appends inodes name.now octets.now (B.blocks blocks.old) (B.blocks blocks.new)) }
     ensures touches { OnOk result ((k : ℕ) (content : List ℕ) → IsFileAt (table inodes (B.blocks blocks.old)) k name.now content
         → Touches (touched_by_growth (length content) (length octets.now)) (B.blocks blocks.old) (B.blocks blocks.new)) }
     ensures format { OnOk result (AreWithin (most_octets format) inodes (B.blocks blocks.old)
         → AreWithin (most_octets format) inodes (B.blocks blocks.new)) }
+
+    // The cause of each refusal, and what it leaves.
     ensures not_found { IfErr result (λ e. e ≡ FsError.NotFound
         → (¬ (IsThere (table inodes (B.blocks blocks.old)) name.now)) × (blocks.new ≡ blocks.old)) }
     ensures full { IfErr result (λ e. e ≡ FsError.Full
         → CannotGrow format inodes name.now (length octets.now) (B.blocks blocks.old) × (blocks.new ≡ blocks.old)) }
     ensures no_other { IfErr result (λ e. (e ≢ FsError.Damaged) × (e ≢ FsError.Exists)) }
+
+    // Only the stage changes.
     ensures kept { B.applied blocks.new ≡ B.applied blocks.old }
 {
     let Some(at) = find(blocks, inodes, &slot_for(name)) else {
@@ -88,22 +95,29 @@ pub fn write_at<B: Blocks>(
     place: u64,
     octets: &[u8],
 ) -> Result<(), FsError>
+    // A file system, a name, and a place in the file or at its end.
     requires room { HasRoom inodes (B.blocks blocks.old) }
     requires name { IsName name.now }
     requires rule { IsFileSystem inodes (B.blocks blocks.old) }
     requires place { (k : ℕ) (content : List ℕ) → IsFileAt (table inodes (B.blocks blocks.old)) k name.now content
         → place ≤ length content }
+
+    // The new content, how many blocks change at most, and sizes that the format allows.
     ensures written { OnOk result (Rewrites inodes name.now (overwritten place octets.now) (B.blocks blocks.old) (B.blocks blocks.new)) }
     ensures touches { OnOk result ((k : ℕ) (content : List ℕ) → IsFileAt (table inodes (B.blocks blocks.old)) k name.now content
         → Touches (touched_by_write (length content) place (length octets.now)) (B.blocks blocks.old) (B.blocks blocks.new)) }
     ensures format { OnOk result (AreWithin (most_octets format) inodes (B.blocks blocks.old)
         → AreWithin (most_octets format) inodes (B.blocks blocks.new)) }
+
+    // The cause of each refusal, and what it leaves.
     ensures not_found { IfErr result (λ e. e ≡ FsError.NotFound
         → (¬ (IsThere (table inodes (B.blocks blocks.old)) name.now)) × (blocks.new ≡ blocks.old)) }
     ensures full { IfErr result (λ e. e ≡ FsError.Full
         → (k : ℕ) × (content : List ℕ) × IsFileAt (table inodes (B.blocks blocks.old)) k name.now content
         × HasNoRoomFor format (B.blocks blocks.old) (length content) (place + length octets.now) × (blocks.new ≡ blocks.old)) }
     ensures no_other { IfErr result (λ e. (e ≢ FsError.Damaged) × (e ≢ FsError.Exists)) }
+
+    // Only the stage changes.
     ensures kept { B.applied blocks.new ≡ B.applied blocks.old }
 {
     let Some(at) = find(blocks, inodes, &slot_for(name)) else {
@@ -134,21 +148,28 @@ pub fn truncate<B: Blocks>(
     name: &[u8],
     size: u64,
 ) -> Result<(), FsError>
+    // A file system, and a name for a file.
     requires room { HasRoom inodes (B.blocks blocks.old) }
     requires name { IsName name.now }
     requires rule { IsFileSystem inodes (B.blocks blocks.old) }
+
+    // The new content, how many blocks change at most, and sizes that the format allows.
     ensures truncated { OnOk result (Rewrites inodes name.now
         (λ content. take size content ++ replicate (size - length content) 0) (B.blocks blocks.old) (B.blocks blocks.new)) }
     ensures touches { OnOk result ((k : ℕ) (content : List ℕ) → IsFileAt (table inodes (B.blocks blocks.old)) k name.now content
         → Touches (touched_by_truncation (length content) size) (B.blocks blocks.old) (B.blocks blocks.new)) }
     ensures format { OnOk result (AreWithin (most_octets format) inodes (B.blocks blocks.old)
         → AreWithin (most_octets format) inodes (B.blocks blocks.new)) }
+
+    // The cause of each refusal, and what it leaves.
     ensures not_found { IfErr result (λ e. e ≡ FsError.NotFound
         → (¬ (IsThere (table inodes (B.blocks blocks.old)) name.now)) × (blocks.new ≡ blocks.old)) }
     ensures full { IfErr result (λ e. e ≡ FsError.Full
         → (k : ℕ) × (content : List ℕ) × IsFileAt (table inodes (B.blocks blocks.old)) k name.now content
         × HasNoRoomFor format (B.blocks blocks.old) (length content) size × (blocks.new ≡ blocks.old)) }
     ensures no_other { IfErr result (λ e. (e ≢ FsError.Damaged) × (e ≢ FsError.Exists)) }
+
+    // Only the stage changes.
     ensures kept { B.applied blocks.new ≡ B.applied blocks.old }
 {
     let Some(at) = find(blocks, inodes, &slot_for(name)) else {

@@ -7,11 +7,11 @@ ghost use Rattle.fs.specs.Calls.{Makes};
 ghost use Rattle.fs.specs.Emptying.{MarksFirst, PutsBitmap};
 ghost use Rattle.fs.specs.Touches.{Touches};
 
-use blocks::{BLOCK_SIZE, Blocks};
+use fs_blocks::{BLOCK_SIZE, Blocks};
 use fs_layout::FsError;
+use fs_layout::bitmap::BLOCK_BITS;
 use fs_layout::bits::set_front;
 use fs_layout::inodes::{bitmap_blocks, first_data};
-use fs_layout::marks::BLOCK_BITS;
 use std::alloc::AllocError;
 
 /// Makes the empty file system on zeroed blocks. After `Memory` the caller must drop the stage.

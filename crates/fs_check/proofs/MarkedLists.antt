@@ -7,7 +7,7 @@ use Rattle.std.proofs.lemmas.List.Elements.{Contains-append_left, Contains-appen
 use Rattle.std.proofs.lemmas.List.FromFn.{length-map-range_with_len, get_or-map-range_with_len, map-range_with_len_more}
 use Rattle.std.proofs.lemmas.Bool.{cases_eq, false≢true, false_from_ne_true}
 use Rattle.model.specs.Stream.{Octets}
-use Rattle.blocks.proofs.Distinct.{distinct_push}
+use Rattle.fs_blocks.proofs.Distinct.{distinct_push}
 use Rattle.fs_layout.specs.Bits.{bit_of, SetsBit}
 use Rattle.model.proofs.Distinct.{distinct_apart, distinct_append, distinct_left, distinct_right}
 use Rattle.fs_layout.proofs.Touching.{one_number}

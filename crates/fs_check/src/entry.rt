@@ -8,14 +8,14 @@ ghost use Rattle.model.specs.Files.{most_octets};
 ghost use Rattle.fs_layout.specs.Blocks.{IsThere};
 ghost use Rattle.fs_check.specs.Checking.{IsSlot, HasNumber, HasTables, HasPointers, HasSmallEntry};
 
-use blocks::Blocks;
+use disk_numbers::{number32, number64};
+use fs_blocks::Blocks;
 use fs_layout::inodes::{
     BLOCK_POINTERS, DIRECT_POINTERS, DOUBLE_AT, SIZE_AT, SPARE_AT, content_blocks, first_data,
     indirect_at, most_octets, pointer_at,
 };
 use fs_layout::records::{RECORD_SIZE, get_inode, get_slot};
 use fs_layout::slots::{NAME_MAX, slot_for};
-use octet_numbers::{number32, number64};
 
 const FREE_KIND: u32 = 0;
 

@@ -9,18 +9,18 @@ ghost use Rattle.fs_layout.specs.Bits.{bit_of};
 ghost use Rattle.fs_check.specs.Checking.{HasEntry, HasOwners, HasSmallEntry, MarksUsed};
 
 use crate::entry::is_entry;
-use crate::marks::{is_bitmap, mark_owners};
 use crate::names::are_names_distinct;
-use blocks::{BLOCK_SIZE, Blocks};
+use crate::used_blocks::{is_bitmap, mark_owners};
+use disk_numbers::zeros;
+use fs_blocks::{BLOCK_SIZE, Blocks};
 use fs_layout::FsError;
 use fs_layout::bits::set_front;
 use fs_layout::inodes::{bitmap_blocks, first_data};
-use octet_numbers::zeros;
 use std::alloc::Global;
 
 mod entry;
-mod marks;
 mod names;
+mod used_blocks;
 
 /// Checks the rule of blocks, whatever the blocks contain, and that no file is too large for the format. Changes
 /// nothing. `Damaged` exactly if the rule is broken or a file is too large. `Memory` if there is no room to mark the

@@ -6,8 +6,8 @@ ghost use Rattle.std.specs.Prelude.{◌≡◌, ◌≤◌, ◌<◌, ◌↔◌, �
 ghost use Rattle.model.specs.Files.{HasRoom};
 ghost use Rattle.fs_check.specs.Checking.{HasDistinctNames, HasEntry, rank};
 
-use blocks::Blocks;
 use byteorder::{BigEndian, ByteOrder};
+use fs_blocks::Blocks;
 use fs_layout::records::{RECORD_SIZE, get_slot};
 use std::alloc::{AllocError, Global};
 use std::collections::BTreeSet;
@@ -18,8 +18,8 @@ const NAME_AT: usize = 1;
 /// The place in a slot of the last eight digits of an article's name.
 const DIGITS_AT: usize = 5;
 
-/// Whether no two files have the same name. Refused only for want of memory. It takes linear time and the memory of the
-/// names that no rank tells apart, or, if the ranks don't rise with the inodes, n log n and the memory of all names.
+/// Whether no two files have the same name. It takes linear time and the memory of the names that no rank tells apart,
+/// or, if the ranks don't rise with the inodes, n log n and the memory of all names.
 pub fn are_names_distinct<B: Blocks>(
     alloc: Global,
     blocks: &B,

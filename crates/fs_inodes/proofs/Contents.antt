@@ -11,7 +11,7 @@ use Rattle.model.specs.Volume.{block, blocks_from}
 use Rattle.model.specs.Files.{FileEntry, size, block_count, pointer, owned, content_of}
 use Rattle.model.proofs.Owning.{owns_pointer}
 use Rattle.model.proofs.Blocks.{get_or-blocks_from}
-use Rattle.blocks.proofs.Octets.{blocks_from-flat_map}
+use Rattle.fs_blocks.proofs.Octets.{blocks_from-flat_map}
 
 -- a part of a front
 part_of_front : (r n m : ℕ) (octets : Octets) → r + n ≤ m → take n (drop r (take m octets)) ≡ take n (drop r octets)

@@ -4,7 +4,7 @@ use Rattle.std.proofs.Common.{map, take, refl, sym, ◌∙◌, ap, subst, arith}
 use Rattle.std.specs.List.{All, Contains, range_with_len}
 use Rattle.byteorder.specs.Endian.{little_bytes}
 use Rattle.disk.specs.Image.{overwritten}
-use Rattle.octet_numbers.proofs.Numbers.{number_at_apart, number_at_written}
+use Rattle.disk_numbers.proofs.Numbers.{number_at_apart, number_at_written}
 use Rattle.model.specs.Stream.{Octets}
 use Rattle.model.specs.Volume.{number_at}
 use Rattle.model.specs.Files.{FileEntry, HasRoom, IsFile, size, block_count, pointer, owned, double_blocks, double_pointer, indirect_count}

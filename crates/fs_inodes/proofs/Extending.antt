@@ -9,7 +9,7 @@ use Rattle.std.proofs.Math.Seq.{take-add}
 use Rattle.disk.specs.Image.{overwritten}
 use Rattle.model.specs.Stream.{Octets}
 use Rattle.model.specs.Files.{FileEntry, size, pointer, content_of}
-use Rattle.blocks.proofs.Octets.{blocks_from-flat_map}
+use Rattle.fs_blocks.proofs.Octets.{blocks_from-flat_map}
 
 -- ---- contents
 

@@ -12,16 +12,16 @@ ghost use Rattle.fs_layout.specs.Touches.{Touches, TouchesData, touched_by_growt
 ghost use Rattle.fs_inodes.specs.Growing.{IsApart, PutsIndirect, PutsPointer, TakesZeros, AddsDouble, AddsTable, AddsBlock, NamesBlocks};
 ghost use Rattle.fs_inodes.specs.Growing.{inode_entry, with_double, with_indirect, GrowsBy, HasRoomFor};
 
+use crate::file_room::blocks_more;
 use crate::pieces::{put_number, put_piece};
-use crate::room::blocks_more;
-use blocks::{BLOCK_SIZE, Blocks};
+use disk_numbers::{number32, number64, put32, put64};
+use fs_blocks::{BLOCK_SIZE, Blocks};
+use fs_layout::bitmap::take_block;
 use fs_layout::inodes::{
     BLOCK_POINTERS, DIRECT_POINTERS, DOUBLE_AT, INDIRECT_AT, POINTERS_AT, SIZE_AT, indirect_at,
     pointer_at, size_of,
 };
-use fs_layout::marks::take_block;
 use fs_layout::records::{RECORD_SIZE, get_inode, put_inode};
-use octet_numbers::{number32, number64, put32, put64};
 use std::alloc::AllocError;
 
 // Puts the number of a file's i-th block into its inode, or into a block of pointers.
@@ -97,13 +97,18 @@ fn add_double<B: Blocks>(
     inode: &mut [u8],
     p: u32,
 ) -> Result<(), AllocError>
+    // An inode, and blocks of which those of the bitmap are marked as used.
     requires whole { length inode.old ≡ 64 }
     requires some { 2 ≤ length (B.blocks blocks.old) }
     requires count_few { length (B.blocks blocks.old) ≤ most_blocks }
     requires reserved { (b : ℕ) → b < bitmap_blocks (length (B.blocks blocks.old)) → is_marked_used (B.blocks blocks.old) b ≡ true }
+
+    // What the inode names so far, and which blocks are free.
     requires names { NamesBlocks p (inode_entry (B.blocks blocks.old) inode.old) (B.blocks blocks.old) }
     requires free { p ≡ 1 → 0 < free_blocks (B.blocks blocks.old) }
     requires none { NoneFreeBelow from (B.blocks blocks.old) }
+
+    // What `Ok` leaves of the inode and the blocks. Only the stage changes.
     ensures done { OnOk result (AddsDouble p inode.old inode.new (B.blocks blocks.old) (B.blocks blocks.new)) }
     ensures kept { B.applied blocks.new ≡ B.applied blocks.old }
 {
@@ -123,14 +128,19 @@ fn add_table<B: Blocks>(
     inode: &mut [u8],
     i: u32,
 ) -> Result<(), AllocError>
+    // An inode, and blocks of which those of the bitmap are marked as used.
     requires whole { length inode.old ≡ 64 }
     requires few { i < 1048576 }
     requires some { 2 ≤ length (B.blocks blocks.old) }
     requires count_few { length (B.blocks blocks.old) ≤ most_blocks }
     requires reserved { (b : ℕ) → b < bitmap_blocks (length (B.blocks blocks.old)) → is_marked_used (B.blocks blocks.old) b ≡ true }
+
+    // What the inode names so far, and which blocks are free.
     requires names { NamesBlocks (indirect_for i) (inode_entry (B.blocks blocks.old) inode.old) (B.blocks blocks.old) }
     requires free { with_double (indirect_for (i + 1)) ≤ free_blocks (B.blocks blocks.old) + with_double (indirect_for i) }
     requires none { NoneFreeBelow from (B.blocks blocks.old) }
+
+    // What `Ok` leaves of the inode and the blocks. Only the stage changes.
     ensures done { OnOk result (AddsTable i inode.old inode.new (B.blocks blocks.old) (B.blocks blocks.new)) }
     ensures kept { B.applied blocks.new ≡ B.applied blocks.old }
 {
@@ -151,14 +161,19 @@ fn add_block<B: Blocks>(
     inode: &mut [u8],
     i: u32,
 ) -> Result<u32, AllocError>
+    // An inode, and blocks of which those of the bitmap are marked as used.
     requires whole { length inode.old ≡ 64 }
     requires few { i < 1048576 }
     requires some { 2 ≤ length (B.blocks blocks.old) }
     requires count_few { length (B.blocks blocks.old) ≤ most_blocks }
     requires reserved { (b : ℕ) → b < bitmap_blocks (length (B.blocks blocks.old)) → is_marked_used (B.blocks blocks.old) b ≡ true }
+
+    // What the inode names so far, and which blocks are free.
     requires names { NamesBlocks (indirect_for i) (inode_entry (B.blocks blocks.old) inode.old) (B.blocks blocks.old) }
     requires free { with_indirect (i + 1) ≤ free_blocks (B.blocks blocks.old) + with_indirect i }
     requires none { NoneFreeBelow from (B.blocks blocks.old) }
+
+    // What `Ok` leaves of the inode and the blocks. Only the stage changes.
     ensures done { IfOk result (λ number. AddsBlock i number inode.old inode.new (B.blocks blocks.old) (B.blocks blocks.new)) }
     ensures kept { B.applied blocks.new ≡ B.applied blocks.old }
 {
@@ -176,20 +191,27 @@ fn add_piece<B: Blocks>(
     at: u32,
     piece: &[u8],
 ) -> Result<(), AllocError>
+    // A file of a file system.
     requires room { HasRoom inodes (B.blocks blocks.old) }
     requires rule { IsFileSystem inodes (B.blocks blocks.old) }
     requires below { at < inodes }
     requires file { IsFile (entry inodes (B.blocks blocks.old) at) }
+
+    // A piece that fits into one block, and enough free blocks.
     requires some { 0 < length piece.now }
     requires within { size (entry inodes (B.blocks blocks.old) at) % 4096 + length piece.now ≤ 4096 }
     requires enough { HasRoomFor (B.blocks blocks.old) (size (entry inodes (B.blocks blocks.old) at))
         (size (entry inodes (B.blocks blocks.old) at) + length piece.now) }
     requires none { NoneFreeBelow from (B.blocks blocks.old) }
+
+    // The longer file, and the blocks that change.
     ensures grown { OnOk result (GrowsBy inodes at piece.now (B.blocks blocks.old) (B.blocks blocks.new)) }
     ensures touches { OnOk result ((block : ℕ) × TouchesData at (block ∷ [])
         (content_blocks (size (entry inodes (B.blocks blocks.old) at)))
         (content_blocks (size (entry inodes (B.blocks blocks.old) at) + length piece.now))
         (B.blocks blocks.old) (B.blocks blocks.new)) }
+
+    // Only the stage changes.
     ensures kept { B.applied blocks.new ≡ B.applied blocks.old }
 {
     let mut inode = [0; RECORD_SIZE];
@@ -217,17 +239,24 @@ pub fn extend<B: Blocks>(
     at: u32,
     octets: &[u8],
 ) -> Result<u32, AllocError>
+    // A file of a file system.
     requires room { HasRoom inodes (B.blocks blocks.old) }
     requires rule { IsFileSystem inodes (B.blocks blocks.old) }
     requires below { at < inodes }
     requires file { IsFile (entry inodes (B.blocks blocks.old) at) }
+
+    // Enough free blocks, and where the search may start.
     requires enough { HasRoomFor (B.blocks blocks.old) (size (entry inodes (B.blocks blocks.old) at))
         (size (entry inodes (B.blocks blocks.old) at) + length octets.now) }
     requires none { NoneFreeBelow from (B.blocks blocks.old) }
+
+    // The longer file, the blocks taken, and how many change at most.
     ensures grown { OnOk result (GrowsBy inodes at octets.now (B.blocks blocks.old) (B.blocks blocks.new)) }
     ensures taken { IfOk result (λ taken. free_blocks (B.blocks blocks.new) + taken ≡ free_blocks (B.blocks blocks.old)) }
     ensures touches { OnOk result (Touches (touched_by_growth (size (entry inodes (B.blocks blocks.old) at)) (length octets.now))
         (B.blocks blocks.old) (B.blocks blocks.new)) }
+
+    // Only the stage changes.
     ensures kept { B.applied blocks.new ≡ B.applied blocks.old }
 {
     let size = size_of(blocks, inodes, at) as usize;
@@ -248,15 +277,20 @@ pub fn extend_zeros<B: Blocks>(
     at: u32,
     count: u64,
 ) -> Result<(), AllocError>
+    // A file of a file system, and enough free blocks.
     requires room { HasRoom inodes (B.blocks blocks.old) }
     requires rule { IsFileSystem inodes (B.blocks blocks.old) }
     requires below { at < inodes }
     requires file { IsFile (entry inodes (B.blocks blocks.old) at) }
     requires enough { HasRoomFor (B.blocks blocks.old) (size (entry inodes (B.blocks blocks.old) at))
         (size (entry inodes (B.blocks blocks.old) at) + count) }
+
+    // The longer file, and how many blocks change at most.
     ensures grown { OnOk result (GrowsBy inodes at (replicate count 0) (B.blocks blocks.old) (B.blocks blocks.new)) }
     ensures touches { OnOk result (Touches (touched_by_growth (size (entry inodes (B.blocks blocks.old) at)) count)
         (B.blocks blocks.old) (B.blocks blocks.new)) }
+
+    // Only the stage changes.
     ensures kept { B.applied blocks.new ≡ B.applied blocks.old }
 {
     let zeros = [0; BLOCK_SIZE];

@@ -5,8 +5,8 @@ ghost use Rattle.byteorder.specs.Endian.{little_bytes};
 ghost use Rattle.disk.specs.Image.{overwritten};
 ghost use Rattle.fs_inodes.specs.Growing.{PutsPiece};
 
-use blocks::{BLOCK_SIZE, Blocks, put_part};
-use octet_numbers::put32;
+use disk_numbers::put32;
+use fs_blocks::{BLOCK_SIZE, Blocks, put_part};
 use std::alloc::AllocError;
 
 // Puts a number into four octets of a block.

@@ -9,10 +9,10 @@ ghost use Rattle.model.specs.Files.{HasRoom, bitmap_blocks, entry, entry_of, fir
 ghost use Rattle.model.specs.Files.{largest_file};
 ghost use Rattle.model.specs.Files.{most_octets};
 
-use crate::marks::BLOCK_BITS;
+use crate::bitmap::BLOCK_BITS;
 use crate::records::{RECORD_SIZE, get_inode};
-use blocks::{BLOCK_SIZE, Blocks};
-use octet_numbers::{number32, number64};
+use disk_numbers::{number32, number64};
+use fs_blocks::{BLOCK_SIZE, Blocks};
 
 /// The fewest inodes that a volume may have, and the most.
 pub const FEWEST_INODES: u64 = 64;

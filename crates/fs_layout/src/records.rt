@@ -6,7 +6,7 @@ ghost use Rattle.model.specs.Files.{HasRoom, bitmap_blocks, inode_of, most_block
 ghost use Rattle.fs_layout.specs.Blocks.{PutsRecord, IsFoundIn, IsFound};
 
 use crate::inodes::bitmap_blocks;
-use blocks::Blocks;
+use fs_blocks::Blocks;
 use std::alloc::AllocError;
 
 /// The number of octets in a record.

@@ -5,7 +5,7 @@ ghost use Rattle.model.specs.Files.{slot_octets, name_in};
 ghost use Rattle.fs_layout.specs.Table.{IsName};
 
 use crate::records::RECORD_SIZE;
-use blocks::put_part;
+use fs_blocks::put_part;
 use std::alloc::{AllocError, Global};
 
 /// The most octets that a name may have.
@@ -22,7 +22,7 @@ pub fn slot_for(name: &[u8]) -> [u8; RECORD_SIZE]
     slot
 }
 
-/// The name in a slot. Refused only for want of memory.
+/// The name in a slot.
 pub fn name_of(alloc: Global, slot: &[u8]) -> Result<Vec<u8>, AllocError>
     requires whole { length slot.now ≡ 64 }
     requires few { slice_index slot.now 0 ≤ 63 }

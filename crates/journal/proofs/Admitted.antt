@@ -1,21 +1,23 @@
 -- What a crash leaves at each call of a batch: a law of the segments for each kind of call.
-use Rattle.std.proofs.Common.{◌≡◌, inl, inr, ◌<◌, ◌≤◌, ℕ, ◌+◌, ◌*◌, true, false, eqb, List, [], ◌∷◌, ◌++◌, length, drop, refl, sym, ◌∙◌, ap}
-use Rattle.std.proofs.Common.{subst, arith}
+use Rattle.std.proofs.Common.{◌≡◌, inl, inr, ◌<◌, ◌≤◌, ℕ, ◌+◌, ◌*◌, Bool, true, false, eqb, List, [], ◌∷◌, ◌++◌, length, get_or, drop, refl}
+use Rattle.std.proofs.Common.{sym}
+use Rattle.std.proofs.Common.{◌∙◌, ap, subst, arith}
+use Rattle.std.proofs.lemmas.Bool.{cond_both}
 use Rattle.std.proofs.lemmas.List.{drop_more}
 use Rattle.model.specs.Volume.{AreDistinct, Batch, IsDescriptor, StandsFor, batch_in, block, descriptor_place, gate_closed, gate_place}
-use Rattle.model.specs.Volume.{home_size, image_place, is_open, laid_over, logical_blocks, number_at, segment_count}
-use Rattle.segment_laws.specs.Held.{AreOpen, HaveLess, HeldBatch, IsHomeOfHeld, IsWrittenIn}
-use Rattle.segment_laws.specs.Images.{IsCarried, IsHomeOfOpen, SameBut}
-use Rattle.segment_laws.proofs.Blocks.{first-overwritten, overwritten_same, same_but_back, same_but_more, same_but_then}
-use Rattle.segment_laws.proofs.Gates.{any_shut, closed_or_not, first_is_least, gate_kept, less_than, opened_open, opened_or_not}
-use Rattle.segment_laws.proofs.Standing.{torn, unread}
-use Rattle.segment_laws.proofs.Writing.{torn_held}
+use Rattle.model.specs.Volume.{epoch_in, epoch_of, home_size, image_place, is_open, laid_over, logical_blocks, number_at, segment_count}
+use Rattle.journal_laws.specs.Held.{AreOpen, HaveLess, HeldBatch, IsHomeOfHeld, IsWrittenIn}
+use Rattle.journal_laws.specs.Images.{IsCarried, IsHomeOfOpen, SameBut}
+use Rattle.journal_laws.proofs.Blocks.{first-overwritten, overwritten_same, same_but_back, same_but_more, same_but_then}
+use Rattle.journal_laws.proofs.Gates.{any_shut, closed_or_not, first_is_least, gate_kept, less_than, opened_open, opened_or_not}
+use Rattle.journal_laws.proofs.Standing.{torn, unread}
+use Rattle.journal_laws.proofs.Writing.{torn_held}
 use Rattle.journal_segments.proofs.Written.{batch_is}
 use Rattle.journal_segments.specs.Staged.{IsStaged, held_as}
-use Rattle.journal.specs.Flight.{Flight, all_of, held_at, none_held}
+use Rattle.journal.specs.Flight.{Flight, all_of, are_all, closing_block, held_at, none_held}
 use Rattle.journal.specs.Inside.{IsAdmitted, Touched, blocks_without}
 use Rattle.journal.specs.declared.Next.{Next}
-use Rattle.journal.specs.declared.Next.TheVariants.{Idle, Descriptor, Image, Seal, OpenGate, Commit, Home, Settle, CloseGate, Finish}
+use Rattle.journal.specs.declared.Next.TheVariants.{Idle, Descriptor, Image, Seal, OpenGate, Commit, Home, Settle, Close, Finish}
 
 -- what the content before a call bears of what a crash after it leaves
 abbrev pub Bears : Flight → Next → List ℕ → Type 0
@@ -26,8 +28,15 @@ Bears f Commit x =
     × HaveLess (held_as f.batch).batch.number f.held
 Bears f (Home j i) x = AreOpen (all_of f) x
 Bears f Settle x = AreOpen (all_of f) x
-Bears f (Finish j) x = (j < length (all_of f)) × AreOpen (drop j (all_of f)) x × IsCarried x
+Bears f (Finish j) x = (are_all f ≡ false) × (j < length (all_of f)) × AreOpen (drop j (all_of f)) x × IsCarried x
 Bears f next x = Unit {0}
+
+-- a 0 is no epoch
+pub zero_shut : (octets : List ℕ) → eqb 0 (epoch_in octets) ≡ false
+zero_shut octets = cond_both (eqb (get_or octets 150 0) 2) 2 1 (λ k. eqb 0 k ≡ false) (λ e. refl) (λ e. refl)
+
+pub shut_by : (m : ℕ) (x : List ℕ) → get_or (block (gate_place m) x) 0 0 ≡ 0 → is_open m x ≡ false
+shut_by m x is = ap (λ (n : ℕ). eqb n (epoch_of x)) is ∙ zero_shut (block 0 x)
 
 -- a volume, and the image with a gate closed
 module _ (x label : List ℕ) (m : ℕ) (stands : StandsFor x label (logical_blocks x)) (there : m < segment_count x) where
@@ -38,7 +47,7 @@ module _ (x label : List ℕ) (m : ℕ) (stands : StandsFor x label (logical_blo
   shut_same = overwritten_same (gate_place m) (0 ∷ []) x (omega arith) fits
 
   pub is_shut : is_open m (gate_closed m x) ≡ false
-  is_shut = ap (λ (n : ℕ). eqb n 1) (first-overwritten (gate_place m) 0 x fits)
+  is_shut = shut_by m (gate_closed m x) (first-overwritten (gate_place m) 0 x fits)
 
   pub stands_shut : StandsFor (gate_closed m x) label (logical_blocks (gate_closed m x))
   stands_shut = any_shut x (gate_closed m x) label (logical_blocks x) m stands there shut_same is_shut
@@ -56,7 +65,7 @@ module _ (x label : List ℕ) (m : ℕ) (stands : StandsFor x label (logical_blo
   pub shut_alike : (c : List ℕ) → SameBut (λ k. k ≡ gate_place m) x c → logical_blocks (gate_closed m c) ≡ logical_blocks (gate_closed m x)
   shut_alike c same =
       let room : 4096 * gate_place m + 1 ≤ length c = omega (arith, fits, same.size) in
-      let shut_c : is_open m (gate_closed m c) ≡ false = ap (λ (n : ℕ). eqb n 1) (first-overwritten (gate_place m) 0 c room) in
+      let shut_c : is_open m (gate_closed m c) ≡ false = shut_by m (gate_closed m c) (first-overwritten (gate_place m) 0 c room) in
       let both =
       same_but_then (λ k. k ≡ gate_place m) (gate_closed m x) x (gate_closed m c)
       (same_but_back (λ k. k ≡ gate_place m) x (gate_closed m x) shut_same)
@@ -147,13 +156,14 @@ module _ (f : Flight) (x label : List ℕ) (stands : StandsFor x label (logical_
       (subst (λ (n : ℕ). SameBut (IsHomeOfHeld n (all_of f)) x c) (sym count) same)
 
   -- and the gate of the first one, once they are carried
-  finish_case : (j : ℕ) (c : List ℕ) → Bears f (Finish j) x → SameBut (λ k. k ≡ gate_place (held_at (all_of f) j).place) x c
-      → StandsFor c label (logical_blocks x)
+  finish_case : (j : ℕ) (c : List ℕ) → Bears f (Finish j) x → SameBut (Touched f (Finish j)) x c → StandsFor c label (logical_blocks x)
   finish_case j c bears same =
       let h = held_at (all_of f) j in
-      let are = subst (λ (hs : List HeldBatch). AreOpen hs x) (drop_more (all_of f) j none_held bears.0) bears.1 in
-      (closed_or_not x c label (logical_blocks x) h.place stands are.each.0.0 (first_is_least x h (drop (j + 1) (all_of f)) are) bears.2
-      same).0
+      let are = subst (λ (hs : List HeldBatch). AreOpen hs x) (drop_more (all_of f) j none_held bears.1) bears.2 in
+      let here : SameBut (λ k. k ≡ gate_place h.place) x c =
+      subst (λ (b : Bool). SameBut (λ k. k ≡ closing_block b j (all_of f)) x c) bears.0 same in
+      (closed_or_not x c label (logical_blocks x) h.place stands are.each.0.0 (first_is_least x h (drop (j + 1) (all_of f)) are) bears.3
+      here).0
 
   -- at each call
   pub images_stand : (next : Next) (c : List ℕ) → Bears f next x → SameBut (Touched f next) x c
@@ -166,5 +176,5 @@ module _ (f : Flight) (x label : List ℕ) (stands : StandsFor x label (logical_
   images_stand Commit c bears same = commit_case c bears same
   images_stand (Home j i) c bears same = inl (home_case c bears same)
   images_stand Settle c bears same = inl (home_case c bears same)
-  images_stand (CloseGate j) c bears same = inl (whole_case c same)
+  images_stand (Close j) c bears same = inl (whole_case c same)
   images_stand (Finish j) c bears same = inl (finish_case j c bears same)

@@ -5,13 +5,16 @@ use Rattle.std.specs.List.{All}
 use Rattle.std.proofs.lemmas.Bool.{cases_Bool, cases_eq, eqb-false}
 use Rattle.std.proofs.lemmas.List.{length-take-le, map_more}
 use Rattle.disk.specs.Device.{Device}
-use Rattle.model.specs.Volume.{AreDistinct, StandsFor, descriptor_of, is_open, number_at}
-use Rattle.segment_laws.specs.Held.{AreOpen, HaveLess, HeldBatch, IsAmong}
-use Rattle.segment_laws.proofs.Gates.{among_end}
+use Rattle.disk.specs.Image.{part}
+use Rattle.model.specs.Volume.{AreDistinct, StandsFor, blocks_from, descriptor_of, epoch_in, format_in, is_open, logical_blocks, number_at}
+use Rattle.journal_laws.specs.Held.{AreOpen, HaveLess, HeldBatch, IsAmong}
+use Rattle.journal_laws.proofs.Gates.{among_end}
 use Rattle.journal_segments.specs.Staged.{IsSound, IsStaged, Staged, held_as, none_staged, staged_at}
 use Rattle.journal.specs.Flight.{all_of, flight_in, left_of}
 use Rattle.journal_segments.specs.Found.{IsTaken}
-use Rattle.journal.specs.Inside.{IsAdmitted, IsKept}
+use Rattle.journal.specs.Inside.{IsAdmitted, IsKept, blocks_without}
+use Rattle.journal.specs.Journal.{IsNextBatch, JournalView, LeavesAdmitted, MayBegin, begins, still_open}
+use Rattle.journal.specs.declared.Next.{Next}
 use Rattle.journal.specs.declared.Next.TheVariants.{Idle, Descriptor}
 use Rattle.journal_segments.proofs.Batches.{sound_of}
 use Rattle.journal_segments.proofs.Written.{take_same}
@@ -210,9 +213,107 @@ module _ (device : Device) (blocks : ℕ) (superblock : List ℕ) (room after : 
             same = λ runs c left. told.same refl c left;
           };
       format_is = λ t runs. kept.format_is t refl;
+      epoch_is = λ t runs. kept.epoch_is t refl;
       formats = kept.formats;
     }
       where
         stands_at : {label : List ℕ} {bs more : List (List ℕ)} (c : List ℕ) → IsAdmitted Idle label bs more c → StandsFor c label bs
         stands_at c (inl stands) = stands
         stands_at c (inr commits) = let wrong = commits.0 in absurd (cc)
+
+-- ---- as those who use the journal see it
+
+module _ (D : Type 0) (device : D → Device) (disk : D) (blocks : ℕ) (superblock : List ℕ) (room after : List Staged) (filled m : ℕ)
+    (is_last last_now : Bool) (next : Next) (halted : Bool) (last : ℕ) (ns octets : List ℕ) where
+  abbrev view : List Staged → ℕ → Bool → Next → JournalView D
+  view segments at lasts next = record {
+    disk = disk;
+    label = part 20 128 superblock;
+    format = format_in superblock;
+    epoch = epoch_in superblock;
+    size = blocks;
+    segments = length segments;
+    blocks = blocks_without (staged_at segments at).place next (device disk).content;
+    next = next;
+    halted = halted;
+    held = map held_as (take at segments);
+    place = (staged_at segments at).place;
+    number = number_at 0 8 (staged_at segments at).descriptor;
+    last = number_at 8 8 (staged_at segments at).descriptor;
+    numbers = (staged_at segments at).numbers;
+    images = (staged_at segments at).images;
+    is_last = lasts;
+  }
+
+  abbrev old : JournalView D
+  old = view room filled is_last next
+
+  abbrev new : JournalView D
+  new = view after m last_now Descriptor
+
+  module _ (was : IsKept (device disk) blocks superblock next halted room filled is_last) (may : MayBegin old ns octets)
+      (m_is : m ≡ cond is_last 0 (filled + 1)) (size : length after ≡ length room)
+      (same : (t : ℕ) → t ≢ m → staged_at after t ≡ staged_at room t) (taken : IsTaken m (m + 1) last ns octets (staged_at after m))
+      (last_is : last_now ≡ eqb (m + 1) (length after)) where
+    kept : IsKept (device disk) blocks superblock Idle false room filled is_last
+    kept = subst (λ (n : Next). IsKept (device disk) blocks superblock n false room filled is_last) may.ready.1
+        (subst (λ (b : Bool). IsKept (device disk) blocks superblock next b room filled is_last) may.ready.0 was)
+
+    held : map held_as (take m after) ≡ still_open old
+    held = held_now (device disk) blocks superblock room after filled is_last kept m m_is size same
+
+    count : length (still_open old) ≡ m
+    count = length_now (device disk) blocks superblock room after filled is_last kept m m_is size same
+
+    its : IsKept (device disk) blocks superblock Descriptor false after m (eqb (m + 1) (length after))
+    its = begun (device disk) blocks superblock room after filled is_last kept m m_is size same last ns octets taken may.some may.few
+        may.below may.distinct may.images
+
+    pub begun_kept : IsKept (device disk) blocks superblock Descriptor halted after m last_now
+    begun_kept = subst (λ (b : Bool). IsKept (device disk) blocks superblock Descriptor halted after m b) (sym last_is)
+        (subst (λ (b : Bool). IsKept (device disk) blocks superblock Descriptor b after m (eqb (m + 1) (length after)))
+        (sym may.ready.0) its)
+
+    pub begun_as : new ≡ begins old last ns (blocks_from 0 (length ns) octets)
+    begun_as =
+        let content = (device disk).content in
+        let its_blocks : logical_blocks content ≡ blocks_without (staged_at room filled).place next content =
+        ap (λ (n : Next). blocks_without (staged_at room filled).place n content) (sym may.ready.1) in
+        let place = taken.place_is ∙ sym count in
+        let number = taken.number_is ∙ ap (λ (k : ℕ). k + 1) (sym count) in
+        let lasts = last_is ∙ ap (λ (k : ℕ). eqb (k + 1) (length after)) (sym count)
+        ∙ ap (λ (k : ℕ). eqb (length (still_open old) + 1) k) size in
+        λ i. record {
+          disk = disk;
+          label = part 20 128 superblock;
+          format = format_in superblock;
+          epoch = epoch_in superblock;
+          size = blocks;
+          segments = size i;
+          blocks = its_blocks i;
+          next = Descriptor;
+          halted = halted;
+          held = held i;
+          place = place i;
+          number = number i;
+          last = taken.last_is i;
+          numbers = taken.numbers_are i;
+          images = taken.images_are i;
+          is_last = lasts i;
+        }
+
+    pub begun_next : IsNextBatch new
+    begun_next = record {
+      lowest = λ s below. subst (λ (hs : List HeldBatch). IsAmong s hs) (sym held)
+          (lowest (device disk) blocks superblock room after filled is_last kept m m_is size same s
+          (subst (λ (p : ℕ). s < p) taken.place_is below));
+      closed = λ among. not_among (device disk) blocks superblock room after filled is_last kept m m_is size same
+          (subst (λ (p : ℕ). IsAmong p (still_open old)) taken.place_is
+          (subst (λ (hs : List HeldBatch). IsAmong (staged_at after m).place hs) held among));
+      greatest = subst (λ (hs : List HeldBatch). HaveLess (number_at 0 8 (staged_at after m).descriptor) hs) (sym held)
+          (greatest (device disk) blocks superblock room after filled is_last kept m m_is size same last ns octets taken may.some
+          may.few may.below may.distinct may.images);
+    }
+
+    pub begun_admits : LeavesAdmitted device new
+    begun_admits t image left = ((its.told t).admits image left, its.formats t image left)

@@ -1,27 +1,32 @@
 -- What each write leaves of the content.
-use Rattle.std.proofs.Common.{◌≡◌, inl, inr, ◌<◌, ◌≤◌, ℕ, ◌+◌, ◌*◌, true, false, eqb, List, [], ◌∷◌, length, get_or, take, drop, refl, sym}
+use Rattle.std.proofs.Common.{◌≡◌, inl, inr, ◌<◌, ◌≤◌, ℕ, ◌+◌, ◌*◌, Bool, true, false, List, [], ◌∷◌, length, get_or, take, drop, refl, sym}
 use Rattle.std.proofs.Common.{◌∙◌, ap, subst, arith}
-use Rattle.std.proofs.lemmas.Bool.{cases_eq}
+use Rattle.std.proofs.lemmas.Bool.{cases_eq, eq-eqb}
 use Rattle.std.proofs.lemmas.List.{drop_more, take_more}
 use Rattle.std.proofs.Math.Seq.{take-length}
 use Rattle.disk.specs.Image.{overwritten}
 use Rattle.model.specs.Volume.{StandsFor, all_laid_over, block, descriptor_place, gate_closed, gate_place, home, home_place, home_size}
-use Rattle.model.specs.Volume.{image_place, is_open, logical_blocks, segment_count}
-use Rattle.segment_laws.specs.Held.{AreOpen, HeldBatch, IsHomeOfHeld, IsHomeOnTheWay, batches_of}
-use Rattle.segment_laws.specs.Images.{IsInside, SameBut}
-use Rattle.segment_laws.proofs.Blocks.{block-overwritten, first-overwritten, overwritten_same, same_but_more, same_but_then}
-use Rattle.segment_laws.proofs.Carrying.{all_home, none_home, one_home}
-use Rattle.segment_laws.proofs.Gates.{carried_home, closed_open, held_kept}
-use Rattle.segment_laws.proofs.Standing.{full_open, unread_open}
-use Rattle.segment_laws.proofs.Writing.{home_of_held, torn_held_open}
+use Rattle.model.specs.Volume.{epoch_in, epoch_of, image_place, is_open, logical_blocks, segment_count}
+use Rattle.journal_laws.specs.Held.{AreOpen, HeldBatch, IsHomeOfHeld, IsHomeOnTheWay, batches_of}
+use Rattle.journal_laws.specs.Images.{IsCarried, IsInside, SameBut}
+use Rattle.journal_laws.proofs.Blocks.{block-overwritten, first-overwritten, overwritten_same, same_but_more, same_but_then}
+use Rattle.journal_laws.proofs.Carrying.{all_home, none_home, one_home}
+use Rattle.journal_laws.proofs.Gates.{carried_home, closed_open, held_kept}
+use Rattle.journal_laws.proofs.Standing.{full_open, gate_same, unread_open}
+use Rattle.journal_laws.proofs.Writing.{home_of_held, torn_held_open}
 use Rattle.journal_segments.specs.Staged.{IsSound}
-use Rattle.journal.specs.Flight.{Flight, all_of, held_at, none_held, sizes_of}
+use Rattle.journal.specs.Flight.{Flight, all_of, are_all, held_at, left_open, none_held, sizes_of}
 use Rattle.journal.specs.Inside.{Holds}
-use Rattle.journal.specs.Order.{following}
+use Rattle.journal.specs.Order.{Carried, following}
 use Rattle.journal.specs.declared.Next.{Next}
-use Rattle.journal.specs.declared.Next.TheVariants.{Image, Commit, Home, Settle, CloseGate, Finish}
-use Rattle.journal.proofs.Admitted.{is_shut, shut_same}
+use Rattle.journal.specs.declared.Next.TheVariants.{Image, Commit, Home, Settle, Close, Finish}
+use Rattle.journal.proofs.Admitted.{is_shut, shut_by, shut_same}
 use Rattle.journal.proofs.Flights.{after_home, after_image, length-sizes, size_at}
+
+-- what is open before the first write that closes
+left_first : (b : Bool) (held : List HeldBatch) → left_open b 0 held ≡ held
+left_first true held = refl
+left_first false held = refl
 
 module _ (f : Flight) (x label : List ℕ) (stands : StandsFor x label (logical_blocks x)) (there : f.batch.place < segment_count x) where
   abbrev m : ℕ
@@ -45,7 +50,8 @@ module _ (f : Flight) (x label : List ℕ) (stands : StandsFor x label (logical_
     put_in = block-overwritten k octets x whole fits_in
 
     shut_in : is_open m x ≡ false → is_open m y ≡ false
-    shut_in shut = ap (λ (b : List ℕ). eqb (get_or b 0 0) 1) (same_in.same (gate_place m) (λ e. absurd (omega (arith, e, inside.0)))) ∙ shut
+    shut_in shut = gate_same m x y (ap epoch_in (same_in.same 0 (λ e. absurd (omega (arith, e, inside.0)))))
+        (same_in.same (gate_place m) (λ e. absurd (omega (arith, e, inside.0)))) ∙ shut
 
     open_in : is_open m x ≡ false → AreOpen f.held x → AreOpen f.held y
     open_in shut are = unread_open x y label (logical_blocks x) m stands shut there
@@ -61,11 +67,11 @@ module _ (f : Flight) (x label : List ℕ) (stands : StandsFor x label (logical_
         λ k within. absurd (omega (arith, within)),
       )
 
-  pub holds_image : (n : ℕ) (sizes : List ℕ) (i : ℕ) → n ≡ length f.batch.images → i < n → n ≤ 512
+  pub holds_image : (n : ℕ) (carried : Carried) (i : ℕ) → n ≡ length f.batch.images → i < n → n ≤ 512
       → length (get_or f.batch.images i []) ≡ 4096 → Holds f (Image i) x
-      → Holds f (following n sizes (Image i)) (overwritten (4096 * image_place m i) (get_or f.batch.images i []) x)
-  holds_image n sizes i n_is within few whole holds =
-      after_image (λ s. Holds f s (overwritten (4096 * image_place m i) (get_or f.batch.images i []) x)) n sizes i
+      → Holds f (following n carried (Image i)) (overwritten (4096 * image_place m i) (get_or f.batch.images i []) x)
+  holds_image n carried i n_is within few whole holds =
+      after_image (λ s. Holds f s (overwritten (4096 * image_place m i) (get_or f.batch.images i []) x)) n carried i
       (λ e. (are, shut, record { descriptor_is = second; images_are = λ k low. images k (omega (arith, low, e, n_is)) }))
       (λ e. (are, shut, second, images))
     where
@@ -95,18 +101,20 @@ module _ (f : Flight) (x label : List ℕ) (stands : StandsFor x label (logical_
       ]
 
   -- the gate is opened
-  pub holds_opened : Holds f Next.OpenGate x → Holds f Commit (overwritten (4096 * gate_place m) (1 ∷ []) x)
-  holds_opened holds =
+  pub holds_opened : (epoch : ℕ) → epoch_of x ≡ epoch → Holds f Next.OpenGate x
+      → Holds f Commit (overwritten (4096 * gate_place m) (epoch ∷ []) x)
+  holds_opened epoch is holds =
       let fits : 4096 * gate_place m + 1 ≤ length x = omega (arith, size, there) in
-      let y = overwritten (4096 * gate_place m) (1 ∷ []) x in
-      let same : SameBut (λ k. k ≡ gate_place m) x y = overwritten_same (gate_place m) (1 ∷ []) x (omega arith) fits in
+      let y = overwritten (4096 * gate_place m) (epoch ∷ []) x in
+      let same : SameBut (λ k. k ≡ gate_place m) x y = overwritten_same (gate_place m) (epoch ∷ []) x (omega arith) fits in
+      let now : epoch_of y ≡ epoch = ap epoch_in (same.same 0 (λ e. absurd (omega (arith, e)))) ∙ is in
       let room : 4096 * gate_place m + 1 ≤ length y = omega (arith, fits, same.size) in
       let z = gate_closed m y in
       let back : SameBut (λ k. k ≡ gate_place m) y z = overwritten_same (gate_place m) (0 ∷ []) y (omega arith) room in
-      let shut : is_open m z ≡ false = ap (λ (n : ℕ). eqb n 1) (first-overwritten (gate_place m) 0 y room) in (
+      let shut : is_open m z ≡ false = shut_by m z (first-overwritten (gate_place m) 0 y room) in (
         held_kept x z label (logical_blocks x) m stands there (same_but_then (λ k. k ≡ gate_place m) x y z same back) (shut
             ∙ sym holds.1) f.held holds.0,
-        ap (λ (n : ℕ). eqb n 1) (first-overwritten (gate_place m) 1 x fits),
+        eq-eqb (get_or (block (gate_place m) y) 0 0) (epoch_of y) (first-overwritten (gate_place m) epoch x fits ∙ sym now),
         record {
           descriptor_is = same.same (descriptor_place m) (λ e. absurd (omega (arith, e))) ∙ holds.2.descriptor_is;
           images_are = λ k within. same.same (image_place m k) (λ e. absurd (omega (arith, e))) ∙ holds.2.images_are k within;
@@ -163,7 +171,7 @@ module _ (f : Flight) (x label : List ℕ) (stands : StandsFor x label (logical_
         (one_home first (take j (all_of f)) h.batch i x within (omega (arith, within, sound.images)) whole below
         (omega (arith, whole_size)) holds.1.1)
 
-    ended : i + 1 ≡ get_or (sizes_of f) j 0 → home z ≡ all_laid_over first (batches_of (take (j + 1) (all_of f)))
+    ended : i + 1 ≡ get_or (sizes_of f).counts j 0 → home z ≡ all_laid_over first (batches_of (take (j + 1) (all_of f)))
     ended e =
         all_home first (take j (all_of f)) h z sound.images (subst (λ (k : ℕ). IsHomeOnTheWay first (take j (all_of f)) h.batch k z) (e
         ∙ size_at f j last here) more)
@@ -184,16 +192,21 @@ module _ (f : Flight) (x label : List ℕ) (stands : StandsFor x label (logical_
         (λ e. (are, (first, more)))
 
   -- once all are home, they are carried
-  pub holds_settled : Holds f Settle x → Holds f (CloseGate 0) x
-  holds_settled holds = (holds.0, carried_home x holds.1.0 (full_open x) (holds.1.1 ∙ ap (all_laid_over holds.1.0) (sym holds.0.batches)))
+  pub holds_settled : Holds f Settle x → Holds f (Close 0) x
+  holds_settled holds = (
+    subst (λ (hs : List HeldBatch). AreOpen hs x) (sym (left_first (are_all f) (all_of f))) holds.0,
+    carried_home x holds.1.0 (full_open x) (holds.1.1 ∙ ap (all_laid_over holds.1.0) (sym holds.0.batches)),
+  )
 
   -- and the first gate is closed
-  pub holds_closed : (j : ℕ) → j < length (all_of f) → Holds f (CloseGate j) x
+  pub holds_closed : (j : ℕ) → are_all f ≡ false → j < length (all_of f) → AreOpen (drop j (all_of f)) x → IsCarried x
       → Holds f (Finish j) (overwritten (4096 * gate_place (held_at (all_of f) j).place) (0 ∷ []) x)
-  holds_closed j here holds =
+  holds_closed j each here are_open carried =
       let h = held_at (all_of f) j in
-      let are = subst (λ (hs : List HeldBatch). AreOpen hs x) (drop_more (all_of f) j none_held here) holds.0 in
+      let are = subst (λ (hs : List HeldBatch). AreOpen hs x) (drop_more (all_of f) j none_held here) are_open in
       let there = are.each.0.0.0 in
-      let closed = closed_open x (gate_closed h.place x) label (logical_blocks x) h (drop (j + 1) (all_of f)) stands are holds.1
-      (shut_same x label h.place stands there) (is_shut x label h.place stands there) in
-      (closed.1.1, closed.1.0)
+      let closed = closed_open x (gate_closed h.place x) label (logical_blocks x) h (drop (j + 1) (all_of f)) stands are carried
+      (shut_same x label h.place stands there) (is_shut x label h.place stands there) in (
+        subst (λ (b : Bool). AreOpen (left_open b (j + 1) (all_of f)) (gate_closed h.place x)) (sym each) closed.1.1,
+        closed.1.0,
+      )

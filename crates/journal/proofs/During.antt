@@ -4,15 +4,15 @@ use Rattle.std.proofs.Common.{IsTrue, List, [], ◌∷◌, ◌++◌, length, ref
 use Rattle.std.specs.List.{sum}
 use Rattle.std.proofs.lemmas.Bool.{cond_both}
 use Rattle.disk.specs.Device.{Device}
-use Rattle.journal.specs.Flight.{counts_of}
+use Rattle.journal.specs.Flight.{carried_of, none_carried}
 use Rattle.journal.specs.Inside.{IsVolume}
-use Rattle.journal.specs.Calls.{IsRetried, MakesCall, OnMade, OnRetried, blocks_after}
-use Rattle.journal.specs.Journal.{Admits, JournalView, IsCaused, IsDuring, IsSameBatch, LeavesAdmitted, all_held, calls, sizes, with_batch}
+use Rattle.journal.specs.Calls.{IsRetried, MakesCall, OnMade, OnRetried, blocks_after, written_by}
+use Rattle.journal.specs.Journal.{Admits, JournalView, IsCaused, IsDuring, IsSameBatch, LeavesAdmitted, calls, sizes, with_batch}
 use Rattle.journal.specs.Opening.{IsMore}
-use Rattle.journal.specs.Order.{all_calls, answer, at_fault, calls_made, following, is_sync, syncs_made, writes_made}
-use Rattle.model.specs.Volume.{StandsFor, descriptor_of}
+use Rattle.journal.specs.Order.{Carried, closings, all_calls, answer, at_fault, calls_made, following, is_sync, syncs_made, writes_made}
+use Rattle.model.specs.Volume.{StandsFor}
 use Rattle.journal.specs.declared.Next.{Next}
-use Rattle.journal.specs.declared.Next.TheVariants.{Idle, Descriptor, Image, Seal, OpenGate, Commit, Home, Settle, CloseGate, Finish}
+use Rattle.journal.specs.declared.Next.TheVariants.{Idle, Descriptor, Image, Seal, OpenGate, Commit, Home, Settle, Close, Finish}
 use Rattle.journal.specs.declared.Progress.{Progress}
 use Rattle.journal.specs.declared.Progress.TheVariants.{Working, Idle as Ended}
 use Rattle.journal.specs.declared.JournalError.{JournalError}
@@ -26,7 +26,7 @@ use Rattle.journal.proofs.Transitions.{only_left}
 abbrev pub IsCheckpoint : Next → Type 0
 IsCheckpoint (Home j i) = Unit {0}
 IsCheckpoint Settle = Unit {0}
-IsCheckpoint (CloseGate j) = Unit {0}
+IsCheckpoint (Close j) = Unit {0}
 IsCheckpoint (Finish j) = Unit {0}
 IsCheckpoint next = ⊥
 
@@ -39,55 +39,55 @@ not_commit OpenGate c = absurd c
 not_commit Commit c = absurd c
 not_commit (Home j i) c = λ e. cc
 not_commit Settle c = λ e. cc
-not_commit (CloseGate j) c = λ e. cc
+not_commit (Close j) c = λ e. cc
 not_commit (Finish j) c = λ e. cc
 
-following_not_commit : (n : ℕ) (sizes : List ℕ) (next : Next) → IsCheckpoint next → following n sizes next ≢ Commit
-following_not_commit n sizes Idle c = absurd c
-following_not_commit n sizes Descriptor c = absurd c
-following_not_commit n sizes (Image i) c = absurd c
-following_not_commit n sizes Seal c = absurd c
-following_not_commit n sizes OpenGate c = absurd c
-following_not_commit n sizes Commit c = absurd c
-following_not_commit n sizes (Home j i) c = after_home (λ g. g ≢ Commit) n sizes j i (λ e d. λ f. cc) (λ e d. λ f. cc) (λ e. λ f. cc)
-following_not_commit n sizes Settle c = λ e. cc
-following_not_commit n sizes (CloseGate j) c = λ e. cc
-following_not_commit n sizes (Finish j) c = after_gate (λ g. g ≢ Commit) n sizes j (λ e. λ f. cc) (λ e. λ f. cc)
+following_not_commit : (n : ℕ) (carried : Carried) (next : Next) → IsCheckpoint next → following n carried next ≢ Commit
+following_not_commit n carried Idle c = absurd c
+following_not_commit n carried Descriptor c = absurd c
+following_not_commit n carried (Image i) c = absurd c
+following_not_commit n carried Seal c = absurd c
+following_not_commit n carried OpenGate c = absurd c
+following_not_commit n carried Commit c = absurd c
+following_not_commit n carried (Home j i) c = after_home (λ g. g ≢ Commit) n carried j i (λ e d. λ f. cc) (λ e d. λ f. cc) (λ e. λ f. cc)
+following_not_commit n carried Settle c = λ e. cc
+following_not_commit n carried (Close j) c = λ e. cc
+following_not_commit n carried (Finish j) c = after_gate (λ g. g ≢ Commit) n carried j (λ e. λ f. cc) (λ e. λ f. cc)
 
-after_checkpoint : {D : Type 0} (journal : JournalView D) (last : ℕ) (sizes : List ℕ) (next : Next) → IsCheckpoint next
-    → blocks_after journal (answer last sizes next) ≡ journal.blocks
-after_checkpoint journal last sizes Idle c = absurd c
-after_checkpoint journal last sizes Descriptor c = absurd c
-after_checkpoint journal last sizes (Image i) c = absurd c
-after_checkpoint journal last sizes Seal c = absurd c
-after_checkpoint journal last sizes OpenGate c = absurd c
-after_checkpoint journal last sizes Commit c = absurd c
-after_checkpoint journal last sizes (Home j i) c = refl
-after_checkpoint journal last sizes Settle c = refl
-after_checkpoint journal last sizes (CloseGate j) c = refl
-after_checkpoint journal last sizes (Finish j) c =
-    cond_both (eqb (j + 1) (length sizes)) Ended Working (λ p. blocks_after journal p ≡ journal.blocks) (λ e. refl) (λ e. refl)
+after_checkpoint : {D : Type 0} (journal : JournalView D) (last : ℕ) (carried : Carried) (next : Next) → IsCheckpoint next
+    → blocks_after journal (answer last carried next) ≡ journal.blocks
+after_checkpoint journal last carried Idle c = absurd c
+after_checkpoint journal last carried Descriptor c = absurd c
+after_checkpoint journal last carried (Image i) c = absurd c
+after_checkpoint journal last carried Seal c = absurd c
+after_checkpoint journal last carried OpenGate c = absurd c
+after_checkpoint journal last carried Commit c = absurd c
+after_checkpoint journal last carried (Home j i) c = refl
+after_checkpoint journal last carried Settle c = refl
+after_checkpoint journal last carried (Close j) c = refl
+after_checkpoint journal last carried (Finish j) c =
+    cond_both (eqb (j + 1) (closings carried)) Ended Working (λ p. blocks_after journal p ≡ journal.blocks) (λ e. refl) (λ e. refl)
 
 -- each stays after the commit, also at a fault
-following_checkpoint : (n : ℕ) (sizes : List ℕ) (next : Next) → IsCheckpoint next
-    → (following n sizes next ≢ Commit) × (at_fault n sizes next ≢ Commit)
-following_checkpoint n sizes Idle c = absurd c
-following_checkpoint n sizes Descriptor c = absurd c
-following_checkpoint n sizes (Image i) c = absurd c
-following_checkpoint n sizes Seal c = absurd c
-following_checkpoint n sizes OpenGate c = absurd c
-following_checkpoint n sizes Commit c = absurd c
-following_checkpoint n sizes (Home j i) c = (following_not_commit n sizes (Home j i) c, following_not_commit n sizes (Home j i) c)
-following_checkpoint n sizes Settle c = (λ e. cc, λ e. cc)
-following_checkpoint n sizes (CloseGate j) c = (λ e. cc, λ e. cc)
-following_checkpoint n sizes (Finish j) c = (following_not_commit n sizes (Finish j) c, λ e. cc)
+following_checkpoint : (n : ℕ) (carried : Carried) (next : Next) → IsCheckpoint next
+    → (following n carried next ≢ Commit) × (at_fault n carried next ≢ Commit)
+following_checkpoint n carried Idle c = absurd c
+following_checkpoint n carried Descriptor c = absurd c
+following_checkpoint n carried (Image i) c = absurd c
+following_checkpoint n carried Seal c = absurd c
+following_checkpoint n carried OpenGate c = absurd c
+following_checkpoint n carried Commit c = absurd c
+following_checkpoint n carried (Home j i) c = (following_not_commit n carried (Home j i) c, following_not_commit n carried (Home j i) c)
+following_checkpoint n carried Settle c = (λ e. cc, λ e. cc)
+following_checkpoint n carried (Close j) c = (λ e. cc, λ e. cc)
+following_checkpoint n carried (Finish j) c = (following_not_commit n carried (Finish j) c, λ e. cc)
 
 -- where the loop of calls stands
 abbrev pub IsLeft : Next → Type 0
 IsLeft Idle = Unit {0}
 IsLeft (Home j i) = Unit {0}
 IsLeft Settle = Unit {0}
-IsLeft (CloseGate j) = Unit {0}
+IsLeft (Close j) = Unit {0}
 IsLeft (Finish j) = Unit {0}
 IsLeft next = ⊥
 
@@ -100,24 +100,24 @@ left_checkpoint OpenGate other l = absurd l
 left_checkpoint Commit other l = absurd l
 left_checkpoint (Home j i) other l = tt
 left_checkpoint Settle other l = tt
-left_checkpoint (CloseGate j) other l = tt
+left_checkpoint (Close j) other l = tt
 left_checkpoint (Finish j) other l = tt
 
-left_more : (n : ℕ) (sizes : List ℕ) (next : Next) → IsLeft next → IsLeft (following n sizes next)
-left_more n sizes Idle l = tt
-left_more n sizes Descriptor l = absurd l
-left_more n sizes (Image i) l = absurd l
-left_more n sizes Seal l = absurd l
-left_more n sizes OpenGate l = absurd l
-left_more n sizes Commit l = absurd l
-left_more n sizes (Home j i) l = after_home IsLeft n sizes j i (λ e d. tt) (λ e d. tt) (λ e. tt)
-left_more n sizes Settle l = tt
-left_more n sizes (CloseGate j) l = tt
-left_more n sizes (Finish j) l = after_gate IsLeft n sizes j (λ e. tt) (λ e. tt)
+left_more : (n : ℕ) (carried : Carried) (next : Next) → IsLeft next → IsLeft (following n carried next)
+left_more n carried Idle l = tt
+left_more n carried Descriptor l = absurd l
+left_more n carried (Image i) l = absurd l
+left_more n carried Seal l = absurd l
+left_more n carried OpenGate l = absurd l
+left_more n carried Commit l = absurd l
+left_more n carried (Home j i) l = after_home IsLeft n carried j i (λ e d. tt) (λ e d. tt) (λ e. tt)
+left_more n carried Settle l = tt
+left_more n carried (Close j) l = tt
+left_more n carried (Finish j) l = after_gate IsLeft n carried j (λ e. tt) (λ e. tt)
 
-fewer_left : (n : ℕ) (sizes : List ℕ) (next : Next) → next ≢ Idle → calls_made n sizes (following n sizes next) ≤ all_calls n sizes
-    → all_calls n sizes - calls_made n sizes (following n sizes next) < all_calls n sizes - calls_made n sizes next
-fewer_left n sizes next other bound = omega (arith, bound, one_more_call n sizes next other)
+fewer_left : (n : ℕ) (carried : Carried) (next : Next) → next ≢ Idle → calls_made n carried (following n carried next) ≤ all_calls n carried
+    → all_calls n carried - calls_made n carried (following n carried next) < all_calls n carried - calls_made n carried next
+fewer_left n carried next other bound = omega (arith, bound, one_more_call n carried next other)
 
 next_not_commit : {D : Type 0} (device : D → Device) (old new : JournalView D) (result : Result Progress JournalError)
     → IsCheckpoint old.next → MakesCall device old new result → new.next ≢ Commit
@@ -168,11 +168,11 @@ same_itself a = record {
 pub same_sizes : {D : Type 0} (old new : JournalView D) → IsSameBatch old new → sizes new ≡ sizes old
 same_sizes old new same =
     λ i. if same.is_last i
-    then counts_of (same.held i ++ record {
+    then carried_of (same.segments i) (same.held i ++ record {
       place = same.place i;
       batch = record { number = same.number i; last = same.last i; numbers = same.numbers i; images = same.images i };
     } ∷ [])
-    else []
+    else none_carried
 
 pub during_then : {D : Type 0} (device : D → Device) (old mid new : JournalView D) (result : Result Progress JournalError)
     → IsDuring device old mid → IsCheckpoint mid.next → MakesCall device mid new result → IsDuring device old new
@@ -220,45 +220,46 @@ during_start device old now = record {
 -- ---- how many calls were made
 
 -- after the commit n + 2 writes and 2 syncs were made
-enough_made : (n : ℕ) (sizes : List ℕ) (next : Next) → IsCheckpoint next → (n + 2 ≤ writes_made n sizes next) × (2 ≤ syncs_made sizes next)
-enough_made n sizes Idle c = absurd c
-enough_made n sizes Descriptor c = absurd c
-enough_made n sizes (Image i) c = absurd c
-enough_made n sizes Seal c = absurd c
-enough_made n sizes OpenGate c = absurd c
-enough_made n sizes Commit c = absurd c
-enough_made n sizes (Home j i) c = (omega arith, omega arith)
-enough_made n sizes Settle c = (omega arith, omega arith)
-enough_made n sizes (CloseGate j) c = (omega arith, omega arith)
-enough_made n sizes (Finish j) c = (omega arith, omega arith)
+enough_made : (n : ℕ) (carried : Carried) (next : Next) → IsCheckpoint next
+    → (n + 2 ≤ writes_made n carried next) × (2 ≤ syncs_made carried next)
+enough_made n carried Idle c = absurd c
+enough_made n carried Descriptor c = absurd c
+enough_made n carried (Image i) c = absurd c
+enough_made n carried Seal c = absurd c
+enough_made n carried OpenGate c = absurd c
+enough_made n carried Commit c = absurd c
+enough_made n carried (Home j i) c = (omega arith, omega arith)
+enough_made n carried Settle c = (omega arith, omega arith)
+enough_made n carried (Close j) c = (omega arith, omega arith)
+enough_made n carried (Finish j) c = (omega arith, omega arith)
 
-more_writes : (n : ℕ) (sizes : List ℕ) (w : ℕ) (next : Next) (old now new : Device) → next ≢ Idle → IsCheckpoint next
-    → Asks (is_sync next) now new → n + 2 + w ≡ writes_made n sizes (following n sizes next)
-    → ((v : ℕ) → n + 2 + v ≡ writes_made n sizes next → IsMore v old.writes now.writes) → IsMore w old.writes new.writes
-more_writes n sizes w next old now new flies checkpoint asks is so_far = go (is_sync next) asks (is ∙ one_more_write n sizes next flies)
+more_writes : (n : ℕ) (carried : Carried) (w : ℕ) (next : Next) (old now new : Device) → next ≢ Idle → IsCheckpoint next
+    → Asks (is_sync next) now new → n + 2 + w ≡ writes_made n carried (following n carried next)
+    → ((v : ℕ) → n + 2 + v ≡ writes_made n carried next → IsMore v old.writes now.writes) → IsMore w old.writes new.writes
+more_writes n carried w next old now new flies checkpoint asks is so_far = go (is_sync next) asks (is ∙ one_more_write n carried next flies)
   where
-    go : (b : Bool) → Asks b now new → n + 2 + w ≡ (if b then writes_made n sizes next else writes_made n sizes next + 1)
+    go : (b : Bool) → Asks b now new → n + 2 + w ≡ (if b then writes_made n carried next else writes_made n carried next + 1)
         → IsMore w old.writes new.writes
     go true asked is = same_count w old.writes now.writes new.writes (so_far w is) asked.writes
     go false asked is =
         let v = w - 1 in
-        let enough = (enough_made n sizes next checkpoint).0 in
-        let before : n + 2 + v ≡ writes_made n sizes next = omega (arith, is, enough) in
+        let enough = (enough_made n carried next checkpoint).0 in
+        let before : n + 2 + v ≡ writes_made n carried next = omega (arith, is, enough) in
         let sum : v + 1 ≡ w = omega (arith, is, enough) in
         subst (λ (m : ℕ). IsMore m old.writes new.writes) sum (one_count v old.writes now.writes new.writes (so_far v before) asked.writes)
 
-more_syncs : (n : ℕ) (sizes : List ℕ) (s : ℕ) (next : Next) (old now new : Device) → next ≢ Idle → IsCheckpoint next
-    → Asks (is_sync next) now new → 2 + s ≡ syncs_made sizes (following n sizes next)
-    → ((r : ℕ) → 2 + r ≡ syncs_made sizes next → IsMore r old.syncs now.syncs) → IsMore s old.syncs new.syncs
-more_syncs n sizes s next old now new flies checkpoint asks is so_far = go (is_sync next) asks (is ∙ one_more_sync n sizes next flies)
+more_syncs : (n : ℕ) (carried : Carried) (s : ℕ) (next : Next) (old now new : Device) → next ≢ Idle → IsCheckpoint next
+    → Asks (is_sync next) now new → 2 + s ≡ syncs_made carried (following n carried next)
+    → ((r : ℕ) → 2 + r ≡ syncs_made carried next → IsMore r old.syncs now.syncs) → IsMore s old.syncs new.syncs
+more_syncs n carried s next old now new flies checkpoint asks is so_far = go (is_sync next) asks (is ∙ one_more_sync n carried next flies)
   where
-    go : (b : Bool) → Asks b now new → 2 + s ≡ (if b then syncs_made sizes next + 1 else syncs_made sizes next)
+    go : (b : Bool) → Asks b now new → 2 + s ≡ (if b then syncs_made carried next + 1 else syncs_made carried next)
         → IsMore s old.syncs new.syncs
     go false asked is = same_count s old.syncs now.syncs new.syncs (so_far s is) asked.syncs
     go true asked is =
         let r = s - 1 in
-        let enough = (enough_made n sizes next checkpoint).1 in
-        let before : 2 + r ≡ syncs_made sizes next = omega (arith, is, enough) in
+        let enough = (enough_made n carried next checkpoint).1 in
+        let before : 2 + r ≡ syncs_made carried next = omega (arith, is, enough) in
         let sum : r + 1 ≡ s = omega (arith, is, enough) in
         subst (λ (m : ℕ). IsMore m old.syncs new.syncs) sum (one_count r old.syncs now.syncs new.syncs (so_far r before) asked.syncs)
 
@@ -318,22 +319,21 @@ module _ {D : Type 0} (device : D → Device) (old now new : JournalView D) (so_
       → IsMore w (device old.disk).writes (device new.disk).writes)
       × ((s : ℕ) → 2 + s ≡ syncs_made (sizes new) new.next → IsMore s (device old.disk).syncs (device new.disk).syncs)
   counted p call =
-      let asks = asks_by Progress JournalError now.next now.segments (all_held now) now.place
-      (descriptor_of now.number now.last now.numbers) now.images p (device now.disk) (device new.disk) call.does flies in
+      let asks = asks_by true true now.next (written_by now) tt (device now.disk) (device new.disk) call.does flies in
       let n = length now.numbers in
       let size : length new.numbers ≡ n = ap length call.same.numbers in
       let same = same_sizes now new call.same in (
         λ w is.
             let w_is : n + 2 + w ≡ writes_made n (sizes now) (following n (sizes now) now.next) =
             subst (λ (g : Next). n + 2 + w ≡ writes_made n (sizes now) g) call.next.0
-            (subst (λ (l : List ℕ). n + 2 + w ≡ writes_made n l new.next) same
+            (subst (λ (l : Carried). n + 2 + w ≡ writes_made n l new.next) same
             (subst (λ (k : ℕ). k + 2 + w ≡ writes_made k (sizes new) new.next) size is)) in
             more_writes n (sizes now) w now.next (device old.disk) (device now.disk)
             (device new.disk) flies checkpoint asks w_is so_far.writes,
         λ s is.
             let s_is : 2 + s ≡ syncs_made (sizes now) (following n (sizes now) now.next) =
             subst (λ (g : Next). 2 + s ≡ syncs_made (sizes now) g) call.next.0
-            (subst (λ (l : List ℕ). 2 + s ≡ syncs_made l new.next) same is) in
+            (subst (λ (l : Carried). 2 + s ≡ syncs_made l new.next) same is) in
             more_syncs n (sizes now) s now.next (device old.disk) (device now.disk)
             (device new.disk) flies checkpoint asks s_is so_far.syncs,
       )
@@ -395,14 +395,17 @@ at_first_home device journal is running now =
     ∙ omega arith) (ap (syncs_made all) is) running now
 
 -- and after the last
-pub all_made : {D : Type 0} (device : D → Device) (old now : JournalView D) → IsOnTheWay device old now → 0 < length (sizes old)
+pub all_made : {D : Type 0} (device : D → Device) (old now : JournalView D) → IsOnTheWay device old now → 0 < length (sizes old).counts
     → now.next ≡ Idle
-    → IsMore (sum (sizes old) + length (sizes old)) (device old.disk).writes (device now.disk).writes
-    × IsMore (1 + length (sizes old)) (device old.disk).syncs (device now.disk).syncs
+    → IsMore (sum (sizes old).counts + closings (sizes old)) (device old.disk).writes (device now.disk).writes
+    × IsMore (1 + closings (sizes old)) (device old.disk).syncs (device now.disk).syncs
 all_made device old now way some is =
     let same = same_sizes old now way.during.same in
-    let n = length now.numbers in (
-      way.writes (sum (sizes old) + length (sizes old)) (omega (arith, ap (writes_made n (sizes now)) is, ap sum same, ap length same)),
-      way.syncs (1 + length (sizes old))
-          (omega (arith, ap (syncs_made (sizes now)) is, ap length same, syncs_where (sizes now) (omega (arith, some, ap length same)))),
+    let n = length now.numbers in
+    let closes : closings (sizes now) ≡ closings (sizes old) = ap closings same in
+    let counts : sum (sizes now).counts ≡ sum (sizes old).counts = ap (λ (c : Carried). sum c.counts) same in
+    let many : length (sizes now).counts ≡ length (sizes old).counts = ap (λ (c : Carried). length c.counts) same in (
+      way.writes (sum (sizes old).counts + closings (sizes old)) (omega (arith, ap (writes_made n (sizes now)) is, counts, closes)),
+      way.syncs (1 + closings (sizes old))
+          (omega (arith, ap (syncs_made (sizes now)) is, closes, syncs_where (sizes now) (omega (arith, some, many)))),
     )

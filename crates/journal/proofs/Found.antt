@@ -9,26 +9,29 @@ use Rattle.std.proofs.lemmas.List.Sums.{sum_by-cons}
 use Rattle.std.proofs.Math.Nat.{mod-add-mod}
 use Rattle.disk.specs.Device.{Device, Elapses, LeavesOnly}
 use Rattle.disk.specs.Image.{part}
-use Rattle.segment_laws.specs.Held.{AreOpen, AreRising, HeldBatch, IsAmong, held_at as held_in_places, held_in, sorted_held}
-use Rattle.segment_laws.specs.Images.{IsOpenIn}
-use Rattle.segment_laws.proofs.Judging.{length-sorted, stands_rising, writes_of, writes_sorted}
-use Rattle.segment_laws.proofs.Sorting.{all_found, found_open}
+use Rattle.journal_laws.specs.Held.{AreOpen, AreRising, HeldBatch, IsAmong, held_at as held_in_places, held_in, sorted_held}
+use Rattle.journal_laws.specs.Images.{IsOpenIn}
+use Rattle.journal_laws.proofs.Judging.{length-sorted, stands_rising, writes_of, writes_sorted}
+use Rattle.journal_laws.proofs.Sorting.{all_found, found_open}
 use Rattle.journal_segments.specs.Staged.{IsStaged, Staged, held_as, none_staged, staged_at}
-use Rattle.journal.specs.Flight.{Flight, all_of, counts_of, flight_in, sizes_of}
+use Rattle.journal.specs.Flight.{Flight, all_of, are_all, counts_of, flight_in, sizes_of}
+use Rattle.journal.specs.Order.{closings}
 use Rattle.journal_segments.specs.Found.{IsQuiet, IsStill}
 use Rattle.journal.specs.Inside.{IsFound, IsKept, IsSynced, IsVolume, LeftAs, Touched}
 use Rattle.journal_segments.specs.Found.{IsNoVolume}
-use Rattle.journal.specs.Opening.{AreSameVolume, Costs, IsMore, LeavesVolume, home_syncs, home_writes, LeftKept, Opens, Refuses, SyncsFirst}
+use Rattle.journal.specs.Opening.{AreSameVolume, Costs, IsMore, LeavesVolume, LeftKept, Opens, Refuses, SyncsFirst, closing_writes}
+use Rattle.journal.specs.Opening.{home_syncs, home_writes, images_in}
 use Rattle.journal.specs.Journal.{AreWhole, HasWholeBlocks, IsCaused, IsDuring, IsReady, JournalView, LeavesAdmitted, all_held as held_with}
 use Rattle.journal.specs.Journal.{still_open}
 use Rattle.journal.specs.declared.JournalError.{JournalError}
 use Rattle.journal.specs.declared.JournalError.TheVariants.{Fault, Memory, NotAVolume, Halted}
-use Rattle.model.specs.Volume.{batch_in, block, descriptor_place, format_in, format_number, home_place, home_size, label_of, number_at}
+use Rattle.model.specs.Volume.{batch_in, block, descriptor_place, epoch_in, format_in, format_number, home_place, home_size, label_of}
+use Rattle.model.specs.Volume.{number_at}
 use Rattle.model.specs.Volume.{is_open, open_segments, segment_count, IsSuperblock, IsDescriptor, StandsFor, logical_blocks}
 use Rattle.journal.specs.declared.Next.TheVariants.{Idle, Home}
-use Rattle.segment_laws.proofs.Blocks.{same_but_equal}
+use Rattle.journal_laws.proofs.Blocks.{same_but_equal}
 use Rattle.journal.proofs.Transitions.{told_after}
-use Rattle.journal.proofs.Flights.{length-all, sizes_some}
+use Rattle.journal.proofs.Flights.{closings_by, length-all, sizes_some}
 use Rattle.journal.proofs.Contents.{holds_first}
 use Rattle.std.proofs.lemmas.Bool.{true≢false}
 
@@ -57,25 +60,29 @@ among_staged P s [] each among = absurd among
 among_staged P s (o ∷ os) each (inl is) = subst P (sym is) (each 0 (omega arith))
 among_staged P s (o ∷ os) each (inr rest) = among_staged P s os (λ k within. each (suc k) (omega (arith, within))) rest
 
--- the writes that carry some home
-writes_at : (x ss : List ℕ) → home_writes x ss ≡ writes_of (held_in_places x ss)
-writes_at x [] = refl
-writes_at x (s ∷ ss) =
+-- the images of some, and what carries them home
+images_at : (x ss : List ℕ) → images_in x ss + length ss ≡ writes_of (held_in_places x ss)
+images_at x [] = refl
+images_at x (s ∷ ss) =
     let d = block (descriptor_place s) x in
     omega (
       arith,
-      writes_at x ss,
+      images_at x ss,
       length-map (range_with_len 0 (number_at 16 4 d)) (λ i. number_at (24 + 4 * i) 4 d),
       length-range_with_len 0 (number_at 16 4 d),
     )
 
-writes_counted : (held : List HeldBatch) → writes_of held ≡ sum (counts_of held) + length (counts_of held)
-writes_counted [] = refl
-writes_counted (h ∷ held) = omega (arith, writes_counted held, sum_by-cons (λ n. n) (length h.batch.numbers) (counts_of held))
+images_counted : (held : List HeldBatch) → writes_of held ≡ sum (counts_of held) + length held
+images_counted [] = refl
+images_counted (h ∷ held) = omega (arith, images_counted held, sum_by-cons (λ n. n) (length h.batch.numbers) (counts_of held))
 
-some_syncs : (ss : List ℕ) → 0 < length ss → home_syncs ss ≡ 1 + length ss
-some_syncs [] some = absurd (omega (arith, some))
-some_syncs (s ∷ ss) some = omega arith
+some_writes : (x ss : List ℕ) → 0 < length ss → home_writes x ss ≡ images_in x ss + closing_writes (segment_count x) (length ss)
+some_writes x [] some = absurd (omega (arith, some))
+some_writes x (s ∷ ss) some = refl
+
+some_syncs : (x ss : List ℕ) → 0 < length ss → home_syncs x ss ≡ 1 + closing_writes (segment_count x) (length ss)
+some_syncs x [] some = absurd (omega (arith, some))
+some_syncs x (s ∷ ss) some = refl
 
 no_places : (ss : List ℕ) → length ss ≡ 0 → ss ≡ []
 no_places [] none = refl
@@ -161,10 +168,15 @@ module _ (device : Device) (superblock : List ℕ) (blocks : ℕ) (room : List S
           length-take-le n room within,
         )
 
-    writes_open : IsTrue device.tells → home_writes x (open_segments x) ≡ sum (counts_of held) + length (counts_of held)
-    writes_open t =
-        writes_at x (open_segments x) ∙ sym (writes_sorted (held_in_places x (open_segments x))) ∙ ap writes_of (sym (held_is t))
-        ∙ writes_counted held
+    images_open : IsTrue device.tells → images_in x (open_segments x) ≡ sum (counts_of held)
+    images_open t = omega (
+      arith,
+      images_at x (open_segments x) ∙ sym (writes_sorted (held_in_places x (open_segments x))) ∙ ap writes_of (sym (held_is t))
+          ∙ images_counted held,
+      length_open t,
+      length-map (take n room) held_as,
+      length-take-le n room within,
+    )
 
   -- with all segments closed
   module _ (found : IsFound device superblock blocks room 0) where
@@ -205,6 +217,7 @@ module _ (device : Device) (superblock : List ℕ) (blocks : ℕ) (room : List S
         same = λ runs c left. same_but_equal (Touched f Idle) x c (found.synced t c left);
       };
       format_is = λ t runs. rest_format t;
+      epoch_is = λ t runs. ap epoch_in (sym (found.superblock_is t));
       formats = λ t c left. omega (arith, ap format_number (found.synced t c left), rest_format t);
     }
 
@@ -222,24 +235,41 @@ module _ (device : Device) (superblock : List ℕ) (blocks : ℕ) (room : List S
     staged : (t : ℕ) → t ≤ filled → IsStaged blocks (staged_at room t)
     staged t low = (found.found.each t (omega (arith, is, low))).read.staged
 
-    length_sizes : length (sizes_of flight) ≡ n
-    length_sizes = omega (arith, length-map (all_of flight) (λ h. length h.batch.numbers), length-all room filled true there, is)
+    length_flight : length (all_of flight) ≡ n
+    length_flight = omega (arith, length-all room filled true there, is)
 
-    pub replay_some : (0 < length (sizes_of flight)) × (0 < get_or (sizes_of flight) 0 0)
+    length_sizes : length (sizes_of flight).counts ≡ n
+    length_sizes = omega (arith, length-map (all_of flight) (λ h. length h.batch.numbers), length_flight)
+
+    pub replay_some : (0 < length (sizes_of flight).counts) × (0 < get_or (sizes_of flight).counts 0 0)
     replay_some =
-        let first : 0 < length (sizes_of flight) = omega (arith, length_sizes, is) in
+        let first : 0 < length (sizes_of flight).counts = omega (arith, length_sizes, is) in
         (first, sizes_some room filled true there blocks staged 0 first)
 
-    pub replay_writes : IsTrue device.tells → home_writes x (open_segments x) ≡ sum (sizes_of flight) + length (sizes_of flight)
-    replay_writes t = writes_open n found t ∙ ap (λ (hs : List HeldBatch). sum (counts_of hs) + length (counts_of hs)) all_are
+    -- they are closed as the opening says
+    closed_by : IsTrue device.tells → closing_writes (segment_count x) (length (open_segments x)) ≡ closings (sizes_of flight)
+    closed_by t =
+        let many : length (open_segments x) ≡ length (all_of flight) = length_open n found t ∙ sym length_flight in
+        let as_one : closing_writes (segment_count x) (length (open_segments x)) ≡ cond (are_all flight) 1 (length (all_of flight)) =
+        ap (λ (k : ℕ). closing_writes k (length (open_segments x))) (content_count n found t)
+        ∙ ap (λ (k : ℕ). closing_writes (length room) k) many in
+        closings_by (λ k. closing_writes (segment_count x) (length (open_segments x)) ≡ k) (sizes_of flight) replay_some.0
+        (λ all. as_one ∙ ap (λ (b : Bool). cond b 1 (length (all_of flight))) all)
+        (λ each. as_one ∙ ap (λ (b : Bool). cond b 1 (length (all_of flight))) each
+        ∙ sym (length-map (all_of flight) (λ h. length h.batch.numbers)))
 
-    pub replay_syncs : IsTrue device.tells → home_syncs (open_segments x) ≡ 1 + length (sizes_of flight)
-    replay_syncs t = omega (
-      arith,
-      some_syncs (open_segments x) (omega (arith, length_open n found t, is)),
-      length_open n found t,
-      length_sizes,
-    )
+    open_some : IsTrue device.tells → 0 < length (open_segments x)
+    open_some t = omega (arith, length_open n found t, is)
+
+    pub replay_writes : IsTrue device.tells
+        → home_writes x (open_segments x) ≡ sum (sizes_of flight).counts + closings (sizes_of flight)
+    replay_writes t =
+        let images : images_in x (open_segments x) ≡ sum (sizes_of flight).counts =
+        images_open n found t ∙ ap (λ (hs : List HeldBatch). sum (counts_of hs)) all_are in
+        omega (arith, some_writes x (open_segments x) (open_some t), images, closed_by t)
+
+    pub replay_syncs : IsTrue device.tells → home_syncs x (open_segments x) ≡ 1 + closings (sizes_of flight)
+    replay_syncs t = omega (arith, some_syncs x (open_segments x) (open_some t), closed_by t)
 
     pub replay_stands : IsTrue device.tells → StandsFor x (part 20 128 superblock) (logical_blocks x)
     replay_stands = found_stands n found
@@ -276,6 +306,7 @@ module _ (device : Device) (superblock : List ℕ) (blocks : ℕ) (room : List S
           (λ c left. same_but_equal (Touched flight (Home 0 0)) x c (found.synced t c left)) (now t)
           (λ runs. holds_first flight x (part 20 128 superblock) (replay_stands t) (content_count n found t) (all_held t));
       format_is = λ t runs. replay_format t;
+      epoch_is = λ t runs. ap epoch_in (sym (found.superblock_is t));
       formats = λ t c left. omega (arith, ap format_number (found.synced t c left), replay_format t);
     }
 
@@ -451,7 +482,7 @@ module _ {D : Type 0} (device : D → Device) (first synced : D) (quiet : IsQuie
   costs_synced last costs t =
       let same = still.content t in
       let cost = subst (λ (x : List ℕ). Costs 0 x (device synced) (device last)) same (costs (synced_tells t)) in
-      let n = home_syncs (open_segments (device first).content) in
+      let n = home_syncs (device first).content (open_segments (device first).content) in
       record {
         writes = subst (λ (w : ℕ). IsMore (home_writes (device first).content (open_segments (device first).content)) w
             (device last).writes) quiet.writes cost.writes;
@@ -469,7 +500,7 @@ costs_none old new quiet still none t =
       writes = ap (λ (w : ℕ). w % 2 ^ 64) (quiet.writes
           ∙ sym (ap (λ (ss : List ℕ). old.writes + home_writes old.content ss) segments ∙ plus-zero old.writes));
       syncs = ap (λ (s : ℕ). s % 2 ^ 64) (still.syncs
-          ∙ sym (ap (λ (ss : List ℕ). old.syncs + (0 + home_syncs ss)) segments ∙ plus-zero old.syncs));
+          ∙ sym (ap (λ (ss : List ℕ). old.syncs + (0 + home_syncs old.content ss)) segments ∙ plus-zero old.syncs));
     }
   where
     plus-zero : (n : ℕ) → n + 0 ≡ n
@@ -478,18 +509,19 @@ costs_none old new quiet still none t =
 -- and one that was carried home after them
 pub costs_replayed : (old mid new : Device) (n k : ℕ) → IsQuiet old mid → IsStill old mid
     → (IsTrue mid.tells → home_writes mid.content (open_segments mid.content) ≡ n)
-    → (IsTrue mid.tells → home_syncs (open_segments mid.content) ≡ k) → IsMore n mid.writes new.writes → IsMore k mid.syncs new.syncs
+    → (IsTrue mid.tells → home_syncs mid.content (open_segments mid.content) ≡ k) → IsMore n mid.writes new.writes
+    → IsMore k mid.syncs new.syncs
     → IsTrue old.tells → Costs 0 old.content old new
 costs_replayed old mid new n k quiet still writes syncs more_writes more_syncs t =
     let here = subst (λ (b : Bool). IsTrue b) (sym quiet.tells) t in
     let all : home_writes old.content (open_segments old.content) ≡ n =
     subst (λ (x : List ℕ). home_writes x (open_segments x) ≡ n) (still.content t) (writes here) in
-    let both : home_syncs (open_segments old.content) ≡ k =
-    subst (λ (x : List ℕ). home_syncs (open_segments x) ≡ k) (still.content t) (syncs here) in
+    let both : home_syncs old.content (open_segments old.content) ≡ k =
+    subst (λ (x : List ℕ). home_syncs x (open_segments x) ≡ k) (still.content t) (syncs here) in
     record {
       writes = more_writes ∙ ap (λ (w : ℕ). (w + n) % 2 ^ 64) quiet.writes ∙ ap (λ (p : ℕ). (old.writes + p) % 2 ^ 64) (sym all);
       syncs = more_syncs ∙ ap (λ (s : ℕ). (s + k) % 2 ^ 64) still.syncs
-          ∙ ap (λ (p : ℕ). p % 2 ^ 64) (let e : old.syncs + k ≡ old.syncs + (0 + home_syncs (open_segments old.content)) =
+          ∙ ap (λ (p : ℕ). p % 2 ^ 64) (let e : old.syncs + k ≡ old.syncs + (0 + home_syncs old.content (open_segments old.content)) =
           omega (arith, both) in e);
     }
 

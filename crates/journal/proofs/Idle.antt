@@ -5,8 +5,8 @@ use Rattle.std.proofs.Common.{ap, subst, arith}
 use Rattle.std.proofs.lemmas.List.{drop-drop, drop-take, map_more, take-take}
 use Rattle.disk.specs.Image.{part}
 use Rattle.disk.specs.Device.{Device}
-use Rattle.segment_laws.specs.Held.{AreOpen, batches_of}
-use Rattle.segment_laws.proofs.Standing.{get_or-home, length-home}
+use Rattle.journal_laws.specs.Held.{AreOpen, batches_of}
+use Rattle.journal_laws.proofs.Standing.{get_or-home, length-home}
 use Rattle.journal_segments.specs.Staged.{Staged, held_as, none_staged}
 use Rattle.journal.specs.Flight.{Flight, flight_in, left_of}
 use Rattle.journal.specs.Inside.{IsAdmitted, IsTold, Holds, blocks_without}

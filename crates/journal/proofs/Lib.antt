@@ -1,6 +1,7 @@
 pub mod Admitted
 pub mod Begins
 pub mod Calls
+pub mod Closing
 pub mod Contents
 pub mod Counting
 pub mod During

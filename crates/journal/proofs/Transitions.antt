@@ -1,35 +1,39 @@
 -- How each device call takes a journal from one call to the next.
-use Rattle.std.proofs.Common.{◌≡◌, ◌≢◌, ◌⊎◌, inl, inr, ◌<◌, ◌≤◌, ℕ, ◌*◌, Bool, true, false, List, [], ◌∷◌, refl, sym, ◌∙◌, ap, subst, arith}
+use Rattle.std.proofs.Common.{◌≡◌, ◌≢◌, ◌⊎◌, inl, inr, ◌<◌, ◌≤◌, ℕ, ◌*◌, Bool, true, false, List, [], ◌∷◌, length, refl, sym, ◌∙◌, ap}
+use Rattle.std.proofs.Common.{subst, arith}
 use Rattle.disk.specs.Device.{Device, IsTornImage, LeavesOnly}
-use Rattle.segment_laws.specs.Held.{HeldBatch, IsHomeOfHeld}
-use Rattle.segment_laws.specs.Images.{SameBut}
+use Rattle.journal_laws.specs.Held.{HeldBatch, IsHomeOfHeld}
+use Rattle.journal_laws.specs.Images.{SameBut}
 use Rattle.journal_segments.specs.Staged.{IsStaged}
-use Rattle.journal.specs.Flight.{Flight, all_of}
+use Rattle.journal.specs.Flight.{Flight, all_of, closing_block, held_at}
 use Rattle.journal.specs.Inside.{Holds, Touched, IsAdmitted, IsTold, blocks_without}
-use Rattle.model.specs.Volume.{home_size, number_at, laid_over, logical_blocks, segment_count, StandsFor}
+use Rattle.model.specs.Volume.{gate_place, home_size, number_at, laid_over, logical_blocks, segment_count, StandsFor}
 use Rattle.journal.specs.declared.Next.{Next}
-use Rattle.journal.specs.declared.Next.TheVariants.{Idle, Descriptor, Image, Seal, OpenGate, Commit, Home, Settle, CloseGate, Finish}
+use Rattle.journal.specs.declared.Next.TheVariants.{Idle, Descriptor, Image, Seal, OpenGate, Commit, Home, Settle, Close, Finish}
 use Rattle.journal.proofs.Admitted.{Bears, images_stand, shut_alike}
-use Rattle.segment_laws.proofs.Blocks.{torn_same, same_but_more, same_but_then, same_but_back, same_but_equal}
+use Rattle.journal_laws.proofs.Whole.{stands_length}
+use Rattle.journal_laws.proofs.Blocks.{torn_same, same_but_more, same_but_then, same_but_back, same_but_equal}
 use Rattle.std.proofs.lemmas.Bool.{true≢false}
 
--- the superblock isn't touched
+-- the superblock isn't touched, but where the epoch is written
 no_home : (segments : ℕ) (held : List HeldBatch) → IsHomeOfHeld segments held 0 → ⊥
 no_home segments [] e = e
 no_home segments (h ∷ held) (inl e) = absurd (omega (arith, e.2))
 no_home segments (h ∷ held) (inr e) = no_home segments held e
 
-pub untouched_zero : (f : Flight) (next : Next) → Touched f next 0 → ⊥
-untouched_zero f Idle e = e
-untouched_zero f Descriptor e = e
-untouched_zero f (Image i) e = absurd (omega (arith, e.0))
-untouched_zero f Seal e = absurd (omega (arith, e.0))
-untouched_zero f OpenGate e = e
-untouched_zero f Commit e = absurd (omega (arith, e))
-untouched_zero f (Home j i) e = no_home f.segments (all_of f) e
-untouched_zero f Settle e = no_home f.segments (all_of f) e
-untouched_zero f (CloseGate j) e = e
-untouched_zero f (Finish j) e = absurd (omega (arith, e))
+pub untouched_zero : (f : Flight) (next : Next) (x : List ℕ) → Bears f next x → Touched f next 0 → ⊥
+untouched_zero f Idle x bears e = e
+untouched_zero f Descriptor x bears e = e
+untouched_zero f (Image i) x bears e = absurd (omega (arith, e.0))
+untouched_zero f Seal x bears e = absurd (omega (arith, e.0))
+untouched_zero f OpenGate x bears e = e
+untouched_zero f Commit x bears e = absurd (omega (arith, e))
+untouched_zero f (Home j i) x bears e = no_home f.segments (all_of f) e
+untouched_zero f Settle x bears e = no_home f.segments (all_of f) e
+untouched_zero f (Close j) x bears e = e
+untouched_zero f (Finish j) x bears e =
+    let gate : 0 ≡ gate_place (held_at (all_of f) j).place = e ∙ ap (λ (b : Bool). closing_block b j (all_of f)) bears.0 in
+    absurd (omega (arith, gate))
 
 -- an image that is admitted stands for what it holds
 pub stands_itself : (next : Next) (label : List ℕ) (blocks after : List (List ℕ)) (c : List ℕ) → IsAdmitted next label blocks after c
@@ -52,7 +56,7 @@ is_commit OpenGate = inr (λ e. cc)
 is_commit Commit = inl refl
 is_commit (Home j i) = inr (λ e. cc)
 is_commit Settle = inr (λ e. cc)
-is_commit (CloseGate j) = inr (λ e. cc)
+is_commit (Close j) = inr (λ e. cc)
 is_commit (Finish j) = inr (λ e. cc)
 
 without_at : (m : ℕ) (next : Next) (x : List ℕ) → next ≢ Commit → logical_blocks x ≡ blocks_without m next x
@@ -64,7 +68,7 @@ without_at m OpenGate x other = refl
 without_at m Commit x other = absurd (other refl)
 without_at m (Home j i) x other = refl
 without_at m Settle x other = refl
-without_at m (CloseGate j) x other = refl
+without_at m (Close j) x other = refl
 without_at m (Finish j) x other = refl
 
 -- an image that differs in what is touched has the same blocks without the batch, where it is admitted
@@ -78,6 +82,27 @@ without_alike f next x y label after stands there same admitted = elim (is_commi
   | inr other ↦
       sym (without_at f.batch.place next y other)
       ∙ (only_left next label (blocks_without f.batch.place next x) after y other admitted).has_blocks
+]
+
+-- images of one length that stand for the same blocks have the same sizes
+pub sizes_same : (x y label : List ℕ) (bs : List (List ℕ)) → StandsFor x label bs → StandsFor y label bs → length y ≡ length x
+    → (home_size y ≡ home_size x) × (segment_count y ≡ segment_count x)
+sizes_same x y label bs stands now size =
+    let home : home_size y ≡ home_size x = sym (stands_length y label bs now) ∙ stands_length x label bs stands in
+    (home, omega (arith, now.has_superblock.exactly, stands.has_superblock.exactly, size, home))
+
+pub sizes_alike : (f : Flight) (next : Next) (x y label : List ℕ) (after : List (List ℕ)) → StandsFor x label (logical_blocks x)
+    → SameBut (Touched f next) x y → IsAdmitted next label (blocks_without f.batch.place next x) after y
+    → (home_size y ≡ home_size x) × (segment_count y ≡ segment_count x)
+sizes_alike f next x y label after stands same admitted = elim (is_commit next) [
+  | inl commits ↦
+      let here : SameBut (Touched f Commit) x y = subst (λ (n : Next). SameBut (Touched f n) x y) commits same in
+      let zeroth = here.same 0 (λ e. absurd (omega (arith, e))) in
+      (ap (number_at 12 4) zeroth, ap (number_at 16 4) zeroth)
+  | inr other ↦
+      sizes_same x y label (logical_blocks x) stands
+      (subst (λ (bs : List (List ℕ)). StandsFor y label bs) (sym (without_at f.batch.place next x other))
+      (only_left next label (blocks_without f.batch.place next x) after y other admitted)) same.size
 ]
 
 module _ (f : Flight) (x label : List ℕ) (stands : StandsFor x label (logical_blocks x)) (there : f.batch.place < segment_count x)
@@ -108,12 +133,13 @@ module _ (f : Flight) (x label : List ℕ) (stands : StandsFor x label (logical_
   told_after device blocks next halted size_is bears same now holds =
       let y = device.content in
       let same_now = same y now in
-      let zeroth = same_now.same 0 (untouched_zero f next) in
+      let sizes = sizes_alike f next x y label (laid_over (blocks_without m next x) f.batch.numbers f.batch.images) stands same_now
+      (images_stand f x label stands there count staged next y bears same_now) in
       record {
         stands = stands_itself next label (blocks_without m next y) (laid_over (blocks_without m next y) f.batch.numbers f.batch.images) y
             (admitted_after next y bears same_now y same_now);
-        size = ap (number_at 12 4) zeroth ∙ size_is;
-        count = ap (number_at 16 4) zeroth ∙ count;
+        size = sizes.0 ∙ size_is;
+        count = sizes.1 ∙ count;
         admits = λ c left. admitted_after next y bears same_now c (same c left);
         holds = holds;
         same = λ running c left. same_but_then (Touched f next) y x c (same_but_back (Touched f next) x y same_now) (same c left);
@@ -126,16 +152,17 @@ pub told_failed : (old new : Device) (blocks : ℕ) (label : List ℕ) (next : N
 told_failed old new blocks label next f there told no_more now =
     let m = f.batch.place in
     let same_now = told.same refl new.content (no_more new.content now) in
-    let zeroth = same_now.same 0 (untouched_zero f next) in
     let admitted = told.admits new.content (no_more new.content now) in
+    let sizes = sizes_alike f next old.content new.content label
+    (laid_over (blocks_without m next old.content) f.batch.numbers f.batch.images) told.stands same_now admitted in
     let without = without_alike f next old.content new.content label
     (laid_over (blocks_without m next old.content) f.batch.numbers f.batch.images) told.stands
     (subst (λ (n : ℕ). m < n) (sym told.count) there) same_now admitted in (
       record {
         stands = stands_itself next label (blocks_without m next old.content)
             (laid_over (blocks_without m next old.content) f.batch.numbers f.batch.images) new.content admitted;
-        size = ap (number_at 12 4) zeroth ∙ told.size;
-        count = ap (number_at 16 4) zeroth ∙ told.count;
+        size = sizes.0 ∙ told.size;
+        count = sizes.1 ∙ told.count;
         admits = λ c left. subst (λ (bs : List (List ℕ)). IsAdmitted next label bs (laid_over bs f.batch.numbers f.batch.images) c)
             (sym without) (told.admits c (no_more c left));
         holds = λ runs. absurd (true≢false runs);

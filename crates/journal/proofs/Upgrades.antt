@@ -1,20 +1,20 @@
--- The opening of the format's gate: what the journal keeps after it, and what a crash within it leaves.
-use Rattle.std.proofs.Common.{◌≡◌, ◌≢◌, ◌⊎◌, inl, inr, ⊎_elim, ◌<◌, ◌≤◌, ℕ, ◌+◌, ◌-◌, ◌*◌, Bool, true, false, IsTrue, cond, eqb, List, []}
-use Rattle.std.proofs.Common.{◌∷◌, length, get_or, map, take, refl, sym, ◌∙◌, ap, subst, arith, Result, Ok, Err}
+-- The opening of the gate of format 3: what the journal keeps after it, and what a crash within it leaves.
+use Rattle.std.proofs.Common.{◌≡◌, ◌≢◌, ◌⊎◌, inl, inr, ⊎_elim, ◌≤◌, ℕ, ◌+◌, cond, eqb, get_or, Bool, true, false, IsTrue, List, []}
+use Rattle.std.proofs.Common.{◌∷◌, length, map, take, refl, sym, ◌∙◌, ap, subst, arith, Result, Ok, Err}
 use Rattle.std.proofs.lemmas.Bool.{true≢false}
+use Rattle.disk.specs.Calls.{Syncs, Writes}
 use Rattle.disk.specs.Device.{Device, Elapses, IsRefused, IsTornImage, LeavesNoMore, LeavesOnly, LeftNoMore, LeftTornAt, TearsAt, one_more}
 use Rattle.disk.specs.declared.DiskError.{DiskError}
 use Rattle.disk.specs.declared.DiskError.TheVariants as disk_errors
 use Rattle.disk.specs.Image.{Torn, overwritten, part}
-use Rattle.segment_laws.specs.Held.{AreOpen}
-use Rattle.segment_laws.specs.Images.{SameBut}
-use Rattle.segment_laws.proofs.Blocks.{same_but_equal}
-use Rattle.segment_laws.proofs.Formats.{gate_opens, overwritten_torn, some_format}
-use Rattle.segment_laws.proofs.Standing.{format_open, format_unread}
-use Rattle.segment_laws.proofs.Whole.{stands_length}
+use Rattle.disk.proofs.Images.{get_or-part, overwritten_above}
+use Rattle.journal_laws.specs.Held.{AreOpen}
+use Rattle.journal_laws.proofs.Blocks.{same_but_equal}
+use Rattle.journal_laws.proofs.Formats.{gate_opens, overwritten_torn, torn_gates, torn_rises}
+use Rattle.journal_laws.proofs.Standing.{format_open, format_unread}
+use Rattle.journal_laws.proofs.Whole.{stands_length}
 use Rattle.journal_segments.specs.Staged.{Staged, held_as}
 use Rattle.journal.specs.Flight.{Flight, flight_in, left_of}
-use Rattle.journal.specs.Calls.{Call, IsAsked}
 use Rattle.journal.specs.Inside.{IsAdmitted, IsKept, IsTold, Touched, blocks_without}
 use Rattle.journal.specs.Journal.{JournalView}
 use Rattle.journal.specs.Upgrading.{IsSameButFormat, Upgrades}
@@ -22,16 +22,29 @@ use Rattle.journal.specs.declared.JournalError.{JournalError}
 use Rattle.journal.specs.declared.JournalError.TheVariants.{Fault, Memory}
 use Rattle.journal.specs.declared.Next.{Next}
 use Rattle.journal.proofs.Whole.{kept_refused}
-use Rattle.model.specs.Volume.{StandsFor, block, format_in, format_number, home_place, home_size, laid_over, logical_blocks, number_at}
+use Rattle.model.specs.Volume.{StandsFor, block, epoch_in, epoch_of, format_in, format_number, home_size, laid_over, logical_blocks}
+use Rattle.model.specs.Volume.{number_at}
 use Rattle.model.specs.Volume.{segment_count}
-use Rattle.journal.specs.declared.Next.TheVariants.{Commit, Descriptor, Idle}
+use Rattle.journal.specs.declared.Next.TheVariants.{Descriptor, Idle}
 
 pub at_rest : (label : List ℕ) (bs after : List (List ℕ)) (c : List ℕ) → IsAdmitted Idle label bs after c → StandsFor c label bs
 at_rest label bs after c (inl stands) = stands
 at_rest label bs after c (inr commits) = let wrong = commits.0 in absurd (cc)
 
+-- the gate of the format is another octet than the epoch
+pub opened_epoch_in : (superblock : List ℕ) → 150 ≤ length superblock → epoch_in (overwritten 149 (3 ∷ []) superblock) ≡ epoch_in superblock
+opened_epoch_in superblock fits =
+    ap (λ (octet : ℕ). cond (eqb octet 2) 2 1) (overwritten_above 149 (3 ∷ []) superblock fits 150 0 (omega arith))
+
+opened_epoch : (x : List ℕ) → 150 ≤ length x → epoch_of (overwritten 149 (3 ∷ []) x) ≡ epoch_of x
+opened_epoch x fits =
+    let y = overwritten 149 (3 ∷ []) x in
+    let now : get_or (block 0 y) 150 0 ≡ get_or y (0 + 150) 0 = get_or-part 0 4096 y 150 0 (omega arith) in
+    let was : get_or (block 0 x) 150 0 ≡ get_or x (0 + 150) 0 = get_or-part 0 4096 x 150 0 (omega arith) in
+    ap (λ (octet : ℕ). cond (eqb octet 2) 2 1) (now ∙ overwritten_above 149 (3 ∷ []) x fits 150 0 (omega arith) ∙ sym was)
+
 module _ (old : Device) (blocks : ℕ) (superblock : List ℕ) (room : List Staged) (filled : ℕ) (is_last : Bool)
-    (kept : IsKept old blocks superblock Idle false room filled is_last) (first : format_in superblock ≡ 1) where
+    (kept : IsKept old blocks superblock Idle false room filled is_last) (older : format_in superblock ≤ 2) where
   abbrev f : Flight
   f = flight_in room filled is_last
 
@@ -42,16 +55,24 @@ module _ (old : Device) (blocks : ℕ) (superblock : List ℕ) (room : List Stag
   label = part 20 128 superblock
 
   -- an image that the write may leave
-  pub still_stands : IsTrue old.tells → (c : List ℕ) → IsTornImage 148 1 old c → StandsFor c label (logical_blocks x)
+  pub still_stands : IsTrue old.tells → (c : List ℕ) → IsTornImage 149 1 old c → StandsFor c label (logical_blocks x)
   still_stands t c from =
       format_unread from.0 c label (logical_blocks x)
       (at_rest label (logical_blocks x) (laid_over (logical_blocks x) f.batch.numbers f.batch.images) from.0
-      ((kept.told t).admits from.0 from.1)) from.2
+      ((kept.told t).admits from.0 from.1)) (torn_gates from.0 c from.2)
 
-  pub still_admitted : IsTrue old.tells → (c : List ℕ) → IsTornImage 148 1 old c
+  -- it has no lower format, whatever it has at the gate: apart from that it has the superblock of the content
+  no_lower : IsTrue old.tells → (c : List ℕ) → IsTornImage 149 1 old c → format_in superblock ≤ format_number c
+  no_lower t c from =
+      let same : block 0 from.0 ≡ block 0 x = ((kept.told t).same refl from.0 from.1).same 0 (λ none. none) in
+      let was : format_number from.0 ≡ format_in superblock = ap format_in same ∙ kept.format_is t refl in
+      let rises = torn_rises from.0 c from.2 (omega (arith, was, older)) in
+      omega (arith, was, rises)
+
+  pub still_admitted : IsTrue old.tells → (c : List ℕ) → IsTornImage 149 1 old c
       → IsAdmitted Idle label (logical_blocks x) (laid_over (logical_blocks x) f.batch.numbers f.batch.images) c
       × (format_in superblock ≤ format_number c)
-  still_admitted t c from = (inl (still_stands t c from), omega (arith, first, some_format (block 0 c)))
+  still_admitted t c from = (inl (still_stands t c from), no_lower t c from)
 
   same_home : (t : IsTrue old.tells) (c : List ℕ) → StandsFor c label (logical_blocks x) → home_size c ≡ home_size x
   same_home t c stands = sym (stands_length c label (logical_blocks x) stands)
@@ -67,12 +88,12 @@ module _ (old : Device) (blocks : ℕ) (superblock : List ℕ) (room : List Stag
     same_home t c stands,
   )
 
-  torn_size : (t : IsTrue old.tells) (c : List ℕ) → IsTornImage 148 1 old c → length c ≡ length x
+  torn_size : (t : IsTrue old.tells) (c : List ℕ) → IsTornImage 149 1 old c → length c ≡ length x
   torn_size t c from = from.2.size ∙ ((kept.told t).same refl from.0 from.1).size
 
   -- where the write failed, or the sync after it
   module _ (new : Device) (time : Elapses old new) (law : IsTrue new.tells → new.may_leave new.content) (torn : IsTrue old.tells
-      → (c : List ℕ) → new.may_leave c → IsTornImage 148 1 old c) where
+      → (c : List ℕ) → new.may_leave c → IsTornImage 149 1 old c) where
     before : IsTrue new.tells → IsTrue old.tells
     before t = subst (λ (b : Bool). IsTrue b) time.tells t
 
@@ -109,27 +130,29 @@ module _ (old : Device) (blocks : ℕ) (superblock : List ℕ) (room : List Stag
             same = λ runs. absurd (true≢false runs);
           };
       format_is = λ t runs. absurd (true≢false runs);
-      formats = λ t c left. omega (arith, first, some_format (block 0 c));
+      epoch_is = λ t runs. absurd (true≢false runs);
+      formats = λ t c left. let was = before t in no_lower was c (torn was c left);
     }
 
   -- where both were good
-  module _ (new : Device) (time : Elapses old new) (after : List ℕ) (content : IsTrue old.tells → new.content ≡ overwritten 148 (2 ∷ []) x)
-      (only : IsTrue old.tells → LeavesOnly new (overwritten 148 (2 ∷ []) x))
-      (after_size : length after ≡ 4096) (after_label : part 20 128 after ≡ label) (after_format : format_in after ≡ 2) where
+  module _ (new : Device) (time : Elapses old new) (after : List ℕ) (content : IsTrue old.tells → new.content ≡ overwritten 149 (3 ∷ []) x)
+      (only : IsTrue old.tells → LeavesOnly new (overwritten 149 (3 ∷ []) x))
+      (after_size : length after ≡ 4096) (after_label : part 20 128 after ≡ label) (after_format : format_in after ≡ 3)
+      (after_epoch : epoch_in after ≡ epoch_in superblock) where
     before_both : IsTrue new.tells → IsTrue old.tells
     before_both t = subst (λ (b : Bool). IsTrue b) time.tells t
 
     abbrev y : List ℕ
-    y = overwritten 148 (2 ∷ []) x
+    y = overwritten 149 (3 ∷ []) x
 
-    fits : IsTrue old.tells → 149 ≤ length x
+    fits : IsTrue old.tells → 150 ≤ length x
     fits t = omega (arith, (kept.told t).stands.has_superblock.exactly)
 
-    tears : IsTrue old.tells → Torn 148 1 x y
-    tears t = overwritten_torn 148 2 x (fits t) (omega arith)
+    tears : IsTrue old.tells → Torn 149 1 x y
+    tears t = overwritten_torn 149 3 x (fits t) (omega arith)
 
     stands_now : (t : IsTrue old.tells) → StandsFor y label (logical_blocks x)
-    stands_now t = format_unread x y label (logical_blocks x) (kept.told t).stands (tears t)
+    stands_now t = format_unread x y label (logical_blocks x) (kept.told t).stands (torn_gates x y (tears t))
 
     pub opened_blocks : IsTrue old.tells → logical_blocks new.content ≡ logical_blocks x
     opened_blocks t = ap logical_blocks (content t) ∙ (stands_now t).has_blocks
@@ -161,12 +184,15 @@ module _ (old : Device) (blocks : ℕ) (superblock : List ℕ) (room : List Stag
             admits = λ c left. inl (subst (λ (z : List ℕ). StandsFor z label (logical_blocks new.content)) (sym (only t c left))
                 (subst (λ (l : List (List ℕ)). StandsFor y label l) (sym (opened_blocks t)) (stands_now t)));
             holds = λ runs. subst (λ (z : List ℕ). AreOpen (left_of f) z) (sym (content t))
-                (format_open x y label (logical_blocks x) was.stands (tears t) (left_of f) (was.holds refl));
+                (format_open x y label (logical_blocks x) was.stands (torn_gates x y (tears t)) (left_of f) (was.holds refl));
             same = λ runs c left. same_but_equal (Touched f Idle) new.content c (only t c left ∙ sym (content t));
           } in
           subst (λ (l : List ℕ). IsTold new blocks l Idle false f) (sym after_label) told;
       format_is = λ now_tells runs. let t = before_both now_tells in ap format_number (content t) ∙ gate_opens x (fits t)
           ∙ sym after_format;
+      epoch_is = λ now_tells runs. let t = before_both now_tells in
+          ap epoch_of (content t) ∙ opened_epoch x (fits t)
+          ∙ kept.epoch_is t refl ∙ sym after_epoch;
       formats = λ now_tells c left. let t = before_both now_tells in
           omega (arith, ap format_number (only t c left), gate_opens x (fits t), after_format);
     }
@@ -183,6 +209,7 @@ module _ {D : Type 0} (device : D → Device) (before later : D) (blocks : ℕ) 
     disk = d;
     label = part 20 128 super;
     format = format_in super;
+    epoch = epoch_in super;
     size = blocks;
     segments = length room;
     blocks = blocks_without its.batch.place next (device d).content;
@@ -216,29 +243,31 @@ module _ {D : Type 0} (device : D → Device) (before later : D) (blocks : ℕ) 
   abbrev Kept : Next → Bool → Type 0
   Kept next h = IsKept (device before) blocks superblock next h room filled is_last
 
-  abbrev Asked : {T : Type 0} → Call → Result T DiskError → D → D → Type 0
-  Asked call result d e = IsAsked call result (device d) (device e)
+  abbrev WritesGate : Bool → Result (Unit {0}) DiskError → D → D → Type 0
+  WritesGate grows result d e = Writes grows 149 (3 ∷ []) result (device d) (device e)
 
-  abbrev gate : Call
-  gate = Call.Write 148 (2 ∷ [])
+  abbrev SyncsGate : Bool → Result (Unit {0}) DiskError → D → D → Type 0
+  SyncsGate grows result d e = Syncs grows result (device d) (device e)
 
   -- the torn images of the write, also after a sync that failed
-  torn_after : (mid : D) → TearsAt 148 1 (device before) (device mid) → LeavesNoMore (device mid) (device later) → (c : List ℕ)
-      → (device later).may_leave c → IsTornImage 148 1 (device before) c
-  torn_after mid tears no_more c left = tears c (no_more c left)
+  torn_after : (mid : D) → (IsTrue (device before).tells → IsTrue (device mid).tells) → TearsAt 149 1 (device before) (device mid)
+      → LeavesNoMore (device mid) (device later) → TearsAt 149 1 (device before) (device later)
+  torn_after mid mid_tells tears no_more t c left = tears t c (no_more (mid_tells t) c left)
 
-  since_after : (mid : D) (t : ℕ) (c : List ℕ) → (device before).clock ≤ (device mid).clock → t ≤ (device before).clock
-      → LeftTornAt 148 1 (device before) (device mid) → LeftNoMore (device mid) (device later) → (device later).left_since t c
-      → (device before).left_since t c ⊎ IsTornImage 148 1 (device before) c
-  since_after mid t c clock low tears no_more left = tears t c low (no_more t c (omega (arith, clock, low)) left)
+  since_after : (mid : D) → (IsTrue (device before).tells → IsTrue (device mid).tells) → (device before).clock ≤ (device mid).clock
+      → LeftTornAt 149 1 (device before) (device mid) → LeftNoMore (device mid) (device later)
+      → LeftTornAt 149 1 (device before) (device later)
+  since_after mid mid_tells clock tears no_more t time c low left =
+      tears t time c low (no_more (mid_tells t) time c (omega (arith, clock, low)) left)
 
-  module _ (law : IsTrue (device later).tells → (device later).may_leave (device later).content) (first : format_in superblock ≡ 1) where
+  module _ (law : IsTrue (device later).tells → (device later).may_leave (device later).content) (older : format_in superblock ≤ 2) where
     -- both calls were good
-    idle_ok : (mid : D) (after : List ℕ) → length after ≡ 4096 → part 20 128 after ≡ part 20 128 superblock → format_in after ≡ 2
-        → (x y : Unit {0}) → Kept Idle false → Asked gate (Ok x) before mid → Asked Call.Sync (Ok y) mid later
+    idle_ok : {write_grows sync_grows : Bool} (mid : D) (after : List ℕ) → length after ≡ 4096
+        → part 20 128 after ≡ part 20 128 superblock → format_in after ≡ 3 → epoch_in after ≡ epoch_in superblock
+        → (x y : Unit {0}) → Kept Idle false → WritesGate write_grows (Ok x) before mid → SyncsGate sync_grows (Ok y) mid later
         → IsKept (device later) blocks after Idle false room filled is_last × Upgrades device (view before superblock Idle false)
         (view later after Idle false) (Ok tt)
-    idle_ok mid after size label format x y kept wrote synced =
+    idle_ok mid after size label format epoch x y kept wrote synced =
         let mid_tells : IsTrue (device before).tells → IsTrue (device mid).tells =
         λ t. subst (λ (b : Bool). IsTrue b) (sym wrote.time.tells) t in
         let time : Elapses (device before) (device later) =
@@ -247,22 +276,23 @@ module _ {D : Type 0} (device : D → Device) (before later : D) (blocks : ℕ) 
           tells = synced.time.tells ∙ wrote.time.tells;
           later = omega (arith, wrote.time.later, synced.time.later);
         } in
-        let content : IsTrue (device before).tells → (device later).content ≡ overwritten 148 (2 ∷ []) (device before).content =
-        λ t. synced.does.content (mid_tells t) ∙ wrote.does.content t in
-        let only : IsTrue (device before).tells → LeavesOnly (device later) (overwritten 148 (2 ∷ []) (device before).content) =
-        λ t c left. synced.does.durable (mid_tells t) c left ∙ wrote.does.content t in
-        let now = opened_kept (device before) blocks superblock room filled is_last kept first
-        (device later) time after content only size label format in (
+        let content : IsTrue (device before).tells → (device later).content ≡ overwritten 149 (3 ∷ []) (device before).content =
+        λ t. synced.content (mid_tells t) ∙ wrote.content t in
+        let only : IsTrue (device before).tells → LeavesOnly (device later) (overwritten 149 (3 ∷ []) (device before).content) =
+        λ t c left. synced.durable (mid_tells t) c left ∙ wrote.content t in
+        let now = opened_kept (device before) blocks superblock room filled is_last kept older
+        (device later) time after content only size label format epoch in (
           now,
           record {
             same = same_but superblock after Idle false false label;
-            blocks = opened_blocks (device before) blocks superblock room filled is_last kept first
-                (device later) time after content only size label format;
+            epoch = epoch;
+            blocks = opened_blocks (device before) blocks superblock room filled is_last kept older
+                (device later) time after content only size label format epoch;
             format = format;
             running = refl;
             synced = λ t c left. only t c left ∙ sym (content t);
-            writes = synced.does.asks.writes ∙ wrote.does.asks.writes;
-            syncs = synced.does.asks.syncs ∙ ap one_more wrote.does.asks.syncs;
+            writes = synced.call.writes ∙ wrote.call.writes;
+            syncs = synced.call.syncs ∙ ap one_more wrote.call.syncs;
             time = time;
             failures = record { ok = synced.cause.ok ∙ wrote.cause.ok; fault = tt };
             no_other = tt;
@@ -271,28 +301,27 @@ module _ {D : Type 0} (device : D → Device) (before later : D) (blocks : ℕ) 
             now = λ t c left. ((now.told t).admits c left, now.formats t c left);
             since = λ t time' c low left.
                 ⊎_elim (λ earlier. inl earlier)
-                (λ from. inr (still_admitted (device before) blocks superblock room filled is_last kept first t c from))
-                (since_after mid time' c wrote.time.later low (wrote.does.since t) (synced.does.since (mid_tells t)) left);
+                (λ from. inr (still_admitted (device before) blocks superblock room filled is_last kept older t c from))
+                (since_after mid mid_tells wrote.time.later wrote.since synced.since t time' c low left);
           },
         )
 
     -- the write failed, or the sync after it: the images are torn ones
     cut_off : (e : JournalError) → Elapses (device before) (device later) → Kept Idle false
-        → (IsTrue (device before).tells → (c : List ℕ) → (device later).may_leave c → IsTornImage 148 1 (device before) c)
-        → (IsTrue (device before).tells → (t : ℕ) (c : List ℕ) → t ≤ (device before).clock → (device later).left_since t c
-        → (device before).left_since t c ⊎ IsTornImage 148 1 (device before) c)
+        → TearsAt 149 1 (device before) (device later) → LeftTornAt 149 1 (device before) (device later)
         → (e ≡ Fault) ⊎ (e ≡ Memory) → (e ≡ Fault → (device later).failures ≢ (device before).failures)
         → (e ≡ Memory → (device later).failures ≡ (device before).failures)
         → IsKept (device later) blocks superblock Idle true room filled is_last × Upgrades device (view before superblock Idle false)
         (view later superblock Idle true) (Err e)
     cut_off e time kept torn since which fault memory =
-        let now = cut_kept (device before) blocks superblock room filled is_last kept first (device later) time law torn in
+        let now = cut_kept (device before) blocks superblock room filled is_last kept older (device later) time law torn in
         let later_tells : IsTrue (device before).tells → IsTrue (device later).tells =
         λ t. subst (λ (b : Bool). IsTrue b) (sym time.tells) t in (
           now,
           record {
             same = same_but superblock superblock Idle false true refl;
-            blocks = λ t. cut_blocks (device before) blocks superblock room filled is_last kept first (device later) time law torn
+            epoch = refl;
+            blocks = λ t. cut_blocks (device before) blocks superblock room filled is_last kept older (device later) time law torn
                 (later_tells t);
             format = tt;
             running = tt;
@@ -306,38 +335,39 @@ module _ {D : Type 0} (device : D → Device) (before later : D) (blocks : ℕ) 
             memory = memory;
             now = λ t c left. ((now.told t).admits c left, now.formats t c left);
             since = λ t time' c low left. ⊎_elim (λ earlier. inl earlier)
-                (λ from. inr (still_admitted (device before) blocks superblock room filled is_last kept first t c from))
+                (λ from. inr (still_admitted (device before) blocks superblock room filled is_last kept older t c from))
                 (since t time' c low left);
           },
         )
 
-    idle_unwritten : (e : DiskError) → e ≡ disk_errors.Fault → Kept Idle false → Asked {T = Unit {0}} gate (Err e) before later
+    idle_unwritten : {write_grows : Bool} (e : DiskError) → e ≡ disk_errors.Fault → Kept Idle false
+        → WritesGate write_grows (Err e) before later
         → IsKept (device later) blocks superblock Idle true room filled is_last × Upgrades device (view before superblock Idle false)
         (view later superblock Idle true) (Err Fault)
     idle_unwritten e is kept wrote =
-        let does = wrote.does is in
-        cut_off Fault wrote.time kept does.crash does.since (inl refl) (λ f. wrote.cause.fault is)
+        cut_off Fault wrote.time kept wrote.crash wrote.since (inl refl) (λ f. wrote.cause.fault is)
         (λ m. absurd (let both : Fault ≡ Memory = m in cc))
 
-    idle_unsynced : (mid : D) (x : Unit {0}) (e : DiskError) → e ≡ disk_errors.Fault → Kept Idle false → Asked gate (Ok x) before mid
-        → Asked {T = Unit {0}} Call.Sync (Err e) mid later
+    idle_unsynced : {write_grows sync_grows : Bool} (mid : D) (x : Unit {0}) (e : DiskError) → e ≡ disk_errors.Fault → Kept Idle false
+        → WritesGate write_grows (Ok x) before mid
+        → SyncsGate sync_grows (Err e) mid later
         → IsKept (device later) blocks superblock Idle true room filled is_last × Upgrades device (view before superblock Idle false)
         (view later superblock Idle true) (Err Fault)
     idle_unsynced mid x e is kept wrote failed =
         let mid_tells : IsTrue (device before).tells → IsTrue (device mid).tells =
         λ t. subst (λ (b : Bool). IsTrue b) (sym wrote.time.tells) t in
-        let does = failed.does is in
         cut_off Fault (record {
           size = failed.time.size ∙ wrote.time.size;
           tells = failed.time.tells ∙ wrote.time.tells;
           later = omega (arith, wrote.time.later, failed.time.later);
         }) kept
-        (λ t c left. torn_after mid (wrote.does.crash t) (does.crash (mid_tells t)) c left)
-        (λ t time' c low left. since_after mid time' c wrote.time.later low (wrote.does.since t) (does.since (mid_tells t)) left)
+        (torn_after mid mid_tells wrote.crash failed.crash)
+        (since_after mid mid_tells wrote.time.later wrote.since failed.since)
         (inl refl) (λ f same. failed.cause.fault is (same ∙ sym wrote.cause.ok)) (λ m. absurd (let both : Fault ≡ Memory = m in cc))
 
-    idle_unsynced_for_memory : (mid : D) (x : Unit {0}) (e : DiskError) → e ≡ disk_errors.Memory → Kept Idle false
-        → Asked gate (Ok x) before mid → Asked {T = Unit {0}} Call.Sync (Err e) mid later
+    idle_unsynced_for_memory : {write_grows sync_grows : Bool} (mid : D) (x : Unit {0}) (e : DiskError) → e ≡ disk_errors.Memory
+        → Kept Idle false
+        → WritesGate write_grows (Ok x) before mid → SyncsGate sync_grows (Err e) mid later
         → IsKept (device later) blocks superblock Idle true room filled is_last × Upgrades device (view before superblock Idle false)
         (view later superblock Idle true) (Err Memory)
     idle_unsynced_for_memory mid x e is kept wrote failed =
@@ -349,8 +379,8 @@ module _ {D : Type 0} (device : D → Device) (before later : D) (blocks : ℕ) 
           tells = failed.time.tells ∙ wrote.time.tells;
           later = omega (arith, wrote.time.later, failed.time.later);
         }) kept
-        (λ t c left. torn_after mid (wrote.does.crash t) (refused.crash (mid_tells t)) c left)
-        (λ t time' c low left. since_after mid time' c wrote.time.later low (wrote.does.since t) (refused.since (mid_tells t)) left)
+        (torn_after mid mid_tells wrote.crash refused.crash)
+        (since_after mid mid_tells wrote.time.later wrote.since refused.since)
         (inr refl) (λ f. absurd (let both : Memory ≡ Fault = f in cc)) (λ m. refused.failures ∙ wrote.cause.ok)
 
     -- the write was refused for want of memory: nothing changed
@@ -362,6 +392,7 @@ module _ {D : Type 0} (device : D → Device) (before later : D) (blocks : ℕ) 
           now,
           record {
             same = same_but superblock superblock Idle false false refl;
+            epoch = refl;
             blocks = λ t. ap logical_blocks (refused.content t);
             format = tt;
             running = tt;
@@ -385,28 +416,32 @@ module _ {D : Type 0} (device : D → Device) (before later : D) (blocks : ℕ) 
           let now : Kept Idle false = subst (λ (b : Bool). Kept Idle b) running (subst (λ (n : Next). Kept n h) is kept) in
           subst (λ (n : Next). P n h) (sym is) (subst (λ (b : Bool). P Idle b) (sym running) (p now))
 
-      pub when_ok : (mid : D) (after : List ℕ) → length after ≡ 4096 → part 20 128 after ≡ part 20 128 superblock → format_in after ≡ 2
-          → (x y : Unit {0}) → Asked gate (Ok x) before mid → Asked Call.Sync (Ok y) mid later
+      pub when_ok : {write_grows sync_grows : Bool} (mid : D) (after : List ℕ) → length after ≡ 4096
+          → part 20 128 after ≡ part 20 128 superblock → format_in after ≡ 3 → epoch_in after ≡ epoch_in superblock
+          → (x y : Unit {0}) → WritesGate write_grows (Ok x) before mid → SyncsGate sync_grows (Ok y) mid later
           → IsKept (device later) blocks after next h room filled is_last
           × Upgrades device (view before superblock next h) (view later after next h) (Ok tt)
-      when_ok mid after size label format x y wrote synced =
+      when_ok mid after size label format epoch x y wrote synced =
           at_idle (λ (n : Next) (b : Bool). IsKept (device later) blocks after n b room filled is_last
           × Upgrades device (view before superblock n b) (view later after n b) (Ok tt))
-          (λ now. idle_ok mid after size label format x y now wrote synced)
+          (λ now. idle_ok mid after size label format epoch x y now wrote synced)
 
       abbrev Cut : JournalError → Next → Bool → Type 0
       Cut e n b = IsKept (device later) blocks superblock n true room filled is_last
           × Upgrades device (view before superblock n b) (view later superblock n true) (Err e)
 
-      pub when_unwritten : (e : DiskError) → e ≡ disk_errors.Fault → Asked {T = Unit {0}} gate (Err e) before later → Cut Fault next h
+      pub when_unwritten : {write_grows : Bool} (e : DiskError) → e ≡ disk_errors.Fault → WritesGate write_grows (Err e) before later
+          → Cut Fault next h
       when_unwritten e fails wrote = at_idle (Cut Fault) (λ now. idle_unwritten e fails now wrote)
 
-      pub when_unsynced : (mid : D) (x : Unit {0}) (e : DiskError) → e ≡ disk_errors.Fault → Asked gate (Ok x) before mid
-          → Asked {T = Unit {0}} Call.Sync (Err e) mid later → Cut Fault next h
+      pub when_unsynced : {write_grows sync_grows : Bool} (mid : D) (x : Unit {0}) (e : DiskError) → e ≡ disk_errors.Fault
+          → WritesGate write_grows (Ok x) before mid
+          → SyncsGate sync_grows (Err e) mid later → Cut Fault next h
       when_unsynced mid x e fails wrote failed = at_idle (Cut Fault) (λ now. idle_unsynced mid x e fails now wrote failed)
 
-      pub when_unsynced_for_memory : (mid : D) (x : Unit {0}) (e : DiskError) → e ≡ disk_errors.Memory → Asked gate (Ok x) before mid
-          → Asked {T = Unit {0}} Call.Sync (Err e) mid later → Cut Memory next h
+      pub when_unsynced_for_memory : {write_grows sync_grows : Bool} (mid : D) (x : Unit {0}) (e : DiskError) → e ≡ disk_errors.Memory
+          → WritesGate write_grows (Ok x) before mid
+          → SyncsGate sync_grows (Err e) mid later → Cut Memory next h
       when_unsynced_for_memory mid x e fails wrote failed =
           at_idle (Cut Memory) (λ now. idle_unsynced_for_memory mid x e fails now wrote failed)
 

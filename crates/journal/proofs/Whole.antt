@@ -5,11 +5,11 @@ use Rattle.disk.specs.Image.{part}
 use Rattle.journal_segments.specs.Staged.{Staged}
 use Rattle.journal.specs.Flight.{Flight, flight_in}
 use Rattle.journal.specs.Inside.{IsAdmitted, IsKept, Holds, Touched, blocks_without}
-use Rattle.segment_laws.specs.Images.{SameBut}
+use Rattle.journal_laws.specs.Images.{SameBut}
 use Rattle.journal.specs.Journal.{AreWhole}
-use Rattle.model.specs.Volume.{format_number, gate_closed, logical_blocks, home_size, laid_over, segment_count, StandsFor}
+use Rattle.model.specs.Volume.{epoch_of, format_number, gate_closed, logical_blocks, home_size, laid_over, segment_count, StandsFor}
 use Rattle.journal.specs.declared.Next.{Next}
-use Rattle.segment_laws.proofs.Whole.{stands_length, stands_whole as sizes_whole}
+use Rattle.journal_laws.proofs.Whole.{stands_length, stands_whole as sizes_whole}
 use Rattle.journal.specs.declared.Next.TheVariants.{Commit}
 use Rattle.journal.proofs.Admitted.{size_shut, stands_shut}
 
@@ -75,6 +75,7 @@ module _ (device : Device) (blocks : ℕ) (superblock : List ℕ) (next : Next) 
               (told.same runs c ((same.may_leave c).0 left));
         };
     format_is = λ t runs. ap format_number same.content ∙ kept.format_is (subst (λ (b : Bool). IsTrue b) same.tells t) runs;
+    epoch_is = λ t runs. ap epoch_of same.content ∙ kept.epoch_is (subst (λ (b : Bool). IsTrue b) same.tells t) runs;
     formats = λ t c left. kept.formats (subst (λ (b : Bool). IsTrue b) same.tells t) c ((same.may_leave c).0 left);
   }
 
@@ -112,6 +113,8 @@ module _ (device : Device) (blocks : ℕ) (superblock : List ℕ) (next : Next) 
         };
     format_is = λ t runs. let before : IsTrue device.tells = subst (λ (b : Bool). IsTrue b) same.time.tells t in
         ap format_number (same.content before) ∙ kept.format_is before runs;
+    epoch_is = λ t runs. let before : IsTrue device.tells = subst (λ (b : Bool). IsTrue b) same.time.tells t in
+        ap epoch_of (same.content before) ∙ kept.epoch_is before runs;
     formats = λ t c left. let before : IsTrue device.tells = subst (λ (b : Bool). IsTrue b) same.time.tells t in
         kept.formats before c (same.crash before c left);
   }

@@ -1,18 +1,19 @@
 -- What the fields of a journal keep between two calls.
-use Rattle.std.specs.Prelude.{◌≡◌, ◌⊎◌, ◌<◌, ◌≤◌, ℕ, ◌+◌, ◌*◌, Bool, true, false, IsTrue, List, [], length, drop, slice_index}
+use Rattle.std.specs.Prelude.{◌≡◌, ◌⊎◌, ◌<◌, ◌≤◌, ℕ, ◌+◌, ◌*◌, Bool, true, false, if◌then◌else◌, IsTrue, List, [], ◌∷◌, length, slice_index}
 use Rattle.std.specs.Prelude.{slice_index_or, take}
 use Rattle.disk.specs.Device.{Device, LeavesOnly, one_more}
-use Rattle.disk.specs.Image.{part}
+use Rattle.disk.specs.Image.{overwritten, part}
 use Rattle.model.specs.Volume.{gate_place, descriptor_place, image_place, home_place, descriptor_of, block, number_at, home_size, is_open}
 use Rattle.model.specs.Volume.{segment_count, IsSuperblock, StandsFor, format_in, format_number, all_laid_over, home, laid_over}
-use Rattle.model.specs.Volume.{logical_blocks, gate_closed}
-use Rattle.segment_laws.specs.Held.{AreOpen, IsHomeOfHeld, IsHomeOnTheWay, IsWrittenIn, batches_of}
-use Rattle.segment_laws.specs.Images.{IsCarried, IsInside, SameBut}
+use Rattle.model.specs.Volume.{epoch_at, epoch_in, epoch_of, logical_blocks, gate_closed, other_epoch}
+use Rattle.journal_laws.specs.Held.{AreOpen, IsHomeOfHeld, IsHomeOnTheWay, IsWrittenIn, batches_of}
+use Rattle.journal_laws.specs.Images.{IsCarried, IsInside, SameBut}
 use Rattle.journal_segments.specs.Staged.{IsStaged, Staged, staged_at}
 use Rattle.journal_segments.specs.Found.{AreFound}
-use Rattle.journal.specs.Flight.{Flight, all_of, flight_in, held_at, left_of, sizes_of}
+use Rattle.journal.specs.Flight.{Flight, all_of, are_all, closing_block, flight_in, held_at, left_of, left_open, sizes_of}
 use Rattle.journal.specs.declared.Next.{Next}
-use Rattle.journal.specs.declared.Next.TheVariants.{Idle, Descriptor, Image, Seal, OpenGate, Commit, Home, Settle, CloseGate, Finish}
+use Rattle.journal.specs.Order.{Carried, closings}
+use Rattle.journal.specs.declared.Next.TheVariants.{Idle, Descriptor, Image, Seal, OpenGate, Commit, Home, Settle, Close, Finish}
 
 -- the logical blocks of an image; while the commit is the next call, without the batch in that segment
 abbrev pub blocks_without : ℕ → Next → List ℕ → List (List ℕ)
@@ -49,8 +50,8 @@ Holds flight (Home j i) image =
     ((first : List (List ℕ)) × IsHomeOnTheWay first (take j (all_of flight)) (held_at (all_of flight) j).batch i image)
 Holds flight Settle image = AreOpen (all_of flight) image
     × ((first : List (List ℕ)) × (home image ≡ all_laid_over first (batches_of (all_of flight))))
-Holds flight (CloseGate j) image = AreOpen (drop j (all_of flight)) image × IsCarried image
-Holds flight (Finish j) image = AreOpen (drop (j + 1) (all_of flight)) image × IsCarried image
+Holds flight (Close j) image = AreOpen (left_open (are_all flight) j (all_of flight)) image × IsCarried image
+Holds flight (Finish j) image = AreOpen (left_open (are_all flight) (j + 1) (all_of flight)) image × IsCarried image
 
 -- the blocks that were written since the last sync
 abbrev pub Touched : Flight → Next → ℕ → Type 0
@@ -59,17 +60,17 @@ Touched flight Seal k = IsInside flight.batch.place k
 Touched flight Commit k = k ≡ gate_place flight.batch.place
 Touched flight (Home j i) k = IsHomeOfHeld flight.segments (all_of flight) k
 Touched flight Settle k = IsHomeOfHeld flight.segments (all_of flight) k
-Touched flight (Finish j) k = k ≡ gate_place (held_at (all_of flight) j).place
+Touched flight (Finish j) k = k ≡ closing_block (are_all flight) j (all_of flight)
 Touched flight next k = ⊥
 
 -- the next call is for one of the n images, or for one of those that are carried home
-abbrev pub IsWithin : ℕ → List ℕ → Next → Type 0
-IsWithin n sizes (Image i) = i < n
-IsWithin n sizes (Home j i) = (j < length sizes) × (i < slice_index sizes j)
-IsWithin n sizes Settle = 0 < length sizes
-IsWithin n sizes (CloseGate j) = j < length sizes
-IsWithin n sizes (Finish j) = j < length sizes
-IsWithin n sizes next = Unit {0}
+abbrev pub IsWithin : ℕ → Carried → Next → Type 0
+IsWithin n carried (Image i) = i < n
+IsWithin n carried (Home j i) = (j < length carried.counts) × (i < slice_index carried.counts j)
+IsWithin n carried Settle = 0 < length carried.counts
+IsWithin n carried (Close j) = j < closings carried
+IsWithin n carried (Finish j) = j < closings carried
+IsWithin n carried next = Unit {0}
 
 -- the batch is still to be committed, or it is in an open segment and a later batch will carry it home
 abbrev pub IsOrdered : Bool → Next → Type 0
@@ -123,6 +124,13 @@ pub record IsKept (device : Device) (blocks : ℕ) (superblock : List ℕ) (next
   -- the format in memory is that of the content, and a crash leaves no lower one
   pub format_is : IsTrue device.tells → halted ≡ false → format_number device.content ≡ format_in superblock
   pub formats : IsTrue device.tells → (c : List ℕ) → device.may_leave c → format_in superblock ≤ format_number c
+  -- the epoch in memory is that of the content
+  pub epoch_is : IsTrue device.tells → halted ≡ false → epoch_of device.content ≡ epoch_in superblock
+
+-- The superblock in memory after a good call, where this is the epoch. A write that closes all segments at once puts the other one there.
+abbrev pub superblock_after : Bool → ℕ → Next → List ℕ → List ℕ
+superblock_after all epoch (Close j) superblock = if all then overwritten epoch_at (other_epoch epoch ∷ []) superblock else superblock
+superblock_after all epoch next superblock = superblock
 
 -- a good sync, which leaves the content as it was
 pub record IsSynced (old new : Device) : Type 0 where

@@ -1,13 +1,13 @@
 -- The journal as its callers see it, and what a crash leaves of it.
-use Rattle.std.specs.Prelude.{◌≡◌, ◌≢◌, ◌⊎◌, ℕ, ◌+◌, ◌≤◌, ◌==◌, Bool, false, if◌then◌else◌, IsTrue, List, [], ◌∷◌, ◌++◌, length, Result}
-use Rattle.std.specs.Prelude.{OnOk, IfErr}
+use Rattle.std.specs.Prelude.{◌≡◌, ◌≢◌, ◌⊎◌, ℕ, ◌+◌, ◌*◌, ◌<◌, ◌≤◌, ◌==◌, Bool, false, if◌then◌else◌, IsTrue, List, [], ◌∷◌, ◌++◌, length}
+use Rattle.std.specs.Prelude.{Result, OnOk, IfErr}
 use Rattle.std.specs.List.{All}
 use Rattle.disk.specs.Device.{Device}
-use Rattle.segment_laws.specs.Held.{HeldBatch}
-use Rattle.journal.specs.Flight.{counts_of}
+use Rattle.journal_laws.specs.Held.{HaveLess, HeldBatch, IsAmong}
+use Rattle.journal.specs.Flight.{carried_of, none_carried}
 use Rattle.journal.specs.Inside.{IsAdmitted, IsVolume}
-use Rattle.journal.specs.Order.{calls_made}
-use Rattle.model.specs.Volume.{format_number, laid_over}
+use Rattle.journal.specs.Order.{Carried, calls_made}
+use Rattle.model.specs.Volume.{AreDistinct, format_number, laid_over}
 use Rattle.journal.specs.declared.JournalError.{JournalError}
 use Rattle.journal.specs.declared.JournalError.TheVariants.{Fault, Memory}
 use Rattle.journal.specs.declared.Next.{Next}
@@ -17,8 +17,10 @@ use Rattle.journal.specs.declared.Next.TheVariants.{Descriptor, Idle}
 pub record JournalView (D : Type 0) : Type 0 where
   pub disk : D
   pub label : List ℕ
-  -- 1 or 2
+  -- 1 to 3
   pub format : ℕ
+  -- 1 or 2: the octet at the gate of a segment that is open
+  pub epoch : ℕ
   -- the number of logical blocks, and the number of segments
   pub size : ℕ
   pub segments : ℕ
@@ -57,10 +59,18 @@ all_held journal = journal.held ++ record {
 abbrev pub still_open : {D : Type 0} → JournalView D → List HeldBatch
 still_open journal = if journal.is_last then [] else all_held journal
 
--- the number of images of each open segment that are carried home after the commit; empty if another closed segment is
--- left
-abbrev pub sizes : {D : Type 0} → JournalView D → List ℕ
-sizes journal = if journal.is_last then counts_of (all_held journal) else []
+-- what is carried home after the commit: nothing if another closed segment is left
+abbrev pub sizes : {D : Type 0} → JournalView D → Carried
+sizes journal = if journal.is_last then carried_of journal.segments (all_held journal) else none_carried
+
+-- a batch that may begin: images of 1 to 512 of the logical blocks, each once
+pub record MayBegin {D : Type 0} (journal : JournalView D) (numbers octets : List ℕ) : Type 0 where
+  pub ready : IsReady journal
+  pub some : 1 ≤ length numbers
+  pub few : length numbers ≤ 512
+  pub below : All (λ n. n < journal.size) numbers
+  pub distinct : AreDistinct numbers
+  pub images : length octets ≡ 4096 * length numbers
 
 -- A journal that takes a batch into the lowest closed segment. The open segments are the first ones, and have the batch
 -- numbers from 1 on.
@@ -75,6 +85,12 @@ begins journal last numbers images = record journal {
   images = images;
   is_last = length (still_open journal) + 1 == journal.segments;
 }
+
+-- the batch in flight is in the lowest closed segment, and has a greater number than those of the open ones
+pub record IsNextBatch {D : Type 0} (journal : JournalView D) : Type 0 where
+  pub lowest : (s : ℕ) → s < journal.place → IsAmong s journal.held
+  pub closed : IsAmong journal.place journal.held → ⊥
+  pub greatest : HaveLess journal.number journal.held
 
 -- the number of device calls of the batch in flight that were made
 abbrev pub calls : {D : Type 0} → JournalView D → ℕ

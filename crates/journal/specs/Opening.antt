@@ -1,11 +1,11 @@
 -- What an opening leaves, and what a crash during it might have left.
-use Rattle.std.specs.Prelude.{◌≡◌, ◌≢◌, ◌⊎◌, ℕ, ◌+◌, ◌≤◌, IsTrue, List, [], ◌∷◌, length}
+use Rattle.std.specs.Prelude.{◌≡◌, ◌≢◌, ◌⊎◌, ◌==◌, if◌then◌else◌, ℕ, ◌+◌, ◌≤◌, IsTrue, List, [], ◌∷◌, length}
 use Rattle.disk.specs.Device.{Device, Elapses, LeavesOnly, LeftNoMore}
 use Rattle.journal.specs.Inside.{IsVolume}
 use Rattle.journal.specs.Journal.{HasWholeBlocks, IsReady, JournalView, LeavesAdmitted, still_open}
 pub use Rattle.journal.specs.Order.{IsMore}
 pub use Rattle.journal_segments.specs.Found.{IsNoVolume}
-use Rattle.model.specs.Volume.{StandsFor, block, descriptor_place, format_number, number_at, open_segments}
+use Rattle.model.specs.Volume.{StandsFor, block, descriptor_place, format_number, number_at, open_segments, segment_count}
 use Rattle.journal.specs.declared.JournalError.{JournalError}
 use Rattle.journal.specs.declared.JournalError.TheVariants.{Fault, Memory, NotAVolume, Halted}
 
@@ -55,7 +55,7 @@ pub record SyncsFirst {D : Type 0} (device : D → Device) (first last : D) : Ty
   pub no_write : (device synced).writes ≡ (device first).writes
   pub before : (device first).clock ≤ (device synced).clock
   pub later : (device synced).clock ≤ (device last).clock
-  pub until : IsTrue (device first).tells → LeftNoMore (device first) (device synced)
+  pub until : LeftNoMore (device first) (device synced)
   pub content : IsTrue (device first).tells → (device synced).content ≡ (device first).content
   pub only : IsTrue (device first).tells → LeavesOnly (device synced) (device first).content
   pub after : IsTrue (device first).tells → (t : ℕ) (c : List ℕ) → t ≤ (device synced).clock → (device last).left_since t c
@@ -63,20 +63,28 @@ pub record SyncsFirst {D : Type 0} (device : D → Device) (first last : D) : Ty
 
 -- no sync was good, and nothing was written
 abbrev pub NeverSyncs : {D : Type 0} → (D → Device) → D → D → Type 0
-NeverSyncs device first last = ((device last).writes ≡ (device first).writes) × (IsTrue (device first).tells
-    → LeftNoMore (device first) (device last))
+NeverSyncs device first last = ((device last).writes ≡ (device first).writes) × LeftNoMore (device first) (device last)
 
--- the writes that carry these open segments home: each of their images, and each gate
+-- the images in these open segments
+abbrev pub images_in : List ℕ → List ℕ → ℕ
+images_in image [] = 0
+images_in image (s ∷ segments) = number_at 16 4 (block (descriptor_place s) image) + images_in image segments
+
+-- the writes that close some open segments of a volume that has this many: one if these are all of them, else one for each
+abbrev pub closing_writes : ℕ → ℕ → ℕ
+closing_writes count some = if some == count then 1 else some
+
+-- the writes that carry these open segments home and close them
 abbrev pub home_writes : List ℕ → List ℕ → ℕ
 home_writes image [] = 0
-home_writes image (s ∷ segments) = number_at 16 4 (block (descriptor_place s) image) + 1 + home_writes image segments
+home_writes image segments = images_in image segments + closing_writes (segment_count image) (length segments)
 
--- the syncs: one after the images, and one after each gate
-abbrev pub home_syncs : List ℕ → ℕ
-home_syncs [] = 0
-home_syncs (s ∷ segments) = 2 + length segments
+-- the syncs: one after the images, and one after each write that closes
+abbrev pub home_syncs : List ℕ → List ℕ → ℕ
+home_syncs image [] = 0
+home_syncs image segments = 1 + closing_writes (segment_count image) (length segments)
 
 -- the writes and syncs that were asked: `first` syncs, and those that carry this content's open segments home
 pub record Costs (first : ℕ) (content : List ℕ) (old new : Device) : Type 0 where
   pub writes : IsMore (home_writes content (open_segments content)) old.writes new.writes
-  pub syncs : IsMore (first + home_syncs (open_segments content)) old.syncs new.syncs
+  pub syncs : IsMore (first + home_syncs content (open_segments content)) old.syncs new.syncs

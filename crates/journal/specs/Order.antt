@@ -1,26 +1,36 @@
--- The order of the device calls of a batch: descriptor, n images, sync, gate 1, and the sync that commits. If another
+-- The order of the device calls of a batch: descriptor, n images, sync, gate, and the sync that commits. If another
 -- closed segment is left, the batch has ended. Otherwise each open segment is carried home: its home blocks, segment
--- after segment in rising number, one sync, and then gate 0 and a sync for each. `sizes` is the number of images of
--- each of these segments, and is empty if another closed segment is left.
+-- after segment in rising number, and one sync. If every segment of the volume is open, the other epoch and a sync then
+-- close all of them; else a 0 at its gate and a sync close each, one after the other.
 use Rattle.std.specs.Prelude.{◌≡◌, ◌==◌, ℕ, ◌+◌, ◌*◌, ◌%◌, ◌^◌, Bool, true, false, if◌then◌else◌, List, length, slice_index, sum, take}
 use Rattle.journal.specs.declared.Progress.{Progress}
 use Rattle.journal.specs.declared.Progress.TheVariants.{Working, Committed, Idle as Ended}
 use Rattle.journal.specs.declared.Next.{Next}
-use Rattle.journal.specs.declared.Next.TheVariants.{Idle, Descriptor, Image, Seal, OpenGate, Commit, Home, Settle, CloseGate, Finish}
+use Rattle.journal.specs.declared.Next.TheVariants.{Idle, Descriptor, Image, Seal, OpenGate, Commit, Home, Settle, Close, Finish}
+
+-- What a batch carries home: the number of images of each open segment, none if another closed segment is left; and
+-- whether these are all segments of the volume, so that the epoch closes them at once.
+pub record Carried : Type 0 where
+  pub counts : List ℕ
+  pub are_all : Bool
+
+-- the number of writes that close the segments which were carried home; a sync comes after each
+abbrev pub closings : Carried → ℕ
+closings carried = if length carried.counts == 0 then 0 else (if carried.are_all then 1 else length carried.counts)
 
 -- the call after a good one, in a batch of n images
-abbrev pub following : ℕ → List ℕ → Next → Next
-following n sizes Idle = Idle
-following n sizes Descriptor = Image 0
-following n sizes (Image i) = if i + 1 == n then Seal else Image (i + 1)
-following n sizes Seal = OpenGate
-following n sizes OpenGate = Commit
-following n sizes Commit = if length sizes == 0 then Idle else Home 0 0
-following n sizes (Home j i) = if i + 1 == slice_index sizes j then (if j + 1 == length sizes then Settle else Home (j + 1) 0) else Home j
-    (i + 1)
-following n sizes Settle = CloseGate 0
-following n sizes (CloseGate j) = Finish j
-following n sizes (Finish j) = if j + 1 == length sizes then Idle else CloseGate (j + 1)
+abbrev pub following : ℕ → Carried → Next → Next
+following n carried Idle = Idle
+following n carried Descriptor = Image 0
+following n carried (Image i) = if i + 1 == n then Seal else Image (i + 1)
+following n carried Seal = OpenGate
+following n carried OpenGate = Commit
+following n carried Commit = if length carried.counts == 0 then Idle else Home 0 0
+following n carried (Home j i) =
+    if i + 1 == slice_index carried.counts j then (if j + 1 == length carried.counts then Settle else Home (j + 1) 0) else Home j (i + 1)
+following n carried Settle = Close 0
+following n carried (Close j) = Finish j
+following n carried (Finish j) = if j + 1 == closings carried then Idle else Close (j + 1)
 
 -- whether the next call is a sync; any other one is a write
 abbrev pub is_sync : Next → Bool
@@ -31,8 +41,8 @@ is_sync (Finish j) = true
 is_sync next = false
 
 -- the next call after a fault: a failed write may have written its octets, and a failed sync did nothing
-abbrev pub at_fault : ℕ → List ℕ → Next → Next
-at_fault n sizes next = if is_sync next then next else following n sizes next
+abbrev pub at_fault : ℕ → Carried → Next → Next
+at_fault n carried next = if is_sync next then next else following n carried next
 
 -- whether the batch that makes this call is still to be committed
 abbrev pub is_to_commit : Next → Bool
@@ -44,46 +54,46 @@ is_to_commit Commit = true
 is_to_commit next = false
 
 -- the number of calls of a batch
-abbrev pub all_calls : ℕ → List ℕ → ℕ
-all_calls n sizes = if length sizes == 0 then n + 4 else n + 5 + sum sizes + 2 * length sizes
+abbrev pub all_calls : ℕ → Carried → ℕ
+all_calls n carried = if length carried.counts == 0 then n + 4 else n + 5 + sum carried.counts + 2 * closings carried
 
 -- the number of them that were made when this call is the next one
-abbrev pub calls_made : ℕ → List ℕ → Next → ℕ
-calls_made n sizes Idle = all_calls n sizes
-calls_made n sizes Descriptor = 0
-calls_made n sizes (Image i) = 1 + i
-calls_made n sizes Seal = n + 1
-calls_made n sizes OpenGate = n + 2
-calls_made n sizes Commit = n + 3
-calls_made n sizes (Home j i) = n + 4 + sum (take j sizes) + i
-calls_made n sizes Settle = n + 4 + sum sizes
-calls_made n sizes (CloseGate j) = n + 5 + sum sizes + 2 * j
-calls_made n sizes (Finish j) = n + 6 + sum sizes + 2 * j
+abbrev pub calls_made : ℕ → Carried → Next → ℕ
+calls_made n carried Idle = all_calls n carried
+calls_made n carried Descriptor = 0
+calls_made n carried (Image i) = 1 + i
+calls_made n carried Seal = n + 1
+calls_made n carried OpenGate = n + 2
+calls_made n carried Commit = n + 3
+calls_made n carried (Home j i) = n + 4 + sum (take j carried.counts) + i
+calls_made n carried Settle = n + 4 + sum carried.counts
+calls_made n carried (Close j) = n + 5 + sum carried.counts + 2 * j
+calls_made n carried (Finish j) = n + 6 + sum carried.counts + 2 * j
 
 -- the numbers of writes and of syncs among these
-abbrev pub writes_made : ℕ → List ℕ → Next → ℕ
-writes_made n sizes Idle = n + 2 + sum sizes + length sizes
-writes_made n sizes Descriptor = 0
-writes_made n sizes (Image i) = 1 + i
-writes_made n sizes Seal = n + 1
-writes_made n sizes OpenGate = n + 1
-writes_made n sizes Commit = n + 2
-writes_made n sizes (Home j i) = n + 2 + sum (take j sizes) + i
-writes_made n sizes Settle = n + 2 + sum sizes
-writes_made n sizes (CloseGate j) = n + 2 + sum sizes + j
-writes_made n sizes (Finish j) = n + 3 + sum sizes + j
+abbrev pub writes_made : ℕ → Carried → Next → ℕ
+writes_made n carried Idle = n + 2 + sum carried.counts + closings carried
+writes_made n carried Descriptor = 0
+writes_made n carried (Image i) = 1 + i
+writes_made n carried Seal = n + 1
+writes_made n carried OpenGate = n + 1
+writes_made n carried Commit = n + 2
+writes_made n carried (Home j i) = n + 2 + sum (take j carried.counts) + i
+writes_made n carried Settle = n + 2 + sum carried.counts
+writes_made n carried (Close j) = n + 2 + sum carried.counts + j
+writes_made n carried (Finish j) = n + 3 + sum carried.counts + j
 
-abbrev pub syncs_made : List ℕ → Next → ℕ
-syncs_made sizes Idle = if length sizes == 0 then 2 else 3 + length sizes
-syncs_made sizes Descriptor = 0
-syncs_made sizes (Image i) = 0
-syncs_made sizes Seal = 0
-syncs_made sizes OpenGate = 1
-syncs_made sizes Commit = 1
-syncs_made sizes (Home j i) = 2
-syncs_made sizes Settle = 2
-syncs_made sizes (CloseGate j) = 3 + j
-syncs_made sizes (Finish j) = 3 + j
+abbrev pub syncs_made : Carried → Next → ℕ
+syncs_made carried Idle = if length carried.counts == 0 then 2 else 3 + closings carried
+syncs_made carried Descriptor = 0
+syncs_made carried (Image i) = 0
+syncs_made carried Seal = 0
+syncs_made carried OpenGate = 1
+syncs_made carried Commit = 1
+syncs_made carried (Home j i) = 2
+syncs_made carried Settle = 2
+syncs_made carried (Close j) = 3 + j
+syncs_made carried (Finish j) = 3 + j
 
 -- n more, in a counter that wraps around like a u64
 abbrev pub IsMore : ℕ → ℕ → ℕ → Type 0
@@ -94,7 +104,7 @@ abbrev pub is_growing : Next → Bool → Bool → Bool
 is_growing next write_grows sync_grows = if is_sync next then sync_grows else write_grows
 
 -- the answer to a good call
-abbrev pub answer : ℕ → List ℕ → Next → Progress
-answer last sizes Commit = Committed last
-answer last sizes (Finish j) = if j + 1 == length sizes then Ended else Working
-answer last sizes next = Working
+abbrev pub answer : ℕ → Carried → Next → Progress
+answer last carried Commit = Committed last
+answer last carried (Finish j) = if j + 1 == closings carried then Ended else Working
+answer last carried next = Working

@@ -1,8 +1,7 @@
 //! Takes a batch into memory: its descriptor block, its numbers and its images.
 
-ghost use Rattle.std.specs.Prelude.{◌≡◌, ◌≢◌, ◌≤◌, ◌<◌, ◌+◌, ◌*◌, ◌==◌, if◌then◌else◌, ℕ, length, false};
-ghost use Rattle.std.specs.List.{All};
-ghost use Rattle.model.specs.Volume.{AreDistinct, blocks_from};
+ghost use Rattle.std.specs.Prelude.{◌≡◌, ◌≢◌, ◌≤◌, ◌<◌, ◌+◌, ◌*◌, ◌==◌, if◌then◌else◌, ℕ, length};
+ghost use Rattle.model.specs.Volume.{blocks_from};
 ghost use Rattle.journal_segments.specs.Staged.{staged_at};
 ghost use Rattle.journal_segments.specs.Found.{IsTaken};
 
@@ -11,8 +10,7 @@ use disk::Disk;
 use journal_segments::Segment;
 
 impl<D: Disk> Journal<D> {
-    ghost use Rattle.segment_laws.specs.Held.{HaveLess, IsAmong};
-    ghost use Rattle.journal.specs.Journal.{IsIdle, LeavesAdmitted, still_open};
+    ghost use Rattle.journal.specs.Journal.{IsNextBatch, LeavesAdmitted, MayBegin, begins};
 
     /// Takes a batch into the room that `open` made: images of the logical blocks with these numbers, in this order.
     /// Each later `step` makes one device call for it. The step that commits answers `last`. A batch has 1 to 512
@@ -21,37 +19,14 @@ impl<D: Disk> Journal<D> {
     /// The batch goes into the lowest closed segment. Its number is one more than the greatest of an open segment; it is
     /// 1 if none is open. The open segments are always the first ones, with the numbers from 1 on.
     pub fn begin(&mut self, last: u64, numbers: &[u32], images: &[u8])
-        requires running { self.old.halted ≡ false }
-        requires idle { IsIdle self.old }
-        requires some { 1 ≤ length numbers.now }
-        requires few { length numbers.now ≤ 512 }
-        requires below { All (λ n. n < self.old.size) numbers.now }
-        requires distinct { AreDistinct numbers.now }
-        requires images { length images.now ≡ 4096 * length numbers.now }
-
-        ensures disk { self.new.disk ≡ self.old.disk }
-        ensures label { self.new.label ≡ self.old.label }
-        ensures format { self.new.format ≡ self.old.format }
-        ensures size { self.new.size ≡ self.old.size }
-        ensures segments { self.new.segments ≡ self.old.segments }
-        ensures blocks { self.new.blocks ≡ self.old.blocks }
-        ensures running { self.new.halted ≡ false }
-        ensures next { self.new.next ≡ Next.Descriptor }
-        ensures held { self.new.held ≡ still_open self.old }
-        ensures lowest { (s : ℕ) → s < self.new.place → IsAmong s self.new.held }
-        ensures closed { IsAmong self.new.place self.new.held → ⊥ }
-        ensures greatest { HaveLess self.new.number self.new.held }
-        ensures place { self.new.place ≡ length (still_open self.old) }
-        ensures number { self.new.number ≡ length (still_open self.old) + 1 }
-        ensures last { self.new.last ≡ last }
-        ensures numbers { self.new.numbers ≡ numbers.now }
-        ensures images { self.new.images ≡ blocks_from 0 (length numbers.now) images.now }
-        ensures is_last { self.new.is_last ≡ (length (still_open self.old) + 1 == self.old.segments) }
+        requires { MayBegin self.old numbers.now images.now }
+        ensures begins { self.new ≡ begins self.old last numbers.now (blocks_from 0 (length numbers.now) images.now) }
+        ensures place { IsNextBatch self.new }
         ensures now { LeavesAdmitted D.device self.new }
     {
         let filled = lowest_closed(self.is_last, self.filled);
         fill(&mut self.room, filled, last, numbers, images);
-        self.is_last = is_last_of(&self.room, filled);
+        self.is_last = are_all(&self.room, filled);
         self.filled = filled;
         self.next = Next::Descriptor;
     }
@@ -66,7 +41,8 @@ pub(crate) fn lowest_closed(was_last: bool, filled: usize) -> usize
     if was_last { 0 } else { filled + 1 }
 }
 
-fn is_last_of(room: &Vec<Segment>, filled: usize) -> bool
+// Whether the segments up to this index are all that the volume has.
+pub(crate) fn are_all(room: &Vec<Segment>, filled: usize) -> bool
     requires { filled < 8 }
     ensures { result ≡ (filled + 1 == length room.now.items) }
 {

@@ -11,13 +11,13 @@ ghost use Rattle.std.specs.Prelude.{◌≡◌, ◌⊎◌, ◌≤◌, ◌<◌, �
 
 use batch::lowest_closed;
 use disk::{Disk, DiskCall, Faults};
+use journal_layout::layout::{FORMAT_2_AT, LABEL_AT, home_block, start_of};
+use journal_layout::read_format;
+pub use journal_layout::{FormatError, format, format_with};
 use journal_segments::{Segment, SegmentError, lay_over};
 use std::marker::Model;
 pub use stepping::each_call_is_the_next;
 use thiserror::Error;
-use volume_format::layout::{FORMAT_AT, LABEL_AT, home_block, start_of};
-use volume_format::read_format;
-pub use volume_format::{FormatError, format, format_with};
 
 /// The next device call.
 #[derive(Clone, Copy, Debug, PartialEq, Eq)]
@@ -35,9 +35,9 @@ pub enum Next {
     Home(usize, usize),
     /// The sync after the home writes.
     Settle,
-    /// The gate of one of the open segments.
-    CloseGate(usize),
-    /// The sync after that gate. The last one ends the batch.
+    /// A write that closes, counted from 0: of the other epoch if every segment is open, else of the gate of one of them.
+    Close(usize),
+    /// The sync after that write. The last one ends the batch.
     Finish(usize),
 }
 
@@ -100,7 +100,7 @@ pub struct Journal<D: Disk> {
 impl<D: Disk> Model for Journal<D> {
     ghost use Rattle.std.specs.Prelude.{length, map, take};
     ghost use Rattle.disk.specs.Image.{part};
-    ghost use Rattle.model.specs.Volume.{format_in, number_at};
+    ghost use Rattle.model.specs.Volume.{epoch_in, format_in, number_at};
     ghost use Rattle.journal_segments.specs.Staged.{held_as, staged_at};
     ghost use Rattle.journal.specs.Inside.{IsKept, blocks_without};
     ghost use Rattle.journal.specs.Journal.{JournalView};
@@ -111,6 +111,7 @@ impl<D: Disk> Model for Journal<D> {
       disk = j.disk;
       label = part 20 128 j.superblock.items;
       format = format_in j.superblock.items;
+      epoch = epoch_in j.superblock.items;
       size = j.blocks;
       segments = length j.room.items;
       blocks = blocks_without (staged_at j.room.items j.filled).place j.next (D.device j.disk).content;
@@ -146,13 +147,14 @@ impl<D: Disk> Journal<D> {
         ensures label { result.now ≡ self.now.label }
         ensures size { length result.now ≡ 128 }
     {
-        &self.superblock[LABEL_AT..FORMAT_AT]
+        &self.superblock[LABEL_AT..FORMAT_2_AT]
     }
 
-    /// The format of the volume, 1 or 2.
+    /// The format of the volume, 1 to 3.
     pub fn format_number(&self) -> u32
         ensures format { result ≡ self.now.format }
-        ensures some { (result ≡ 1) ⊎ (result ≡ 2) }
+        ensures some { 1 ≤ result }
+        ensures few { result ≤ 3 }
     {
         read_format(&self.superblock)
     }
@@ -184,21 +186,28 @@ impl<D: Disk> Journal<D> {
     ///
     /// The only refusal is `Fault`, which leaves any octets in `into` and halts the journal for good.
     pub fn load(&mut self, start: u64, into: &mut [u8]) -> Result<(), JournalError>
+        // A running journal, which has these blocks.
         requires idle { IsIdle self.old }
         requires running { self.old.halted ≡ false }
         requires below { 4096 * start + length into.old ≤ 4096 * self.old.size }
+
+        // What is read, and what stays of the journal.
         ensures value { IsTrue (D.device self.old.disk).tells → OnOk result ((k : ℕ) → 4096 * k + 4096 ≤ length into.old
             → block k into.new ≡ slice_index_or self.old.blocks (start + k) []) }
         ensures room { length into.new ≡ length into.old }
         ensures same { IsSameBatch self.old self.new }
         ensures blocks { IsTrue (D.device self.old.disk).tells → self.new.blocks ≡ self.old.blocks }
         ensures next { IsIdle self.new }
+
+        // What a refusal leaves, and what the device was asked.
         ensures ok { OnOk result (self.new.halted ≡ false) }
         ensures no_other { IfErr result (λ error. error ≡ JournalError.Fault) }
         ensures halts { IfErr result (λ error. error ≡ JournalError.Fault → self.new.halted ≡ true) }
         ensures failures { CountsFailures result (D.device self.old.disk) (D.device self.new.disk) }
         ensures call { IsRead (D.device self.old.disk) (D.device self.new.disk) }
         ensures time { Elapses (D.device self.old.disk) (D.device self.new.disk) }
+
+        // The blocks are whole, and a crash leaves what the journal admits.
         ensures whole { HasWholeBlocks D.device self.new }
         ensures now { LeavesAdmitted D.device self.new }
         ensures since { LeftAdmitted D.device self.old self.new }

@@ -9,18 +9,19 @@ ghost use Rattle.journal_segments.specs.Found.{IsQuiet, IsStill};
 ghost use Rattle.journal.specs.Inside.{IsFound, IsSynced, IsVolume, LeftAs};
 ghost use Rattle.journal.specs.Journal.{IsCaused, IsDuring, IsReady, LeavesAdmitted, HasWholeBlocks, sizes, still_open};
 ghost use Rattle.journal_segments.specs.Found.{Rejects};
+ghost use Rattle.journal.specs.Order.{closings};
 ghost use Rattle.journal.specs.Opening.{Costs, IsMore, NeverSyncs, Opens, Refuses, SyncsFirst, home_syncs, home_writes};
 
 use crate::{Journal, JournalError, Next, Refused};
 use disk::{Disk, DiskError};
+use disk_numbers::zeros;
+use journal_layout::layout::{BLOCK, SEGMENTS};
 use journal_segments::{Segment, SegmentError, find_open, load_superblock};
-use octet_numbers::zeros;
 use std::alloc::{AllocError, Global};
-use volume_format::layout::{BLOCK, SEGMENTS};
 
 impl<D: Disk> Journal<D> {
     /// Opens the volume on the device: one sync, then the reads. The images of the open segments are carried home in
-    /// rising batch number and their gates are closed, as in the second half of a batch. All the memory that the
+    /// rising batch number and these are closed, as in the second half of a batch. All the memory that the
     /// journal needs is taken here, before the first call.
     ///
     /// `Fault` if the device failed in this call; `Memory` if an allocation was refused, here or to the device.
@@ -127,14 +128,19 @@ fn open_synced<D: Disk>(room: Room, mut disk: D) -> Result<Journal<D>, Refused<D
 }
 
 fn replay<D: Disk>(mut journal: Journal<D>) -> Result<Journal<D>, Refused<D>>
+    // The journal is about to carry images home, and a crash leaves what it admits.
     requires next { journal.next ≡ Next.Home 0 0 }
     requires running { journal.halted ≡ false }
-    requires some { (0 < length (sizes journal)) × (0 < slice_index (sizes journal) 0) }
+    requires some { (0 < length (sizes journal).counts) × (0 < slice_index (sizes journal).counts 0) }
     requires now { LeavesAdmitted D.device journal }
-    ensures cost { IfOk result (λ after. IsMore (sum (sizes journal) + length (sizes journal)) (D.device journal.disk).writes
-        (D.device after.disk).writes × IsMore (1 + length (sizes journal)) (D.device journal.disk).syncs (D.device after.disk).syncs) }
+
+    // What this costs, and a ready journal with the same blocks.
+    ensures cost { IfOk result (λ after. IsMore (sum (sizes journal).counts + closings (sizes journal)) (D.device journal.disk).writes
+        (D.device after.disk).writes × IsMore (1 + closings (sizes journal)) (D.device journal.disk).syncs (D.device after.disk).syncs) }
     ensures ok { IfOk result (λ after. IsReady after × IsDuring D.device journal after
         × ((D.device after.disk).failures ≡ (D.device journal.disk).failures)) }
+
+    // A refusal has a cause in the device, which still holds the volume.
     ensures err { IfErr result (λ refused. IsCaused refused.error (D.device journal.disk) (D.device refused.disk)
         × Elapses (D.device journal.disk) (D.device refused.disk)
         × LeftAs (D.device journal.disk) (D.device refused.disk) journal.format journal.label journal.blocks) }
@@ -152,12 +158,17 @@ fn replay<D: Disk>(mut journal: Journal<D>) -> Result<Journal<D>, Refused<D>>
 
 // A journal whose segments are all closed.
 fn at_rest<D: Disk>(disk: D, superblock: Vec<u8>, blocks: u64, room: Vec<Segment>) -> Journal<D>
+    // The opening found no open segment.
     requires found { IsFound (D.device disk) superblock.items blocks room.items 0 }
+
+    // The same device, and nothing in flight or to be carried home.
     ensures disk { result.disk ≡ disk }
     ensures none { IsTrue (D.device disk).tells → open_segments (D.device disk).content ≡ [] }
     ensures next { result.next ≡ Next.Idle }
     ensures rest { still_open result ≡ [] }
     ensures running { result.halted ≡ false }
+
+    // The device's content stands for the blocks, and so does what a crash leaves.
     ensures stands { IsTrue (D.device disk).tells → StandsFor (D.device disk).content result.label result.blocks }
     ensures format { IsTrue (D.device disk).tells → format_number (D.device disk).content ≡ result.format }
     ensures whole { HasWholeBlocks D.device result }
@@ -183,16 +194,25 @@ fn to_be_replayed<D: Disk>(
     room: Vec<Segment>,
     found: usize,
 ) -> Journal<D>
+    // The opening found open segments.
     requires some { 0 < found }
     requires found { IsFound (D.device disk) superblock.items blocks room.items found }
+
+    // The same device, and the writes and syncs that the replay makes.
     ensures disk { result.disk ≡ disk }
     ensures open { IsTrue (D.device disk).tells
-        → home_writes (D.device disk).content (open_segments (D.device disk).content) ≡ sum (sizes result) + length (sizes result) }
-    ensures syncs { IsTrue (D.device disk).tells → home_syncs (open_segments (D.device disk).content) ≡ 1 + length (sizes result) }
+        → home_writes (D.device disk).content (open_segments (D.device disk).content)
+        ≡ sum (sizes result).counts + closings (sizes result) }
+    ensures syncs { IsTrue (D.device disk).tells
+        → home_syncs (D.device disk).content (open_segments (D.device disk).content) ≡ 1 + closings (sizes result) }
+
+    // The next call writes the first image home.
     ensures next { result.next ≡ Next.Home 0 0 }
     ensures rest { result.is_last ≡ true }
     ensures running { result.halted ≡ false }
-    ensures some { (0 < length (sizes result)) × (0 < slice_index (sizes result) 0) }
+    ensures some { (0 < length (sizes result).counts) × (0 < slice_index (sizes result).counts 0) }
+
+    // The device's content stands for the blocks, and so does what a crash leaves.
     ensures stands { IsTrue (D.device disk).tells → StandsFor (D.device disk).content result.label result.blocks }
     ensures format { IsTrue (D.device disk).tells → format_number (D.device disk).content ≡ result.format }
     ensures whole { HasWholeBlocks D.device result }
@@ -216,20 +236,25 @@ fn load<D: Disk>(
     superblock: &mut Vec<u8>,
     room: &mut Vec<Segment>,
 ) -> Result<(u64, usize), SegmentError>
+    // Room for a superblock and eight segments, and a device that was synced.
     requires superblock { length superblock.old.items ≡ 4096 }
     requires many { length room.old.items ≡ 8 }
     requires place { (staged_at room.old.items 0).place ≡ 0 }
     requires synced { IsTrue (D.device disk.old).tells → LeavesOnly (D.device disk.old) (D.device disk.old).content }
+
+    // The device is only read, and after `Ok` no read has failed.
     ensures quiet { IsQuiet (D.device disk.old) (D.device disk.new) }
     ensures still { OnOk result (IsStill (D.device disk.old) (D.device disk.new)) }
+
+    // What was found, or the cause of a refusal.
     ensures found { IfOk result (λ found. IsFound (D.device disk.new) superblock.new.items found.0 room.new.items found.1) }
     ensures err { IfErr result (λ error. Rejects error (D.device disk.old) (D.device disk.new)) }
 {
     match load_superblock(disk, superblock) {
-        Ok(sizes) => {
-            leave_first(room, sizes.segments as usize);
-            match find_open(disk, sizes.blocks, room) {
-                Ok(found) => Ok((sizes.blocks, found)),
+        Ok(volume) => {
+            leave_first(room, volume.segments as usize);
+            match find_open(disk, volume, room) {
+                Ok(found) => Ok((volume.blocks, found)),
                 Err(error) => Err(error),
             }
         }

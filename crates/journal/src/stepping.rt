@@ -1,20 +1,23 @@
 //! Makes the device calls of a batch, one per step.
 
-ghost use Rattle.std.specs.Prelude.{◌≡◌, ◌≢◌, ◌≤◌, ◌<◌, ◌+◌, ◌*◌, ◌⊎◌, ◌==◌, ◌^◌, ℕ, List, length, [], ◌∷◌, slice_index, slice_index_or};
+ghost use Rattle.std.specs.Prelude.{◌≡◌, ◌≢◌, ◌≤◌, ◌<◌, ◌+◌, ◌*◌, ◌⊎◌, ◌==◌, ◌^◌, ℕ, length, slice_index};
 ghost use Rattle.std.specs.Prelude.{sum, true, false, OnOk, IfErr, IsTrue, if◌then◌else◌};
-ghost use Rattle.model.specs.Volume.{descriptor_place, gate_place, home_place, image_place};
+ghost use Rattle.model.specs.Volume.{home_place};
 ghost use Rattle.journal_segments.specs.Staged.{staged_at};
-ghost use Rattle.journal.specs.Flight.{all_of, flight_in, sizes_of};
-ghost use Rattle.journal.specs.Inside.{IsWithin};
-ghost use Rattle.journal.specs.Order.{following, calls_made, writes_made, syncs_made, is_growing, is_sync, at_fault, answer};
-ghost use Rattle.journal.specs.Opening.{IsMore};
-ghost use Rattle.journal.specs.Calls.{Call, IsAsked, call_at};
+ghost use Rattle.journal.specs.Flight.{flight_in, sizes_of};
+ghost use Rattle.journal.specs.Inside.{IsWithin, superblock_after};
+ghost use Rattle.journal.specs.Order.{Carried, IsMore, answer, at_fault, calls_made, closings, following, is_growing, is_sync};
+ghost use Rattle.journal.specs.Order.{syncs_made, writes_made};
+ghost use Rattle.disk.specs.Calls.{Does};
+ghost use Rattle.journal.specs.Calls.{call_at, written_in};
 
+use crate::batch::are_all;
 use crate::{Journal, JournalError, Next, Progress};
 use disk::{Disk, DiskError};
-use journal_segments::Segment;
-use volume_format::layout::{
-    CLOSED, OPEN, descriptor_block, gate_block, home_block, image_block, start_of,
+use journal_layout::layout::{CLOSED, EPOCH_AT, put_octets};
+use journal_layout::{other_epoch, read_epoch};
+use journal_segments::{
+    Segment, write_descriptor, write_epoch, write_gate, write_home, write_image,
 };
 
 impl<D: Disk> Journal<D> {
@@ -26,8 +29,11 @@ impl<D: Disk> Journal<D> {
     /// A fault of the device halts the journal: this step answers `Fault`, and each later one `Halted`. A call that the
     /// device refuses for want of memory is not made: the answer is `Memory`, and the next step asks that call again.
     pub fn step(&mut self) -> Result<Progress, JournalError>
+        // Where no call is made, nothing changes.
         ensures halted { self.old.halted ≡ true → (result ≡ Err JournalError.Halted) × (self.new ≡ self.old) }
         ensures idle { self.old.halted ≡ false → IsIdle self.old → (result ≡ Ok Progress.Idle) × (self.new ≡ self.old) }
+
+        // The call that is made, and the causes of a refusal.
         ensures call { self.old.halted ≡ false → (IsIdle self.old → ⊥) → OnMade result (MakesCall D.device self.old self.new result) }
         ensures retried { self.old.halted ≡ false → (IsIdle self.old → ⊥) → OnRetried result (IsRetried D.device self.old self.new) }
         ensures no_other { self.old.halted ≡ false → IfErr result (λ error. (error ≡ JournalError.Fault) ⊎ (error ≡ JournalError.Memory)) }
@@ -45,11 +51,14 @@ impl<D: Disk> Journal<D> {
             return Ok(Progress::Idle);
         }
         let asked = self.next;
-        match ask(&mut self.disk, asked, &self.room, self.filled) {
+        let epoch = read_epoch(&self.superblock);
+        match ask(&mut self.disk, asked, &self.room, self.filled, epoch) {
             Ok(()) => {
                 self.next = call_after(asked, &self.room, self.filled, self.is_last);
+                let all = are_all(&self.room, self.filled);
+                keep_epoch(&mut self.superblock, asked, all, epoch);
                 let last = segment_at(&self.room, self.filled).last();
-                Ok(answer_to(asked, last, self.filled))
+                Ok(answer_to(asked, last, closings(&self.room, self.filled)))
             }
             Err(DiskError::Fault) => {
                 self.next = call_at_fault(asked, &self.room, self.filled, self.is_last);
@@ -62,13 +71,18 @@ impl<D: Disk> Journal<D> {
 
     // Steps until the batch in flight has ended, from its first home write on.
     pub(crate) fn carry_home(&mut self) -> Result<(), JournalError>
+        // The journal is about to carry images home, and a crash leaves what it admits.
         requires next { self.old.next ≡ Next.Home 0 0 }
         requires running { self.old.halted ≡ false }
-        requires some { (0 < length (sizes self.old)) × (0 < slice_index (sizes self.old) 0) }
+        requires some { (0 < length (sizes self.old).counts) × (0 < slice_index (sizes self.old).counts 0) }
         requires now { LeavesAdmitted D.device self.old }
+
+        // The logical blocks stay the same, also in what a crash leaves.
         ensures during { IsDuring D.device self.old self.new }
-        ensures cost { OnOk result (IsMore (sum (sizes self.old) + length (sizes self.old)) (D.device self.old.disk).writes
-            (D.device self.new.disk).writes × IsMore (1 + length (sizes self.old)) (D.device self.old.disk).syncs
+
+        // What `Ok` costs and leaves, and why the run is refused.
+        ensures cost { OnOk result (IsMore (sum (sizes self.old).counts + closings (sizes self.old)) (D.device self.old.disk).writes
+            (D.device self.new.disk).writes × IsMore (1 + closings (sizes self.old)) (D.device self.old.disk).syncs
             (D.device self.new.disk).syncs) }
         ensures ok { OnOk result ((self.new.next ≡ Next.Idle) × (self.new.halted ≡ false)
             × ((D.device self.new.disk).failures ≡ (D.device self.old.disk).failures)) }
@@ -83,18 +97,20 @@ impl<D: Disk> Journal<D> {
 
 /// Counts the calls of a batch of n images. Each good call leads to the next one. Call n + 4 is the sync that commits.
 /// If a closed segment is left, that sync ends the batch, after n + 2 writes and 2 syncs. Otherwise the batch ends at
-/// call n + 5, plus one for each image that the open segments carry home and two for each gate.
+/// call n + 5, plus one for each image that the open segments carry home and two for each write that closes.
 pub fn each_call_is_the_next()
-    ensures next { (n : ℕ) (sizes : List ℕ) (next : Next) → next ≢ Next.Idle
-        → calls_made n sizes (following n sizes next) ≡ calls_made n sizes next + 1 }
-    ensures writes { (n : ℕ) (sizes : List ℕ) (next : Next) → next ≢ Next.Idle
-        → writes_made n sizes (following n sizes next) ≡ (if is_sync next then writes_made n sizes next else writes_made n sizes next + 1) }
-    ensures syncs { (n : ℕ) (sizes : List ℕ) (next : Next) → next ≢ Next.Idle
-        → syncs_made sizes (following n sizes next) ≡ (if is_sync next then syncs_made sizes next + 1 else syncs_made sizes next) }
-    ensures cost { (n : ℕ) (sizes : List ℕ)
-        → (writes_made n sizes (following n sizes Next.Commit) ≡ n + 2) × (syncs_made sizes (following n sizes Next.Commit) ≡ 2) }
-    ensures committed { (n : ℕ) (sizes : List ℕ) → calls_made n sizes (following n sizes Next.Commit) ≡ n + 4 }
-    ensures ended { (n : ℕ) (sizes : List ℕ) → 0 < length sizes → calls_made n sizes Next.Idle ≡ n + 5 + sum sizes + 2 * length sizes }
+    ensures next { (n : ℕ) (carried : Carried) (next : Next) → next ≢ Next.Idle
+        → calls_made n carried (following n carried next) ≡ calls_made n carried next + 1 }
+    ensures writes { (n : ℕ) (carried : Carried) (next : Next) → next ≢ Next.Idle
+        → writes_made n carried (following n carried next)
+        ≡ (if is_sync next then writes_made n carried next else writes_made n carried next + 1) }
+    ensures syncs { (n : ℕ) (carried : Carried) (next : Next) → next ≢ Next.Idle
+        → syncs_made carried (following n carried next) ≡ (if is_sync next then syncs_made carried next + 1 else syncs_made carried next) }
+    ensures cost { (n : ℕ) (carried : Carried)
+        → (writes_made n carried (following n carried Next.Commit) ≡ n + 2) × (syncs_made carried (following n carried Next.Commit) ≡ 2) }
+    ensures committed { (n : ℕ) (carried : Carried) → calls_made n carried (following n carried Next.Commit) ≡ n + 4 }
+    ensures ended { (n : ℕ) (carried : Carried) → 0 < length carried.counts
+        → calls_made n carried Next.Idle ≡ n + 5 + sum carried.counts + 2 * closings carried }
 {}
 
 pub(crate) fn is_idle(next: Next) -> bool
@@ -113,31 +129,75 @@ fn ask<D: Disk>(
     next: Next,
     room: &Vec<Segment>,
     filled: usize,
+    epoch: u8,
 ) -> Result<(), DiskError>
+    // A batch is in flight, and the segments of the room lie on the device.
+    requires epoch { (1 ≤ epoch) × (epoch ≤ 2) }
     requires flies { next ≢ Next.Idle }
     requires there { filled < length room.now.items }
     requires few { length room.now.items ≤ 8 }
     requires size { 4096 * home_place (length room.now.items) 0 ≤ (D.device disk.old).size }
     requires place { (staged_at room.now.items filled).place < length room.now.items }
+
+    // The image, the block or the gate that the call names is there.
     requires image { (i : ℕ) → next ≡ Next.Image i → i < length (staged_at room.now.items filled).numbers }
     requires carried { (j i : ℕ) → next ≡ Next.Home j i → (j ≤ filled) × (i < length (staged_at room.now.items j).numbers) }
     requires home { (j i : ℕ) → next ≡ Next.Home j i
         → 4096 * home_place (length room.now.items) (slice_index (staged_at room.now.items j).numbers i) + 4096 ≤ (D.device disk.old).size }
-    requires gate { (j : ℕ) → next ≡ Next.CloseGate j → (j ≤ filled) × ((staged_at room.now.items j).place < length room.now.items) }
-    ensures asked { IsAsked
-        (call_at next (length room.now.items) (all_of (flight_in room.now.items filled true)) (staged_at room.now.items filled).place
-        (staged_at room.now.items filled).descriptor (staged_at room.now.items filled).images)
-        result (D.device disk.old) (D.device disk.new) }
+    requires gate { (j : ℕ) → next ≡ Next.Close j → (j ≤ filled) × ((staged_at room.now.items j).place < length room.now.items) }
+
+    // The device does this call. It is refused for memory only where it may grow.
+    ensures does { Does D.write_grows D.sync_grows (call_at next (written_in room.now.items filled epoch)) result
+        (D.device disk.old) (D.device disk.new) }
     ensures memory { IfErr result (λ error. error ≡ DiskError.Memory → IsTrue (is_growing next D.write_grows D.sync_grows)) }
 {
     match next {
         Next::Descriptor => write_descriptor(disk, segment_at(room, filled)),
         Next::Image(i) => write_image(disk, segment_at(room, filled), i),
-        Next::OpenGate => write_gate(disk, segment_at(room, filled), OPEN),
+        Next::OpenGate => write_gate(disk, segment_at(room, filled), epoch),
         Next::Home(j, i) => write_home(disk, room.len() as u32, segment_at(room, j), i),
-        Next::CloseGate(j) => write_gate(disk, segment_at(room, j), CLOSED),
-        Next::Seal | Next::Commit | Next::Settle | Next::Finish(_) => sync(disk),
+        Next::Close(j) => close(disk, j, room, filled, epoch),
+        Next::Seal | Next::Commit | Next::Settle | Next::Finish(_) => disk.sync(),
         Next::Idle => unreachable!(),
+    }
+}
+
+// Writes the other epoch if every segment is open, else a 0 at the gate of the one with the index j.
+fn close<D: Disk>(
+    disk: &mut D,
+    j: usize,
+    room: &Vec<Segment>,
+    filled: usize,
+    epoch: u8,
+) -> Result<(), DiskError>
+    requires epoch { (1 ≤ epoch) × (epoch ≤ 2) }
+    requires there { filled < length room.now.items }
+    requires few { length room.now.items ≤ 8 }
+    requires size { 4096 * home_place (length room.now.items) 0 ≤ (D.device disk.old).size }
+    requires gate { (j ≤ filled) × ((staged_at room.now.items j).place < length room.now.items) }
+    ensures { Does D.write_grows D.sync_grows (call_at (Next.Close j) (written_in room.now.items filled epoch)) result
+        (D.device disk.old) (D.device disk.new) }
+{
+    if are_all(room, filled) {
+        write_epoch(disk, other_epoch(epoch))
+    } else {
+        write_gate(disk, segment_at(room, j), CLOSED)
+    }
+}
+
+// After a good write of the other epoch the superblock in memory has it too.
+fn keep_epoch(superblock: &mut Vec<u8>, asked: Next, all: bool, epoch: u8)
+    requires epoch { (1 ≤ epoch) × (epoch ≤ 2) }
+    requires size { length superblock.old.items ≡ 4096 }
+    ensures { superblock.new.items ≡ superblock_after all epoch asked superblock.old.items }
+{
+    match asked {
+        Next::Close(_) => {
+            if all {
+                put_octets(superblock.as_mut_slice(), EPOCH_AT, &[other_epoch(epoch)]);
+            }
+        }
+        _ => {}
     }
 }
 
@@ -146,78 +206,6 @@ fn segment_at(room: &Vec<Segment>, i: usize) -> &Segment
     ensures { result.now ≡ staged_at room.now.items i }
 {
     &room[i]
-}
-
-fn write_descriptor<D: Disk>(disk: &mut D, segment: &Segment) -> Result<(), DiskError>
-    requires low { segment.now.place < 8 }
-    requires size { 4096 * gate_place (segment.now.place + 1) ≤ (D.device disk.old).size }
-    ensures asked { IsAsked
-        (Call.Write (4096 * descriptor_place segment.now.place) segment.now.descriptor)
-        result (D.device disk.old) (D.device disk.new) }
-    ensures memory { IfErr result (λ error. error ≡ DiskError.Memory → IsTrue D.write_grows) }
-{
-    write(
-        disk,
-        descriptor_block(segment.place()),
-        segment.descriptor(),
-    )
-}
-
-fn write_image<D: Disk>(disk: &mut D, segment: &Segment, i: usize) -> Result<(), DiskError>
-    requires low { segment.now.place < 8 }
-    requires size { 4096 * gate_place (segment.now.place + 1) ≤ (D.device disk.old).size }
-    requires there { i < length segment.now.numbers }
-    ensures asked { IsAsked
-        (Call.Write (4096 * image_place segment.now.place i) (slice_index_or segment.now.images i []))
-        result (D.device disk.old) (D.device disk.new) }
-    ensures memory { IfErr result (λ error. error ≡ DiskError.Memory → IsTrue D.write_grows) }
-{
-    prove!(i < segment.count());
-    let image = segment.image(i);
-    write(disk, image_block(segment.place(), i), image)
-}
-
-fn write_gate<D: Disk>(disk: &mut D, segment: &Segment, octet: u8) -> Result<(), DiskError>
-    requires low { segment.now.place < 8 }
-    requires size { 4096 * gate_place (segment.now.place + 1) ≤ (D.device disk.old).size }
-    ensures asked { IsAsked (Call.Write (4096 * gate_place segment.now.place) (octet ∷ [])) result (D.device disk.old) (D.device disk.new) }
-    ensures memory { IfErr result (λ error. error ≡ DiskError.Memory → IsTrue D.write_grows) }
-{
-    write(disk, gate_block(segment.place()), &[octet])
-}
-
-fn write_home<D: Disk>(
-    disk: &mut D,
-    segments: u32,
-    segment: &Segment,
-    i: usize,
-) -> Result<(), DiskError>
-    requires few { segments ≤ 8 }
-    requires there { i < length segment.now.numbers }
-    requires size { 4096 * home_place segments (slice_index segment.now.numbers i) + 4096 ≤ (D.device disk.old).size }
-    ensures asked { IsAsked
-        (Call.Write (4096 * home_place segments (slice_index segment.now.numbers i)) (slice_index_or segment.now.images i []))
-        result (D.device disk.old) (D.device disk.new) }
-    ensures memory { IfErr result (λ error. error ≡ DiskError.Memory → IsTrue D.write_grows) }
-{
-    let home = home_block(segments, u64::from(segment.number(i)));
-    write(disk, home, segment.image(i))
-}
-
-fn write<D: Disk>(disk: &mut D, block: u64, octets: &[u8]) -> Result<(), DiskError>
-    requires low { block < 2 ^ 40 }
-    requires fits { 4096 * block + length octets.now ≤ (D.device disk.old).size }
-    ensures asked { IsAsked (Call.Write (4096 * block) octets.now) result (D.device disk.old) (D.device disk.new) }
-    ensures memory { IfErr result (λ error. error ≡ DiskError.Memory → IsTrue D.write_grows) }
-{
-    disk.write(start_of(block), octets)
-}
-
-pub(crate) fn sync<D: Disk>(disk: &mut D) -> Result<(), DiskError>
-    ensures asked { IsAsked Call.Sync result (D.device disk.old) (D.device disk.new) }
-    ensures memory { IfErr result (λ error. error ≡ DiskError.Memory → IsTrue D.sync_grows) }
-{
-    disk.sync()
 }
 
 // The call after a good one.
@@ -236,9 +224,9 @@ fn call_after(next: Next, room: &Vec<Segment>, filled: usize, is_last: bool) -> 
         Next::OpenGate => Next::Commit,
         Next::Commit if is_last => Next::Home(0, 0),
         Next::Home(j, i) => after_home(j, i, segment_at(room, j).count(), filled),
-        Next::Settle => Next::CloseGate(0),
-        Next::CloseGate(j) => Next::Finish(j),
-        Next::Finish(j) => after_gate(j, filled),
+        Next::Settle => Next::Close(0),
+        Next::Close(j) => Next::Finish(j),
+        Next::Finish(j) => after_close(j, closings(room, filled)),
         Next::Commit | Next::Idle => Next::Idle,
     }
 }
@@ -270,15 +258,24 @@ fn after_home(j: usize, i: usize, count: usize, last: usize) -> Next
     }
 }
 
-fn after_gate(j: usize, last: usize) -> Next
-    requires there { j ≤ last }
-    requires few { last < 2 ^ 32 }
-    ensures { result ≡ (if j + 1 == last + 1 then Next.Idle else Next.CloseGate (j + 1)) }
+// The number of writes that close the segments up to this index, once these are carried home.
+fn closings(room: &Vec<Segment>, filled: usize) -> usize
+    requires there { filled < length room.now.items }
+    requires few { length room.now.items ≤ 8 }
+    ensures count { result ≡ closings (sizes_of (flight_in room.now.items filled true)) }
+    ensures some { 0 < result }
 {
-    if j == last {
+    if are_all(room, filled) { 1 } else { filled + 1 }
+}
+
+fn after_close(j: usize, count: usize) -> Next
+    requires there { j < count }
+    ensures { result ≡ (if j + 1 == count then Next.Idle else Next.Close (j + 1)) }
+{
+    if j + 1 == count {
         Next::Idle
     } else {
-        Next::CloseGate(j + 1)
+        Next::Close(j + 1)
     }
 }
 
@@ -297,15 +294,14 @@ fn call_at_fault(next: Next, room: &Vec<Segment>, filled: usize, is_last: bool) 
     }
 }
 
-// The answer to a good call, in a batch with this last serial. If all segments are carried home, the one with the index
-// `filled` is the last.
-fn answer_to(next: Next, last: u64, filled: usize) -> Progress
-    requires few { filled < 8 }
-    ensures { (sizes : List ℕ) → ((j : ℕ) → next ≡ Next.Finish j → length sizes ≡ filled + 1) → result ≡ answer last sizes next }
+// The answer to a good call, in a batch with this last serial that so many writes close.
+fn answer_to(next: Next, last: u64, count: usize) -> Progress
+    requires { 0 < count }
+    ensures { (carried : Carried) → ((j : ℕ) → next ≡ Next.Finish j → closings carried ≡ count) → result ≡ answer last carried next }
 {
     match next {
         Next::Commit => Progress::Committed(last),
-        Next::Finish(j) if j == filled => Progress::Idle,
+        Next::Finish(j) if j == count - 1 => Progress::Idle,
         _ => Progress::Working,
     }
 }

@@ -5,7 +5,7 @@ use Rattle.disk.specs.Device.{Device}
 use Rattle.disk.proofs.Images.{length-part}
 use Rattle.model.specs.Volume.{AreDistinct, IsDescriptor, block, blocks_from, descriptor_place, listed, number_at}
 use Rattle.model.proofs.Blocks.{get_or-blocks_from}
-use Rattle.segment_laws.proofs.Blocks.{length-blocks_from}
+use Rattle.journal_laws.proofs.Blocks.{length-blocks_from}
 use Rattle.journal_segments.specs.Staged.{IsSound}
 use Rattle.journal_segments.specs.Found.{AreLoaded, IsReadFrom}
 

@@ -2,9 +2,9 @@
 use Rattle.std.proofs.Common.{◌≡◌, ◌≢◌, ◌<◌, ℕ, suc, ◌+◌, List, [], ◌∷◌, length, get_or, map, set, take, sym, ◌∙◌, ap, arith}
 use Rattle.std.proofs.lemmas.List.{get_or-set_other, get_or-set_same, map-append, map_more, take_all}
 use Rattle.model.specs.Volume.{Batch, all_laid_over, laid_over}
-use Rattle.segment_laws.specs.Held.{HeldBatch, batches_of}
-use Rattle.segment_laws.proofs.Carrying.{laid_next}
-use Rattle.segment_laws.proofs.Laying.{all_append, length-all}
+use Rattle.journal_laws.specs.Held.{HeldBatch, batches_of}
+use Rattle.journal_laws.proofs.Carrying.{laid_next}
+use Rattle.journal_laws.proofs.Laying.{all_append, length-all}
 use Rattle.journal_segments.specs.Staged.{Staged, held_as, none_staged, staged_at}
 
 -- one more image, of this block or of another

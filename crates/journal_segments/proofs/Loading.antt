@@ -7,8 +7,8 @@ use Rattle.disk.specs.Device.{Device}
 use Rattle.disk.specs.Image.{part, overwritten}
 use Rattle.disk.proofs.Images.{length-part, get_or-part}
 use Rattle.journal_segments.specs.Found.{AreLoaded, IsQuiet, IsStill}
-use Rattle.model.specs.Volume.{block, gate_place, image_place, is_open}
-use Rattle.segment_laws.proofs.Blocks.{overwritten_same, block-overwritten}
+use Rattle.model.specs.Volume.{block, epoch_of, gate_place, image_place, is_open}
+use Rattle.journal_laws.proofs.Blocks.{overwritten_same, block-overwritten}
 
 pub quiet_then : (a b c : Device) → IsQuiet a b → IsQuiet b c → IsQuiet a c
 quiet_then a b c first second = record {
@@ -43,12 +43,14 @@ loaded_more s i x octets within room loaded k low = elim (cases_eq k i) [
     fits : 4096 * i + length (block (image_place s i) x) ≤ length octets
     fits = omega (arith, whole, room)
 
--- one octet tells whether a gate is open
-pub gate_at : (s : ℕ) (x gate : List ℕ) → gate ≡ part (4096 * gate_place s) 1 x → eqb (get_or gate 0 0) 1 ≡ is_open s x
-gate_at s x gate is =
-    ap (λ (l : List ℕ). eqb (get_or l 0 0) 1) is
-    ∙ ap (λ (n : ℕ). eqb n 1) (get_or-part (4096 * gate_place s) 1 x 0 0 (omega arith)
+-- one octet and the epoch tell whether a gate is open
+pub gate_at : (s epoch : ℕ) (x gate : List ℕ) → epoch_of x ≡ epoch → gate ≡ part (4096 * gate_place s) 1 x
+    → eqb (get_or gate 0 0) epoch ≡ is_open s x
+gate_at s epoch x gate its is =
+    ap (λ (l : List ℕ). eqb (get_or l 0 0) epoch) is
+    ∙ ap (λ (n : ℕ). eqb n epoch) (get_or-part (4096 * gate_place s) 1 x 0 0 (omega arith)
     ∙ sym (get_or-part (4096 * gate_place s) 4096 x 0 0 (omega arith)))
+    ∙ ap (λ (e : ℕ). eqb (get_or (block (gate_place s) x) 0 0) e) (sym its)
 
 -- a part that was read into its place
 pub put_block : (a k : ℕ) (xs ys whole : List ℕ) → ys ≡ whole → a + k ≡ a + length whole

@@ -2,8 +2,8 @@
 use Rattle.std.proofs.Common.{◌≡◌, ◌<◌, ◌≤◌, ℕ, List, length, take, sym, ◌∙◌, arith}
 use Rattle.std.proofs.lemmas.List.{ext_get_or, get_or-take, length-take-le}
 use Rattle.model.specs.Volume.{batch_in, number_at}
-use Rattle.segment_laws.specs.Held.{IsWrittenIn}
-use Rattle.segment_laws.proofs.Writing.{batch_written}
+use Rattle.journal_laws.specs.Held.{IsWrittenIn}
+use Rattle.journal_laws.proofs.Writing.{batch_written}
 use Rattle.journal_segments.specs.Staged.{IsStaged, Staged, held_as, none_staged, staged_at}
 
 -- lists that are the same up to a place

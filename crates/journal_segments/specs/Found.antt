@@ -3,7 +3,7 @@ use Rattle.std.specs.Prelude.{◌≡◌, ◌≢◌, ◌<◌, ◌≤◌, ℕ, ◌
 use Rattle.std.specs.List.{filter, range_with_len}
 use Rattle.disk.specs.Device.{Device}
 use Rattle.model.specs.Volume.{IsDescriptor, StandsFor, block, blocks_from, descriptor_of, image_place, is_open, listed, number_at}
-use Rattle.segment_laws.specs.Held.{AreRising, IsWrittenIn, held_at, sorted_held}
+use Rattle.journal_laws.specs.Held.{AreRising, IsWrittenIn, held_at, sorted_held}
 use Rattle.journal_segments.specs.Staged.{IsStaged, Staged, held_as, staged_at}
 use Rattle.journal_segments.specs.declared.SegmentError.{SegmentError}
 use Rattle.journal_segments.specs.declared.SegmentError.TheVariants.{Fault, NotAVolume}

@@ -2,7 +2,7 @@
 use Rattle.std.specs.Prelude.{◌≡◌, ◌<◌, ◌≤◌, ℕ, if◌then◌else◌, List, [], ◌∷◌, ◌++◌, length, nat_lt, slice_index_or, drop, take}
 use Rattle.std.specs.List.{All}
 use Rattle.model.specs.Volume.{AreDistinct, Batch, listed, number_at}
-use Rattle.segment_laws.specs.Held.{HeldBatch}
+use Rattle.journal_laws.specs.Held.{HeldBatch}
 
 -- a segment in memory: its place, its descriptor block, and the numbers and images of its batch
 pub record Staged : Type 0 where

@@ -2,11 +2,11 @@
 
 ghost use Rattle.std.specs.Prelude.{◌≡◌, ◌≤◌, ◌<◌, ◌+◌, ◌*◌, ◌^◌, ℕ, List, [], length, map, slice_index_or, take};
 ghost use Rattle.model.specs.Volume.{all_laid_over, block, laid_over};
-ghost use Rattle.segment_laws.specs.Held.{batches_of};
+ghost use Rattle.journal_laws.specs.Held.{batches_of};
 ghost use Rattle.journal_segments.specs.Staged.{held_as, staged_at};
 
 use crate::segment::Segment;
-use volume_format::layout::BLOCK;
+use journal_layout::layout::BLOCK;
 
 /// Puts the images that the first n segments have of the logical blocks from `start` on over the octets of their homes.
 pub fn lay_over(room: &Vec<Segment>, n: usize, start: u64, octets: &mut [u8])

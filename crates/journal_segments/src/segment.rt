@@ -7,13 +7,13 @@ ghost use Rattle.journal_segments.specs.Staged.{number_of};
 ghost use Rattle.journal_segments.specs.Found.{IsQuiet, IsReadFrom, IsStill, IsTaken};
 
 use crate::SegmentError;
-use crate::reading::load_batch;
+use crate::device_reads::load_batch;
 use disk::Disk;
-use octet_numbers::{number64, zeros};
+use disk_numbers::{number64, zeros};
+use journal_layout::describe_batch;
+use journal_layout::layout::{BLOCK, SEGMENT_IMAGES, block_at};
 use std::alloc::{AllocError, Global};
 use std::marker::Model;
-use volume_format::describe_batch;
-use volume_format::layout::{BLOCK, SEGMENT_IMAGES, block_at};
 
 /// A segment: its place on the device, and the descriptor block, the numbers and the images of its batch. It has room
 /// for the largest batch, and never grows.
@@ -45,7 +45,7 @@ impl Model for Segment {
 }
 
 impl Segment {
-    /// A segment without a batch. Refused only for want of memory.
+    /// A segment without a batch.
     pub fn new(alloc: Global, place: u32) -> Result<Segment, AllocError>
         ensures { IfOk result (λ segment. segment.place ≡ place) }
     {
@@ -134,11 +134,16 @@ impl Segment {
         place: u32,
         blocks: u64,
     ) -> Result<(), SegmentError>
+        // The segment lies on the device.
         requires low { place < 8 }
         requires size { 4096 * gate_place (place + 1) ≤ (D.device disk.old).size }
+
+        // The segment gets this place, and the device is only read.
         ensures place { self.new.place ≡ place }
         ensures quiet { IsQuiet (D.device disk.old) (D.device disk.new) }
         ensures still { OnOk result (IsStill (D.device disk.old) (D.device disk.new)) }
+
+        // The batch that was read, or what a refusal shows of the device.
         ensures read { OnOk result (IsReadFrom (D.device disk.old) blocks self.new) }
         ensures fault { IsErrOf result SegmentError.Fault → (D.device disk.new).failures ≢ (D.device disk.old).failures }
         ensures no_volume { IsErrOf result SegmentError.NotAVolume → IsTrue (D.device disk.old).tells

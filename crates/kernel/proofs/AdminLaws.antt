@@ -14,7 +14,7 @@ use Rattle.spool.specs.declared.errors.AddError.TheVariants as add
 use Rattle.spool.specs.declared.errors.ExpireError.TheVariants as expire
 use Rattle.kernel.specs.Kernel.{most_dirty, Administers, Exists, Full, Halted, KernelView, LaterDirty, NotFound, Refusal, TooManySessions}
 use Rattle.kernel.specs.Kernel.{admin_refusal_of, early_refusal, expire_refusal_of, first_failing, join_refusal, only_tested}
-use Rattle.seats.specs.Seats.{Seat}
+use Rattle.kernel_seats.specs.Seats.{Seat}
 use Rattle.kernel.specs.Stored.{kernel_of}
 use Rattle.kernel.proofs.ExecLaws.{changed_dirties}
 

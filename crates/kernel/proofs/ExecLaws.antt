@@ -11,10 +11,10 @@ use Rattle.model.proofs.Joined.{bytes_same}
 use Rattle.model.proofs.ServiceLaws.{news_stopped as stopped_answer}
 use Rattle.model.specs.Answer.{is_long}
 use Rattle.model.specs.Room.{is_full}
-use Rattle.outbox.specs.Queue.{buffered as octets_held}
+use Rattle.kernel_outbox.specs.Queue.{buffered as octets_held}
 use Rattle.kernel.specs.Errors.{of_exec}
-use Rattle.shared_kernel.specs.declared.errors.ExecError.{ExecError}
-use Rattle.shared_kernel.specs.declared.errors.ExecError.TheVariants.{Memory}
+use Rattle.kernel_shared.specs.declared.errors.ExecError.{ExecError}
+use Rattle.kernel_shared.specs.declared.errors.ExecError.TheVariants.{Memory}
 use Rattle.std.proofs.lemmas.Slice.Eq.{bytes_eq-Decides}
 use Rattle.model.specs.Stream.{Octets}
 use Rattle.model.specs.Service.{mode_of}
@@ -29,21 +29,22 @@ use Rattle.spool.specs.View.{IsSpool, SpoolView}
 use Rattle.spool.specs.View as changed
 use Rattle.std.specs.Cmp.{both_ways}
 use Rattle.std.specs.List.{Contains}
-use Rattle.volume.specs.Volume.{Differs}
+use Rattle.journal_volume.specs.Volume.{Differs}
 use Rattle.kernel.specs.Kernel.{most_dirty, KernelView, Refusal, NoSession, LaterOut, LaterDirty, Dirties, Executed, Execs, Tested}
 use Rattle.kernel.specs.Kernel.{exec_refusal}
 use Rattle.kernel.specs.Kernel.{first_failing, is_block, is_dirty, mark_for, mode_at, seat_of, buffered}
-use Rattle.seats.specs.Seats.{Seat, answered_by, with_seat}
-use Rattle.seats.specs.Kept.{RiseFrom}
+use Rattle.kernel_seats.specs.declared.Outcome.{Outcome}
+use Rattle.kernel_seats.specs.Seats.{Seat, answered_by, with_seat}
+use Rattle.kernel_seats.specs.Kept.{RiseFrom}
 use Rattle.kernel.specs.Serving.{Grows, answer_in, mark_in}
 use Rattle.kernel.specs.Stored.{kernel_of, seen_kernel}
-use Rattle.seats.specs.Lined.{LinedSeat, all_seen, seen}
-use Rattle.seats.proofs.Seeing.{seen_at, seen_place}
+use Rattle.kernel_seats.specs.Lined.{LinedSeat, all_seen, seen}
+use Rattle.kernel_seats.proofs.Seeing.{seen_at, seen_place}
 use Rattle.spool_texts.specs.Parts.{lines_of}
 use Rattle.kernel.specs.Kept.{IsKept}
 use Rattle.kernel.specs.declared.Kernel.TheInside.{Inside}
 use Rattle.kernel.proofs.KernelLaws.{grown, kept_served, mode_found, only_blocks_change, same_place}
-use Rattle.seats.proofs.SeatsLaws.{RiseFrom-set, find_at, set_get, with_seat_set}
+use Rattle.kernel_seats.proofs.SeatsLaws.{RiseFrom-set, find_at, set_get, with_seat_set}
 use Rattle.kernel.proofs.TakingLaws.{among, contained}
 
 -- ---- tests in their order
@@ -236,7 +237,7 @@ case_of inside items at sid m t read rise here its from =
       same = same_place at (seen_in inside) (seen made read) found.0 found.1 (sym (seen_at made inside.seats.items at read from));
     }
 
-room_is : (blocks inodes : ℕ) (S : Spool) (change : Option Change)
+room_is : (blocks : List Octets) (inodes : ℕ) (S : Spool) (change : Option Change)
     → lacks_room_for (λ c. is_full blocks inodes S (Some c)) change ≡ is_full blocks inodes S change
 room_is blocks inodes S None = refl
 room_is blocks inodes S (Some c) = refl
@@ -332,33 +333,35 @@ module _ (k : Case) where
       ))
 
   -- the message is served
-  pub done : (old : KernelView) (s : SpoolView) (seat : Seat) (answered : Option Mode × Mark) → was ≡ old
-      → exec_refusal was k.sid k.message ≡ None → answered.1 ≡ mark_for was k.seat.session k.message k.moment
-      → Grows i.spool s (answer_in i.spool k.seat.session k.message k.moment answered.1).change
-      → seat ≡ answered_by i.spool.host i.spool.changes k.message k.moment answered.1 k.read → answered.0 ≡ mode_of seat.session.awaits
-      → Tested of_exec Memory (exec_refusal old k.sid k.message) old (with_one s seat) (Ok answered)
+  pub done : (old : KernelView) (s : SpoolView) (seat : Seat) (outcome : Outcome) → was ≡ old
+      → exec_refusal was k.sid k.message ≡ None → outcome.mark ≡ mark_for was k.seat.session k.message k.moment
+      → Grows i.spool s (answer_in i.spool k.seat.session k.message k.moment outcome.mark).change
+      → seat ≡ answered_by i.spool.host i.spool.changes k.message k.moment outcome.mark k.read → outcome.next ≡ mode_of seat.session.awaits
+      → outcome.has_accepted ≡ is_some (answer_in i.spool k.seat.session k.message k.moment outcome.mark).change
+      → Tested of_exec Memory (exec_refusal old k.sid k.message) old (with_one s seat) (Ok outcome)
       (Execs old (with_one s seat) k.sid k.message k.moment)
-  done old s seat answered v passes marked grows told next =
+  done old s seat outcome v passes marked grows told next accepts =
       let new : KernelView = with_one s seat in
-      let is = answered_seat seat answered.1 told in
+      let is = answered_seat seat outcome.mark told in
       let same : seat.number ≡ k.seat.number = ap (λ (x : Seat). x.number) is in
       let read = mode_found new k.at seat (RiseFrom-set 0 k.at (seen_in i) k.seat seat k.rise k.place same)
       (set_get k.at (seen_in i) k.seat seat k.place) in
-      subst (λ (o : KernelView). Tested of_exec Memory (exec_refusal o k.sid k.message) o new (Ok answered)
+      subst (λ (o : KernelView). Tested of_exec Memory (exec_refusal o k.sid k.message) o new (Ok outcome)
       (Execs o new k.sid k.message k.moment)) v
-      (tested_done of_exec Memory (exec_refusal was k.sid k.message) was new (Ok answered) (Execs was new k.sid k.message k.moment) passes
+      (tested_done of_exec Memory (exec_refusal was k.sid k.message) was new (Ok outcome) (Execs was new k.sid k.message k.moment) passes
       (record {
         seat = k.seat;
         is_there = is_there;
         mark_is = marked;
         executed = executes i.spool s i.durable i.in_flight i.halted i.most i.joined (seen_in i) k.at k.seat seat k.message k.moment
-            answered.1
+            outcome.mark
             k.rise k.place grows is;
-        reads_next = next ∙ (sym read ∙ ap (mode_at new) (same ∙ k.number));
+        accepted = accepts;
+        next = next ∙ (sym read ∙ ap (mode_at new) (same ∙ k.number));
       }))
 
   -- the same, of the kernel as the code leaves it
-  pub left_so : (old new left : KernelView) (result : Result (Option Mode × Mark) ExecError) → new ≡ left
+  pub left_so : (old new left : KernelView) (result : Result Outcome ExecError) → new ≡ left
       → Tested of_exec Memory (exec_refusal old k.sid k.message) old new result (Execs old new k.sid k.message k.moment)
       → Tested of_exec Memory (exec_refusal old k.sid k.message) old left result (Execs old left k.sid k.message k.moment)
   left_so old new left result same h =
@@ -369,7 +372,7 @@ module _ (k : Case) where
   abbrev mark_by : Bool → Mark
   mark_by halted =
       if halted then mark.Stopped else if is_long i.spool.host i.spool.changes k.seat.session k.message then mark.Long else if is_full
-      (length i.spool.blocks) i.spool.inodes i.spool.changes
+      i.spool.blocks i.spool.inodes i.spool.changes
       (answer_in i.spool k.seat.session k.message k.moment mark.Served).change then mark.Full else mark.Served
 
   pub stopped_mark : i.halted ≡ true → mark.Stopped ≡ mark_for was k.seat.session k.message k.moment
@@ -379,7 +382,7 @@ module _ (k : Case) where
   served_mark is =
       ap (λ (b : Bool). if is_long i.spool.host i.spool.changes k.seat.session k.message then mark.Long else if b then mark.Full
       else mark.Served)
-      (room_is (length i.spool.blocks) i.spool.inodes i.spool.changes
+      (room_is i.spool.blocks i.spool.inodes i.spool.changes
       (answer_in i.spool k.seat.session k.message k.moment mark.Served).change) ∙ sym (ap mark_by is)
 
 -- a session that is told that the service ends changes nothing
@@ -389,6 +392,9 @@ stopped_stays s x m t = subst (λ (a : Answer). Grows s s a.change) (sym (stoppe
 pub stopped_changes_nothing : (s : SpoolView) (x : Session) (m : Message) (t : ℕ) → IsSome (answer_in s x m t mark.Stopped).change → ⊥
 stopped_changes_nothing s x m t some = let none = ap (λ (a : Answer). is_some a.change) (stopped_answer s.host s.changes x m t) in
     cc (some, none)
+
+pub stopped_accepts : (s : SpoolView) (x : Session) (m : Message) (t : ℕ) → false ≡ is_some (answer_in s x m t mark.Stopped).change
+stopped_accepts s x m t = sym (ap (λ (a : Answer). is_some a.change) (stopped_answer s.host s.changes x m t))
 
 pub stopped_mode : (s : SpoolView) (m : Message) (t : ℕ) (before after : Seat)
     → after ≡ answered_by s.host s.changes m t mark.Stopped before → None ≡ mode_of after.session.awaits

@@ -19,18 +19,18 @@ use Rattle.model.specs.declared.message.Message.TheVariants.{Line, Block, TooLon
 use Rattle.model.specs.declared.message.Mark.{Mark}
 use Rattle.model.specs.declared.message.Mode.{Mode}
 use Rattle.model.specs.declared.session.Session.{Session}
-use Rattle.outbox.specs.Queue.{ReadyEntry, HeldOutput, octets_in}
+use Rattle.kernel_outbox.specs.Queue.{ReadyEntry, HeldOutput, octets_in}
 use Rattle.spool.specs.View.{Dirties, IsSpool, SpoolView}
-use Rattle.volume.specs.Volume.{Differs}
+use Rattle.journal_volume.specs.Volume.{Differs}
 use Rattle.kernel.specs.Kernel.{most_dirty, KernelView, is_block, mode_at}
-use Rattle.seats.specs.Seats.{Seat, answered_by, given_of, new_seat, ready, ready_by, ready_of, seat_given, with_seat}
+use Rattle.kernel_seats.specs.Seats.{Seat, answered_by, given_of, new_seat, ready, ready_by, ready_of, seat_given, with_seat}
 use Rattle.kernel.specs.Kept.{IsKept}
-use Rattle.seats.specs.Kept.{IsSeat, RiseFrom, StillAwaits}
+use Rattle.kernel_seats.specs.Kept.{IsSeat, RiseFrom, StillAwaits}
 use Rattle.kernel.specs.Serving.{answer_in, Grows}
 use Rattle.kernel.specs.Stored.{kernel_of}
-use Rattle.seats.proofs.Keeping.{SeatIsKept-answered}
-use Rattle.seats.proofs.Releasing.{ready_seats, ready_rises, ready_few, seat_gives}
-use Rattle.seats.proofs.SeatsLaws.{RiseFrom-filter, RiseFrom-push, RiseFrom-set, find_at, find_place, seats_more, with_seat_set}
+use Rattle.kernel_seats.proofs.Keeping.{SeatIsKept-answered}
+use Rattle.kernel_seats.proofs.Releasing.{ready_seats, ready_rises, ready_few, seat_gives}
+use Rattle.kernel_seats.proofs.SeatsLaws.{RiseFrom-filter, RiseFrom-push, RiseFrom-set, find_at, find_place, seats_more, with_seat_set}
 use Rattle.synchrony.proofs.Released.{filled_length}
 
 -- what holds of each session holds of the one at a place

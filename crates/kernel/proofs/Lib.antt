@@ -4,3 +4,5 @@ pub mod ExecLaws
 pub mod AdminLaws
 pub mod Reading
 pub mod Lined
+pub mod LabelLaws
+pub mod DeviceLaws

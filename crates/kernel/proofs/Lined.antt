@@ -8,11 +8,11 @@ use Rattle.std.proofs.lemmas.Option.{slice_get_within}
 use Rattle.model.specs.Spool.{Spool}
 use Rattle.model.specs.Stream.{Octets}
 use Rattle.model.specs.declared.change.Change.{Change}
-use Rattle.outbox.specs.Lines.{AllAreKept, HeldReply, IsKept, Reply, outputs_of, whole, with_lines}
-use Rattle.outbox.specs.declared.lines.Lines.{Lines}
-use Rattle.outbox.specs.Queue.{HeldOutput}
-use Rattle.seats.specs.Lined.{AllAreLined, LinedSeat, SeatIsLined, all_seen, begun, seen}
-use Rattle.seats.specs.Seats.{Seat}
+use Rattle.kernel_outbox.specs.Lines.{AllAreKept, HeldReply, IsKept, Reply, outputs_of, whole, with_lines}
+use Rattle.kernel_outbox.specs.declared.made_lines.Lines.{Lines}
+use Rattle.kernel_outbox.specs.Queue.{HeldOutput}
+use Rattle.kernel_seats.specs.Lined.{AllAreLined, LinedSeat, SeatIsLined, all_seen, begun, seen}
+use Rattle.kernel_seats.specs.Seats.{Seat}
 use Rattle.spool.specs.View.{SpoolView}
 use Rattle.spool.proofs.Staying.{Stay, lines_stay}
 use Rattle.spool_texts.specs.Parts.{HasLines, lines_of}

@@ -63,7 +63,7 @@ module _ {D : Type 0} (device : D → Device) (old mid : JournalView D) (was : I
     since = left_then;
   }
 
-  -- and then the volume was made one of format 2
+  -- and then the volume was made one of format 3
   pub reads_then : (new : JournalView D) → ReadsAndUpgrades device mid new → ReadsAndUpgrades device old new
   reads_then new upgrades = record {
     same = record {

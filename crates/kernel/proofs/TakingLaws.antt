@@ -9,11 +9,11 @@ use Rattle.std.proofs.lemmas.List.{get_or_past}
 use Rattle.std.proofs.lemmas.List.Elements.{All-get_or, All-weaker}
 use Rattle.model.specs.Stream.{Octets}
 use Rattle.model.specs.Volume.{AreDistinct, blocks_from, laid_over}
-use Rattle.volume.specs.Volume.{AgreeOutside}
-use Rattle.blocks.proofs.Octets.{blocks_from-flat_map}
+use Rattle.journal_volume.specs.Volume.{AgreeOutside}
+use Rattle.fs_blocks.proofs.Octets.{blocks_from-flat_map}
 use Rattle.spool.specs.View.{IsSpool, SpoolView}
 use Rattle.kernel.specs.Kernel.{AgreesBehind, Takes}
-use Rattle.seats.specs.Seats.{Seat}
+use Rattle.kernel_seats.specs.Seats.{Seat}
 use Rattle.kernel.specs.Kept.{IsKept}
 use Rattle.kernel.specs.Stored.{kernel_of}
 

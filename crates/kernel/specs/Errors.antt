@@ -1,14 +1,14 @@
 -- The refusals of each call as its errors. Each list is complete, so a new refusal needs a name here.
 use Rattle.kernel.specs.Kernel.{Refusal}
 use Rattle.kernel.specs.Kernel as kernel
-use Rattle.shared_kernel.specs.declared.errors.JoinError.{JoinError}
-use Rattle.shared_kernel.specs.declared.errors.JoinError.TheVariants as join
-use Rattle.shared_kernel.specs.declared.errors.ExecError.{ExecError}
-use Rattle.shared_kernel.specs.declared.errors.ExecError.TheVariants as exec
-use Rattle.shared_kernel.specs.declared.errors.AdminError.{AdminError}
-use Rattle.shared_kernel.specs.declared.errors.AdminError.TheVariants as admin
-use Rattle.shared_kernel.specs.declared.errors.ExpireError.{ExpireError}
-use Rattle.shared_kernel.specs.declared.errors.ExpireError.TheVariants as expire
+use Rattle.kernel_shared.specs.declared.errors.JoinError.{JoinError}
+use Rattle.kernel_shared.specs.declared.errors.JoinError.TheVariants as join
+use Rattle.kernel_shared.specs.declared.errors.ExecError.{ExecError}
+use Rattle.kernel_shared.specs.declared.errors.ExecError.TheVariants as exec
+use Rattle.kernel_shared.specs.declared.errors.AdminError.{AdminError}
+use Rattle.kernel_shared.specs.declared.errors.AdminError.TheVariants as admin
+use Rattle.kernel_shared.specs.declared.errors.ExpireError.{ExpireError}
+use Rattle.kernel_shared.specs.declared.errors.ExpireError.TheVariants as expire
 
 -- join: Halted or TooManySessions; its tests give no other
 abbrev pub of_join : Refusal → JoinError

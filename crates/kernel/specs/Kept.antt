@@ -3,7 +3,7 @@ use Rattle.std.specs.Prelude.{◌≤◌, ◌<◌, length, IfSome, All}
 use Rattle.model.specs.Layout.{Holds}
 use Rattle.model.specs.Volume.{AreDistinct}
 use Rattle.kernel.specs.Kernel.{KernelView}
-use Rattle.seats.specs.Kept.{IsSeat, RiseFrom}
+use Rattle.kernel_seats.specs.Kept.{IsSeat, RiseFrom}
 
 pub record IsKept (kernel : KernelView) : Type 0 where
   -- the cached blocks hold the spool

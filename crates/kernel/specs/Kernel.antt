@@ -21,8 +21,9 @@ use Rattle.model.specs.declared.message.Mode.{Mode}
 use Rattle.model.specs.declared.message.Mode.TheVariants as mode
 use Rattle.model.specs.declared.session.Session.{Session}
 use Rattle.spool.specs.Refusals.{has_number}
-use Rattle.outbox.specs.Queue.{ReadyEntry, buffered as octets_held}
-use Rattle.seats.specs.Seats.{Seat, answered_by, new_seat, ready, ready_of, with_seat}
+use Rattle.kernel_outbox.specs.Queue.{ReadyEntry, buffered as octets_held}
+use Rattle.kernel_seats.specs.declared.Outcome.{Outcome}
+use Rattle.kernel_seats.specs.Seats.{Seat, answered_by, new_seat, ready, ready_of, with_seat}
 
 pub record KernelView : Type 0 where
   pub host : Octets
@@ -107,7 +108,7 @@ abbrev pub mark_for : KernelView → Session → Message → ℕ → Mark
 mark_for kernel x m t =
     if kernel.halted then mark.Stopped
     else if is_long kernel.host kernel.spool x m then mark.Long
-    else if is_full (length kernel.blocks) kernel.inodes kernel.spool (answer kernel.host kernel.spool x m t mark.Served).change then
+    else if is_full kernel.blocks kernel.inodes kernel.spool (answer kernel.host kernel.spool x m t mark.Served).change then
     mark.Full
     else mark.Served
 
@@ -207,13 +208,14 @@ released kernel = record kernel { seats = (ready kernel.durable 65536 kernel.sea
 abbrev pub released_of : KernelView → List ReadyEntry → ℕ → KernelView
 released_of kernel entries number = record kernel { seats = (ready_of kernel.durable entries number kernel.seats).seats }
 
--- what exec does to a session that exists: it answers what is read next, and the mark
-pub record Execs (old new : KernelView) (number : ℕ) (m : Message) (t : ℕ) (answered : Option Mode × Mark) : Type 0 where
+-- what exec does to a session that exists: it answers what is read next, the mark, and whether a change was accepted
+pub record Execs (old new : KernelView) (number : ℕ) (m : Message) (t : ℕ) (outcome : Outcome) : Type 0 where
   pub seat : Seat
   pub is_there : seat_of old number ≡ Some seat
-  pub mark_is : answered.1 ≡ mark_for old seat.session m t
-  pub executed : Executed old new seat m t answered.1
-  pub reads_next : answered.0 ≡ mode_at new number
+  pub mark_is : outcome.mark ≡ mark_for old seat.session m t
+  pub executed : Executed old new seat m t outcome.mark
+  pub accepted : outcome.has_accepted ≡ is_some (answer old.host old.spool seat.session m t outcome.mark).change
+  pub next : outcome.next ≡ mode_at new number
 
 -- the tests of admin and expire that come before any growth
 abbrev pub early_refusal : KernelView → Option Refusal
@@ -232,7 +234,7 @@ admin_refusal_of kernel c =
     first_failing (
     (kernel.halted, Halted) ∷ (nat_lt (most_dirty (length kernel.blocks)) (length kernel.dirty), LaterDirty)
     ∷ (makes_again kernel.spool c, Exists)
-    ∷ (is_full (length kernel.blocks) kernel.inodes kernel.spool (Some c), Full) ∷ [])
+    ∷ (is_full kernel.blocks kernel.inodes kernel.spool (Some c), Full) ∷ [])
 
 -- whether the change removes a number that the group does not have
 abbrev pub takes_none : Spool → Change → Bool
@@ -246,7 +248,7 @@ expire_refusal_of kernel c =
     first_failing (
     (kernel.halted, Halted) ∷ (nat_lt (most_dirty (length kernel.blocks)) (length kernel.dirty), LaterDirty)
     ∷ (takes_none kernel.spool c, NotFound)
-    ∷ (is_full (length kernel.blocks) kernel.inodes kernel.spool (Some c), Full) ∷ [])
+    ∷ (is_full kernel.blocks kernel.inodes kernel.spool (Some c), Full) ∷ [])
 
 -- the operator's change is accepted: a group is made, or articles are removed from one
 pub record Administers (old new : KernelView) (change : Change) (serial : ℕ) : Type 0 where

@@ -4,3 +4,6 @@ pub mod Kept
 pub mod Serving
 pub mod Stored
 pub mod Opening
+pub mod Label
+pub mod Costs
+pub mod Standing

@@ -5,7 +5,9 @@ use Rattle.journal.specs.Journal.{Admits, HasWholeBlocks, IsIdle, IsSameBatch, J
 use Rattle.journal.specs.Opening.{IsMore}
 use Rattle.journal.specs.Upgrading.{IsSameButFormat}
 use Rattle.model.specs.Stream.{Octets}
+use Rattle.model.specs.Files.{files_in, table}
 use Rattle.model.specs.Layout.{AreOfFormat, Holds, HoldsIn, IsLabel}
+use Rattle.model.specs.Packs.{HasNoPack}
 use Rattle.model.specs.Spool.{Spool}
 use Rattle.model.specs.SpoolFiles.{files_of}
 use Rattle.spool.specs.View.{SpoolView}
@@ -47,6 +49,7 @@ pub record IsOpened {D : Type 0} (device : D → Device) (journal : JournalView 
   pub size : length kernel.blocks ≡ journal.size
   pub blocks : IsTrue (device journal.disk).tells → kernel.blocks ≡ journal.blocks
   pub holds : Holds kernel.host kernel.inodes kernel.blocks kernel.spool
+  pub no_pack : journal.format ≤ 2 → HasNoPack (files_in (table kernel.inodes kernel.blocks))
   pub of_format : AreOfFormat journal.format (files_of kernel.spool)
 
 -- the label is valid, and the logical blocks of a device that tells its octets hold no spool of the label's host in the
@@ -72,7 +75,7 @@ pub record OnlyReads {D : Type 0} (device : D → Device) (old new : JournalView
   pub now : LeavesAdmitted device new
   pub since : LeftAdmitted device old new
 
--- The device was read, and the volume perhaps made one of format 2. A crash leaves its label and its logical blocks, in no
+-- The device was read, and the volume perhaps made one of format 3. A crash leaves its label and its logical blocks, in no
 -- lower format than it had.
 pub record ReadsAndUpgrades {D : Type 0} (device : D → Device) (old new : JournalView D) : Type 0 where
   pub same : IsSameButFormat old new
@@ -84,9 +87,9 @@ pub record ReadsAndUpgrades {D : Type 0} (device : D → Device) (old new : Jour
   pub since : IsTrue (device old.disk).tells → (t : ℕ) (c : List ℕ) → t ≤ (device old.disk).clock → (device new.disk).left_since t c
       → (device old.disk).left_since t c ⊎ Admits old c
 
--- the writes that make a volume of this format one of format 2, and as many syncs
+-- the writes that make a volume of this format one of format 3, and as many syncs
 abbrev pub upgrade_calls : ℕ → ℕ
-upgrade_calls format = if format == 2 then 0 else 1
+upgrade_calls format = if format == 3 then 0 else 1
 
 -- the writes and syncs of an opening, after that of the journal
 pub record CostsUpgrade (format : ℕ) (old new : Device) : Type 0 where
@@ -106,5 +109,5 @@ pub record HasFailed {D : Type 0} (device : D → Device) (old new : JournalView
 -- the sync of the upgrade was refused for want of memory: no device call failed, but the journal takes no batch until the
 -- device is opened again
 pub record IsUnsynced {D : Type 0} (device : D → Device) (old new : JournalView D) : Type 0 where
-  pub first : old.format ≡ 1
+  pub older : old.format ≤ 2
   pub failures : (device new.disk).failures ≡ (device old.disk).failures

@@ -16,7 +16,7 @@ answer_in s x m t mark = answer s.host s.changes x m t mark
 
 -- the mark of a message that is served
 abbrev pub mark_in : SpoolView → Session → Message → ℕ → Mark
-mark_in s x m t = served.mark_in s.host s.changes (λ c. is_full (length s.blocks) s.inodes s.changes (Some c)) x m t
+mark_in s x m t = served.mark_in s.host s.changes (λ c. is_full s.blocks s.inodes s.changes (Some c)) x m t
 
 -- the spool with the change of an answer, if the answer makes one
 abbrev pub Grows : SpoolView → SpoolView → Option Change → Type 0

@@ -4,8 +4,8 @@ use Rattle.spool_texts.specs.Parts.{HasLines, lines_of}
 use Rattle.spool.specs.View.{SpoolView}
 use Rattle.kernel.specs.Kept.{IsKept}
 use Rattle.kernel.specs.Kernel.{KernelView}
-use Rattle.seats.specs.Lined.{AllAreLined, LinedSeat, all_seen}
-use Rattle.seats.specs.Seats.{Seat}
+use Rattle.kernel_seats.specs.Lined.{AllAreLined, LinedSeat, all_seen}
+use Rattle.kernel_seats.specs.Seats.{Seat}
 
 abbrev pub kernel_of : SpoolView → ℕ → Option ℕ → Bool → ℕ → ℕ → List Seat → KernelView
 kernel_of s durable in_flight halted most joined seats =

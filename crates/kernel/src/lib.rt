@@ -1,6 +1,7 @@
 //! The kernel: the value under the lock. It answers each command at once in memory, and holds each reply until what it
 //! depends on is durable. `specs/Kernel.antt` says what callers see of it and what each call does, `specs/Kept.antt`
-//! what its invariant is.
+//! what its invariant is. `open` opens a device: its journal, and the kernel in the journal's logical blocks, by the label that
+//! `read_label` reads.
 #![tactic(auto)]
 
 ghost use Rattle.std.specs.Prelude.{[], None, ◌≤◌, ◌++◌, ◌&&◌, nat_lt, ◌≡◌, ◌≢◌, ◌⊎◌, ◌↔◌, ◌+◌, ◌*◌, ◌<◌, Some, IsSome, IsNone, IsTrue};
@@ -10,29 +11,35 @@ ghost use Rattle.kernel.specs.Kept.{IsKept};
 ghost use Rattle.kernel.specs.Kernel.{Administers, Execs, FitsMode, Takes, Tested, TestedOrMemory, admin_refusal_of, early_refusal};
 ghost use Rattle.kernel.specs.Kernel.{exec_refusal, expire_refusal_of, has_batch, halted_for_good, is_block, join_refusal, joined, left};
 ghost use Rattle.kernel.specs.Kernel.{made_durable, mode_at, most_dirty, only_tested, released, released_of, seat_of};
-ghost use Rattle.seats.specs.Seats.{holds, ready, ready_of, Seat as SeatView};
+ghost use Rattle.kernel_seats.specs.Seats.{holds, ready, ready_of, Seat as SeatView};
+ghost use Rattle.model.specs.Files.{free_inodes};
 ghost use Rattle.model.specs.Volume.{blocks_from};
 ghost use Rattle.model.specs.declared.change.Change.TheVariants.{Group, Expire};
 ghost use Rattle.kernel.specs.Stored.{kernel_of};
-ghost use Rattle.names.specs.Requests.{group_of};
+ghost use Rattle.text_names.specs.Requests.{group_of};
 
-mod opening;
+mod device_opening;
+mod kernel_opening;
+mod label;
 
+pub use device_opening::{Opened, Refused, open};
 use fs_layout::inodes::bitmap_blocks;
-use lookups::LookUps;
+use journal_volume::BATCH_BLOCKS;
+pub use journal_volume::BatchBuf;
+pub use kernel_opening::{OpenError, open_spool};
+use kernel_outbox::ReadyBuf;
+pub use kernel_seats::Outcome;
+use kernel_seats::{Seat, position, release, release_of};
+use kernel_shared::{AdminError, ExecError, ExpireError, JoinError, MOST_SESSIONS, Stale, Ticket};
+pub use label::{Label, read_label};
 use model::{Mark, Message, Mode, Moment};
-use names::{GroupName, GroupRequest};
-pub use opening::{OpenError, open_spool};
-use outbox::ReadyBuf;
-use seats::{Seat, position, release, release_of};
 use session::Received;
-use shared_kernel::{AdminError, ExecError, ExpireError, JoinError, MOST_SESSIONS, Stale, Ticket};
+use session_lookups::LookUps;
 use spool::AddError;
 pub use spool::Spool;
 use std::alloc::Global;
 use std::marker::Model;
-use volume::BATCH_BLOCKS;
-pub use volume::BatchBuf;
+use text_names::{GroupName, GroupRequest};
 
 /// A session with this many buffered octets is not served again until some are released.
 pub const MOST_BUFFERED: u64 = 1_048_576;
@@ -104,7 +111,7 @@ impl Kernel {
         }
     }
 
-    /// States the kernel's invariant, whichever thread took the lock, and does nothing. Each held output is the plain
+    /// Proof only: makes the kernel's invariant known to the caller, whichever thread took the lock. Each held output is the plain
     /// server's reply on a prefix of the spool, with its dependency, and the cached blocks hold the spool.
     pub fn kept(&self)
         ensures { IsKept self.now }
@@ -167,7 +174,7 @@ impl Kernel {
         sid: u64,
         message: &Message,
         moment: Moment,
-    ) -> Result<(Option<Mode>, Mark), ExecError>
+    ) -> Result<Outcome, ExecError>
         requires { FitsMode (mode_at self.old sid) message.now }
         ensures { Tested of_exec ExecError.Memory (exec_refusal self.old sid message.now) self.old self.new result
             (Execs self.old self.new sid message.now moment) }
@@ -184,7 +191,7 @@ impl Kernel {
         sid: u64,
         received: Received<'_>,
         moment: Moment,
-    ) -> Result<(Option<Mode>, Mark), ExecError>
+    ) -> Result<Outcome, ExecError>
         requires { FitsMode (mode_at self.old sid) received }
         ensures { Tested of_exec ExecError.Memory (exec_refusal self.old sid received.entry) self.old self.new result
             (Execs self.old self.new sid received.entry moment) }
@@ -203,7 +210,11 @@ impl Kernel {
             let Ok(()) = seat.stop(alloc) else {
                 return Err(ExecError::Memory);
             };
-            return Ok((None, Mark::Stopped));
+            return Ok(Outcome {
+                next: None,
+                mark: Mark::Stopped,
+                has_accepted: false,
+            });
         }
         if is_late(
             received.message(),
@@ -212,11 +223,11 @@ impl Kernel {
         ) {
             return Err(ExecError::LaterDirty);
         }
-        let Ok(done) = seat.serve(alloc, &mut self.spool, received, moment) else {
+        let Ok(outcome) = seat.serve(alloc, &mut self.spool, received, moment) else {
             return Err(ExecError::Memory);
         };
         self.spool.kept();
-        Ok(done)
+        Ok(outcome)
     }
 
     /// Whether the operator may make a group now: if not, `Halted` (E4) or `LaterDirty` (E8), tested in that order.
@@ -398,6 +409,13 @@ impl Kernel {
         ensures { result.now.changes ≡ self.now.spool }
     {
         &self.spool
+    }
+
+    /// The number of inodes with a file.
+    pub fn used_inodes(&self) -> u32
+        ensures { result + free_inodes self.now.inodes self.now.blocks ≡ self.now.inodes }
+    {
+        self.spool.used_inodes()
     }
 
     /// The number of accepted changes.

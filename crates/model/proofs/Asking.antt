@@ -16,13 +16,14 @@ use Rattle.model.specs.Spool.{is_here, news_article, news_group, status_octet}
 use Rattle.model.specs.Records.{group_record, article_record, expiry_record, largest_record}
 use Rattle.model.specs.SpoolFiles.{numbers_name, overview_name, number_record, number_records, numbers_of, numbers_file, overview_file}
 use Rattle.model.specs.FileCalls.{next_line, next_record, FileCall, Create, Append, filing_calls}
-use Rattle.model.specs.SpoolFiles.{overview_lines, change_file, files_of}
+use Rattle.model.specs.SpoolFiles.{overview_lines, change_file}
 use Rattle.model.specs.FileCalls.{making_calls}
-use Rattle.model.specs.Files.{indirect_for, largest_file, largest_file_one, most_inodes}
+use Rattle.model.specs.Files.{indirect_for, largest_file, largest_file_one}
+use Rattle.model.specs.Packs.{most_changes}
 use Rattle.model.specs.Asked.{blocks_appended, blocks_changed, blocks_filed, blocks_for_more, blocks_fresh}
-use Rattle.model.specs.Room.{blocks_asked, blocks_for}
+use Rattle.model.specs.Room.{blocks_asked, blocks_for, blocks_for_change, inodes_for_change}
 use Rattle.model.specs.Asked.{blocks_taken}
-use Rattle.model.specs.Room.{content_blocks, extends_large, files_made, free_blocks_beside, free_inodes_beside}
+use Rattle.model.specs.Room.{content_blocks, extends_large, files_made}
 use Rattle.model.specs.Asked.{pointers_put}
 use Rattle.model.specs.Room.{has_all_groups, is_full_for, is_large, octets_asked}
 use Rattle.model.specs.Lawful.{MayFile, IsLawfulAfter, IsLawful}
@@ -209,7 +210,7 @@ put_two fresh end few = omega (arith, few, put_most fresh end)
 
 -- ---- one group
 
-module _ (S : Spool) (text : Octets) (few : length S ≤ most_inodes) (carried : cause Carried text ≡ None) where
+module _ (S : Spool) (text : Octets) (few : length S ≤ most_changes) (carried : cause Carried text ≡ None) where
   short_line : (g : Octets) → length (next_line S text g) ≤ 8191
   short_line g = line_short (length (filed_in S g) + 1) text (omega (arith, high_few S g, few)) carried
 
@@ -354,14 +355,14 @@ pub not_full_room : NotFullHasRoom
 unfolding is_full_for
 not_full_room host blocks inodes S c few lawful may room =
     let asks = changes_ask_few host S c few lawful may in
-    let free = free_blocks_beside blocks inodes (files_of S) in
-    let left = free_inodes_beside inodes (files_of S) in
+    let free = blocks_for_change blocks c in
+    let left = inodes_for_change blocks inodes c in
     let first = or_parts (nat_lt free blocks_asked) (nat_lt left (files_made c) || (extends_large S c || has_all_groups S c)) room in
     let second = or_parts (nat_lt left (files_made c)) (extends_large S c || has_all_groups S c) first.1 in
     let third = or_parts (extends_large S c) (has_all_groups S c) second.1 in
     record {
       blocks_enough = omega (arith, asks.blocks, ltb-false free blocks_asked first.0);
-      inodes_enough = ltb-false left (files_made c) second.0;
+      inodes_enough = omega (arith, ltb-false left (files_made c) second.0);
       sizes = λ f g same has.
           let none : extends_large S (Article f) ≡ false = ap (extends_large S) (sym same) ∙ third.0 in
           let small = large_at S f.envelope.groups g none has in (

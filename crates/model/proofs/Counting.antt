@@ -7,14 +7,16 @@ use Rattle.std.specs.Option.{option_to_list}
 use Rattle.std.proofs.lemmas.Bool.{cases_lt, cases_eq, cond-true, cond-false, eqb-true, eq-eqb, ne_eqb, lt-ltb, le-ltb}
 use Rattle.std.proofs.lemmas.Bool.{false_from_ne_true, true≢false}
 use Rattle.std.proofs.lemmas.List.Elements.{Contains-append_left, Contains-append_right, Contains-append_cases}
-use Rattle.std.proofs.lemmas.List.FromFn.{length-range_with_len}
+use Rattle.std.proofs.lemmas.List.FromFn.{length-map-range_with_len, length-range_with_len}
 use Rattle.std.proofs.lemmas.List.Sums.{sum_by-cons, sum_by-append}
 use Rattle.model.specs.Stream.{Octets}
 use Rattle.model.specs.Volume.{AreDistinct}
 use Rattle.model.specs.Files.{File, HasRoom, IsFile, IsFree, IsFileSystem, content_of, entry, file_at, files_in, first_data, double_pointer}
-use Rattle.model.specs.Files.{bitmap_bits, free_blocks, indirect_for, is_marked_used, kind, name_in, owned, size, slot_of, table, IsUsed}
+use Rattle.model.specs.Files.{bitmap_bits, free_blocks, free_inodes, indirect_for, is_marked_used, kind, name_in, owned, size, slot_of}
+use Rattle.model.specs.Files.{table, IsUsed}
 use Rattle.model.specs.Room.{blocks_for, blocks_of_files, content_blocks}
 use Rattle.model.specs.Laws.Room.{FreeIsBeside}
+use Rattle.model.proofs.HoldsOne.{there_few}
 use Rattle.model.proofs.Distinct.{distinct_append, distinct_cons, distinct_head, distinct_none, distinct_tail}
 use Rattle.model.proofs.Owning.{free_kind, free_owns, owned_with, owned_without, content_size}
 
@@ -340,3 +342,11 @@ free_is_beside inodes blocks files room held =
           );
       inodes_are = omega (arith, free_from inodes blocks fs 0 inodes, count);
     }
+
+-- each inode is free, or has a file
+pub used_and_free : (inodes : ℕ) (blocks : List Octets) → HasRoom inodes blocks → IsFileSystem inodes blocks
+    → free_inodes inodes blocks + length (files_in (table inodes blocks)) ≡ inodes
+used_and_free inodes blocks room rule =
+    let files = files_in (table inodes blocks) in
+    let beside = (free_is_beside inodes blocks files room (record { rule = rule; contents = refl })).inodes_are in
+    omega (arith, beside, there_few (table inodes blocks), length-map-range_with_len (λ k. file_at inodes blocks k) 0 inodes)

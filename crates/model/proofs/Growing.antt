@@ -1,7 +1,7 @@
 -- The files of a spool with one more change.
 use Rattle.std.proofs.Common.{◌≡◌, ◌<◌, ◌≤◌, ◌^◌, ℕ, zero, suc, ◌+◌, ◌/◌, ◌%◌, List, [], ◌∷◌, ◌++◌, length, map, refl, sym, ◌∙◌, ap, subst}
 use Rattle.std.proofs.Common.{arith, Bool, true, false, cond, length-append}
-use Rattle.std.specs.Prelude.{flat_map, filter, filter_map, find, zip, bytes_eq, is_some, nat_le, Option, Some, None, IsPermutation, not}
+use Rattle.std.specs.Prelude.{flat_map, filter, filter_map, find, zip, bytes_eq, is_some, nat_le, Option, Some, None, not}
 use Rattle.std.specs.Prelude.{◌||◌, ◌&&◌}
 use Rattle.std.specs.List.{enumerate_from, list_any, list_all}
 use Rattle.std.proofs.lemmas.Bool.{cond-false, or_parts, or_from, and_parts, not-true, true≢false}
@@ -22,7 +22,7 @@ use Rattle.model.specs.SpoolFiles.{overview_lines, overview_of, numbers_of, over
 use Rattle.model.specs.FileCalls.{FileCall, appended, after_call, after_calls, next_line, next_record, filing_calls, making_calls}
 use Rattle.model.specs.FileCalls.{change_calls}
 use Rattle.model.specs.Lawful.{IsLawfulAfter, IsLawful}
-use Rattle.model.specs.Laws.SpoolFiles.{FilesGrow, SpoolsGrow}
+use Rattle.model.specs.Laws.SpoolFiles.{FilesGrow}
 use Rattle.model.specs.declared.change.Change.{Change}
 use Rattle.model.specs.declared.change.Change.TheVariants.{Group, Article, Expire}
 use Rattle.model.specs.declared.change.Filing.{Filing}
@@ -31,7 +31,6 @@ use Rattle.model.proofs.HoldsOne.{carried_cause}
 use Rattle.model.proofs.Ids.{no_cause}
 use Rattle.model.proofs.Joined.{map_joined, map_twice, bytes_differ, bytes_swap}
 use Rattle.model.proofs.Inodes.{appended_here}
-use Rattle.model.proofs.LawfulLaws.{lawful_more}
 
 -- ---- one element more
 
@@ -215,12 +214,12 @@ apart : (name octets : Octets) (f : File) → bytes_eq name f.name ≡ false →
 apart name octets f other = cond-false (bytes_eq name f.name) (record { name = f.name; content = f.content ++ octets }) f other
 
 -- no file of these changes has this name
-abbrev LackFrom : Octets → ℕ → Spool → Type 0
+abbrev pub LackFrom : Octets → ℕ → Spool → Type 0
 LackFrom name n [] = Unit {0}
 LackFrom name n (c ∷ S) = (bytes_eq name (change_file (record { serial = n; change = c })).name ≡ false) × LackFrom name (suc n) S
 
 -- a name that no numbers and no overview have
-abbrev IsOfChange : Octets → Type 0
+abbrev pub IsOfChange : Octets → Type 0
 IsOfChange name = (g : Octets) → (bytes_eq name (numbers_name g) ≡ false) × (bytes_eq name (overview_name g) ≡ false)
 
 left_entry : (R : Spool) (name octets : Octets) → IsOfChange name → (n : ℕ) (c : Change)
@@ -282,14 +281,14 @@ serials_apart m n less small =
     bytes_differ (last_digits 10 m) (last_digits 10 n)
     (λ same. absurd (let one : m ≡ n = digits_one 10 m n small (omega (arith, less, small)) same in omega arith))
 
-lacks_article : (m n : ℕ) (S : Spool) → n + length S ≤ m → m < 10 ^ 10 → LackFrom (article_name m) n S
+pub lacks_article : (m n : ℕ) (S : Spool) → n + length S ≤ m → m < 10 ^ 10 → LackFrom (article_name m) n S
 lacks_article m n [] later small = tt
 lacks_article m n (Group created ∷ S) later small = (refl, lacks_article m (suc n) S (omega arith) small)
 lacks_article m n (Article filing ∷ S) later small =
     (serials_apart m n (omega arith) small, lacks_article m (suc n) S (omega arith) small)
 lacks_article m n (Expire expiry ∷ S) later small = (refl, lacks_article m (suc n) S (omega arith) small)
 
-lacks_expiry : (m n : ℕ) (S : Spool) → n + length S ≤ m → m < 10 ^ 10 → LackFrom (expiry_name m) n S
+pub lacks_expiry : (m n : ℕ) (S : Spool) → n + length S ≤ m → m < 10 ^ 10 → LackFrom (expiry_name m) n S
 lacks_expiry m n [] later small = tt
 lacks_expiry m n (Group created ∷ S) later small = (refl, lacks_expiry m (suc n) S (omega arith) small)
 lacks_expiry m n (Article filing ∷ S) later small = (refl, lacks_expiry m (suc n) S (omega arith) small)
@@ -297,7 +296,7 @@ lacks_expiry m n (Expire expiry ∷ S) later small = (serials_apart m n (omega a
 
 -- ---- a file is made
 
-made : (S : Spool) (name octets : Octets) → IsOfChange name → LackFrom name 1 S
+pub made : (S : Spool) (name octets : Octets) → IsOfChange name → LackFrom name 1 S
     → after_calls (files_of S) (making_calls name octets) ≡ files_of S ++ record { name = name; content = octets } ∷ []
 unfolding files_of entries
 made S name octets own lack =
@@ -596,11 +595,3 @@ files_grow host S (Expire expiry) small lawful may =
     ∙ ap (λ fs. fs ++ its ∷ []) (entries_same (entry_files R) (entry_files S) (index_same R S (λ h. filed_no_more S h c refl)) (entries S)
     ∙ sym (files_by_change S))
     ∙ sym (made S its.name its.content (λ h. (refl, refl)) (lacks_expiry (length S + 1) 1 S (omega arith) small))
-
-pub spools_grow : SpoolsGrow
-spools_grow host inodes blocks files S c small lawful may held same = record {
-  files = files;
-  held = held;
-  same = subst (IsPermutation files) (sym (files_grow host S c small lawful may)) same;
-  lawful = lawful_more host [] S c lawful may;
-}

@@ -1,18 +1,19 @@
 -- Blocks hold one spool.
 use Rattle.std.proofs.Common.{◌≡◌, ◌≢◌, inl, inr, ◌<◌, ◌≤◌, ◌^◌, ℕ, zero, suc, ◌+◌, List, [], ◌∷◌, ◌++◌, length, get_or, refl, sym, ◌∙◌}
 use Rattle.std.proofs.Common.{ap, subst, arith, Bool, true, false, length-append}
-use Rattle.std.specs.Prelude.{flat_map, filter_map, replicate, Option, Some, None, nat_le, if◌then◌else◌, IsPermutation}
+use Rattle.std.specs.Prelude.{flat_map, filter_map, replicate, Option, Some, None, nat_le, if◌then◌else◌}
 use Rattle.std.specs.List.{Contains, list_any}
 use Rattle.std.specs.Option.{option_or, option_to_list}
 use Rattle.std.proofs.lemmas.Bool.{cases_lt, and_parts, leb-true}
 use Rattle.std.proofs.lemmas.List.{append_assoc, same_lists, get_or_default}
 use Rattle.std.proofs.lemmas.List.FromFn.{length-map-range_with_len}
+use Rattle.std.proofs.lemmas.List.Elements.{All-nil, Contains-append_right}
 use Rattle.std.proofs.lemmas.List.Sorted.{IsPermutation-refl, IsPermutation-sym, Contains-permutation, length_permutation}
 use Rattle.std.proofs.lemmas.List.Sums.{length-filter, count_by-le-length}
 use Rattle.byteorder.specs.Endian.{little_bytes}
 use Rattle.model.specs.Stream.{Octets}
 use Rattle.model.specs.Article.{Carried, cause, cause_but_long, header, is_short}
-use Rattle.model.specs.Files.{File, table, file_at, most_inodes}
+use Rattle.model.specs.Files.{File, table, file_at}
 use Rattle.model.specs.Spool.{Spool, SpoolEntry, entries_from, entries, NewsArticle, article_filed, articles, filed_in, is_name}
 use Rattle.model.specs.Spool.{news_article}
 use Rattle.model.specs.Spool.{filing_of, news_expiry, news_group, status_octet}
@@ -27,7 +28,10 @@ use Rattle.model.specs.declared.change.Change.{Change}
 use Rattle.model.specs.declared.change.Change.TheVariants.{Group, Article, Expire}
 use Rattle.model.specs.declared.values.Status.{Status}
 use Rattle.model.specs.declared.values.Status.TheVariants.{Open, Closed}
+use Rattle.model.specs.Packs.{StandFor, most_changes, most_packed, pack_name, pack_octets, pack_of}
+use Rattle.model.proofs.Inodes.{content_small}
 use Rattle.model.proofs.Joined.{joined_has, joined_from}
+use Rattle.model.proofs.Packing.{pack_size, shared, stand_alone}
 use Rattle.model.proofs.Strings.{little_split, counted_lists}
 
 -- ---- what a lawful text has
@@ -65,7 +69,7 @@ high_few S g =
     let p : NewsArticle → Bool = λ a. list_any (is_name g) a.groups in
     omega (arith, length-filter p (articles S), count_by-le-length p (articles S), filed_few 1 S)
 
-fits_one : (host : Octets) (before : Spool) (n : ℕ) (c : Change) → MayFollow host before c → n < 256 ^ 8 → length before ≤ most_inodes
+fits_one : (host : Octets) (before : Spool) (n : ℕ) (c : Change) → MayFollow host before c → n < 256 ^ 8 → length before ≤ most_changes
     → HasRoomInFile n c
 fits_one host before n (Group created) may small few = (small, omega (arith, may.in_time))
 fits_one host before n (Article filing) may small few =
@@ -75,7 +79,7 @@ fits_one host before n (Expire expiry) may small few = (small, omega (arith, may
 pub no_change : Change
 no_change = Expire (record { group = []; number = 0 })
 
-pub fits_from : (host : Octets) (before cs : Spool) → IsLawfulAfter host before cs → length before + length cs ≤ most_inodes → (k : ℕ)
+pub fits_from : (host : Octets) (before cs : Spool) → IsLawfulAfter host before cs → length before + length cs ≤ most_changes → (k : ℕ)
     → k < length cs → HasRoomInFile (1 + (length before + k)) (get_or cs k no_change)
 fits_from host before [] lawful few k low = absurd (omega arith)
 fits_from host before (c ∷ cs) lawful few zero low = fits_one host before (1 + (length before + 0)) c lawful.0 (omega arith) (omega arith)
@@ -85,7 +89,7 @@ fits_from host before (c ∷ cs) lawful few (suc k) low =
     subst (λ (m : ℕ). HasRoomInFile m (get_or cs k no_change)) serial
     (fits_from host (before ++ c ∷ []) cs lawful.1 (omega (arith, size)) k (omega arith))
 
-pub fits_lawful : (host : Octets) (S : Spool) → IsLawfulAfter host [] S → length S ≤ most_inodes → (k : ℕ) → k < length S
+pub fits_lawful : (host : Octets) (S : Spool) → IsLawfulAfter host [] S → length S ≤ most_changes → (k : ℕ) → k < length S
     → HasRoomInFile (1 + k) (get_or S k no_change)
 fits_lawful host S lawful few k low =
     let none : length {A = Change} [] ≡ 0 = refl in
@@ -167,6 +171,10 @@ not_index octet n (Group created) group article expiry is = group (sym is)
 not_index octet n (Article filing) group article expiry is = article (sym is)
 not_index octet n (Expire e) group article expiry is = expiry (sym is)
 
+pub not_the_pack : (n : ℕ) (c : Change) → (change_file (record { serial = n; change = c })).name ≢ pack_name
+not_the_pack n c is =
+    not_index 112 n c (λ e. omega arith) (λ e. omega arith) (λ e. omega arith) (ap (λ (name : Octets). get_or name 0 0) is)
+
 index_apart : (S : Spool) (d : Change) (n : ℕ) (c : Change) → Contains (index_files S d) (change_file (record { serial = n; change = c }))
     → ⊥
 index_apart S (Group created) n c (zero, low, is) =
@@ -233,20 +241,41 @@ there_few (Some f ∷ inodes) = omega (arith, there_few inodes)
 pub changes_few : ChangesAreFew
 unfolding files_of entries
 changes_few host inodes blocks S held =
+    let s = held.same in
     omega (
       arith,
       files_many S 1 S,
-      length_permutation held.files (flat_map (entry_files S) (entries_from 1 S)) held.same,
+      length_permutation (s.plain ++ s.packed) (flat_map (entry_files S) (entries_from 1 S)) s.files_are,
+      length_permutation held.files (s.plain ++ pack_of s.packed) s.stored_are,
+      length-append s.plain s.packed,
+      length-append s.plain (pack_of s.packed),
+      packed_few s.packed refl,
       ap (λ (fs : List File). length fs) held.held.contents,
       there_few (table inodes blocks),
       length-map-range_with_len (λ k. file_at inodes blocks k) 0 inodes,
     )
+  where
+    packed_few : (packed : List File) → packed ≡ held.same.packed → length packed ≤ most_packed
+    packed_few [] is = omega arith
+    packed_few (f ∷ packed) is =
+        let pack : File = record { name = pack_name; content = pack_octets (f ∷ packed) } in
+        let there : Contains (held.same.plain ++ pack_of held.same.packed) pack =
+        Contains-append_right held.same.plain (pack_of held.same.packed) pack
+        (subst (λ (fs : List File). Contains (pack_of fs) pack) is (0, omega arith, refl)) in
+        let stored : Contains held.files pack =
+        Contains-permutation (held.same.plain ++ pack_of held.same.packed) held.files pack
+        (IsPermutation-sym held.files (held.same.plain ++ pack_of held.same.packed) held.same.stored_are) there in
+        omega (
+          arith,
+          pack_size (f ∷ packed),
+          content_small inodes blocks held.held.rule pack (subst (λ (fs : List File). Contains fs pack) held.held.contents stored),
+        )
 
 -- ---- one spool
 
-module _ (host other : Octets) (files : List File) (S R : Spool) (few : length S ≤ most_inodes) (few' : length R ≤ most_inodes)
-    (lawful : IsLawfulAfter host [] S) (lawful' : IsLawfulAfter other [] R) (same : IsPermutation files (files_of S))
-    (same' : IsPermutation files (files_of R)) where
+module _ (host other : Octets) (files : List File) (S R : Spool) (few : length S ≤ most_changes) (few' : length R ≤ most_changes)
+    (lawful : IsLawfulAfter host [] S) (lawful' : IsLawfulAfter other [] R) (same : StandFor files (files_of S))
+    (same' : StandFor files (files_of R)) where
   -- a change of the one stands in the other at the same place
   included : (k : ℕ) → k < length S → (k < length R) × (get_or S k no_change ≡ get_or R k no_change)
   unfolding files_of entries
@@ -259,9 +288,8 @@ module _ (host other : Octets) (files : List File) (S R : Spool) (few : length S
         omega arith,
         refl,
       ) in
-      let in_files = Contains-permutation (files_of S) files file (IsPermutation-sym files (files_of S) same) in_first in
       let in_other : Contains (flat_map (entry_files R) (entries_from 1 R)) file =
-      Contains-permutation files (files_of R) file same' in_files in
+      shared files (files_of S) (files_of R) same same' file (not_the_pack (1 + k) c) in_first in
       let source = joined_from (entry_files R) (entries_from 1 R) file in_other in
       let its = entry_at 1 R source.item source.here in
       let file_is = source_is R source.item.serial (1 + k) c source.item.change source.has in
@@ -278,7 +306,7 @@ holds_one host other inodes blocks S R room held held' =
     let few = changes_few host inodes blocks S held in
     let few' = changes_few other inodes blocks R held' in
     let files : held'.files ≡ held.files = held'.held.contents ∙ sym held.held.contents in
-    let same' : IsPermutation held.files (files_of R) = subst (λ (fs : List File). IsPermutation fs (files_of R)) files held'.same in
+    let same' : StandFor held.files (files_of R) = subst (λ (fs : List File). StandFor fs (files_of R)) files held'.same in
     let ahead = included host other held.files S R (omega (arith, few)) (omega (arith, few')) held.lawful held'.lawful held.same same' in
     let behind = included other host held.files R S (omega (arith, few')) (omega (arith, few)) held'.lawful held.lawful same' held.same in
     let size : length S ≡ length R = elim (cases_lt (length S) (length R)) [
@@ -292,7 +320,7 @@ holds_one host other inodes blocks S R room held held' =
 
 -- ---- no change
 
-none_there : (n : ℕ) → flat_map (option_to_list {X = File}) (replicate n None) ≡ []
+pub none_there : (n : ℕ) → flat_map (option_to_list {X = File}) (replicate n None) ≡ []
 none_there zero = refl
 none_there (suc n) = none_there n
 
@@ -301,6 +329,6 @@ unfolding files_of entries
 empty_none host inodes blocks rule empty = record {
   files = [];
   held = record { rule = rule; contents = sym (ap (λ (t : List (Option File)). flat_map option_to_list t) empty ∙ none_there inodes) };
-  same = IsPermutation-refl [];
+  same = stand_alone [] [] (All-nil (λ (f : File). f.name ≢ pack_name)) (IsPermutation-refl []);
   lawful = tt;
 }

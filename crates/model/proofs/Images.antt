@@ -1,15 +1,16 @@
 -- An image stands for one spool.
-use Rattle.std.proofs.Common.{◌≡◌, ◌⊎◌, inl, inr, ◌≤◌, ◌-◌, ℕ, Bool, true, false, cond, eqb, List, [], length, get_or, replicate, refl, sym}
-use Rattle.std.proofs.Common.{◌∙◌, subst, arith}
+use Rattle.std.proofs.Common.{◌≡◌, ◌≢◌, ◌≤◌, ◌-◌, ℕ, Bool, true, false, cond, eqb, List, [], length, get_or, replicate}
+use Rattle.std.proofs.Common.{refl, sym, ◌∙◌, ap, subst, arith}
 use Rattle.std.proofs.lemmas.List.Elements.{All-nil}
 use Rattle.model.specs.Stream.{Octets}
-use Rattle.model.specs.Files.{File, largest_file_one}
+use Rattle.model.specs.Files.{File, files_in, largest_file_one}
 use Rattle.model.specs.Layout.{AreOfFormat, IsLabel, Holds}
+use Rattle.model.specs.Packs.{HasNoPack, pack_name}
 use Rattle.model.specs.Spool.{entries}
 use Rattle.model.specs.SpoolFiles.{files_of}
 use Rattle.model.specs.Laws.Layout.{ImagesStandForOne, VersionIsOne, EmptyVolumesStand, FormatsMayRise}
 use Rattle.model.specs.Volume.{StandsFor, block, format_in}
-use Rattle.model.proofs.HoldsOne.{empty_none, holds_one}
+use Rattle.model.proofs.HoldsOne.{empty_none, holds_one, none_there}
 use Rattle.model.proofs.Strings.{counted_split, little_split}
 
 -- a label says one host and one number of inodes
@@ -46,25 +47,31 @@ empty_stands host image label inodes blocks volume labelled rule empty = record 
   blocks = blocks;
   volume = volume;
   labelled = labelled;
-  held = record { held = empty_none host inodes blocks rule empty; of_format = λ first. none_of_format refl };
+  held = record {
+    held = empty_none host inodes blocks rule empty;
+    no_pack = λ le. subst HasNoPack (sym (ap files_in empty ∙ none_there inodes)) (All-nil (λ (file : File). file.name ≢ pack_name));
+    of_format = λ first. none_of_format refl;
+  };
 }
 
--- a format
-one_or_two : (x : List ℕ) → (format_in x ≡ 1) ⊎ (format_in x ≡ 2)
-one_or_two x = by_test (eqb (get_or x 148 0) 2) where
-  chosen : Bool → ℕ
-  chosen b = cond b 2 1
+-- a format is at least 1 and at most 3
+abbrev chosen : Bool → Bool → ℕ
+chosen third second = cond third 3 (cond second 2 1)
 
-  by_test : (b : Bool) → (chosen b ≡ 1) ⊎ (chosen b ≡ 2)
-  by_test true = inr refl
-  by_test false = inl refl
+some_chosen : (third second : Bool) → (1 ≤ chosen third second) × (chosen third second ≤ 3)
+some_chosen true second = (omega arith, omega arith)
+some_chosen false true = (omega arith, omega arith)
+some_chosen false false = (omega arith, omega arith)
+
+pub some_format : (x : List ℕ) → 1 ≤ format_in x
+some_format x = (some_chosen (eqb (get_or x 149 0) 3) (eqb (get_or x 148 0) 2)).0
+
+pub few_format : (x : List ℕ) → format_in x ≤ 3
+few_format x = (some_chosen (eqb (get_or x 149 0) 3) (eqb (get_or x 148 0) 2)).1
 
 -- a format is 1 if it is at most a format that is 1
-pub no_less : (x y : List ℕ) → format_in x ≤ format_in y → format_in y ≡ 1 → format_in x ≡ 1
-no_less x y le is = elim (one_or_two x) [
-  | inl one ↦ one
-  | inr two ↦ absurd (omega (arith, le, is, two))
-]
+no_less : (x y : List ℕ) → format_in x ≤ format_in y → format_in y ≡ 1 → format_in x ≡ 1
+no_less x y le is = omega (arith, some_format x, le, is)
 
 pub rise_stands : FormatsMayRise
 rise_stands host old new label blocks S volume same le s =
@@ -76,5 +83,9 @@ rise_stands host old new label blocks S volume same le s =
       blocks = s.blocks;
       volume = subst (λ (p : Octets × List Octets). StandsFor new p.0 p.1) (λ i. (sym labels i, sym its_blocks i)) same;
       labelled = s.labelled;
-      held = record { held = s.held.held; of_format = λ first. s.held.of_format (no_less (block 0 old) (block 0 new) le first) };
+      held = record {
+        held = s.held.held;
+        no_pack = λ few. s.held.no_pack (omega (arith, le, few));
+        of_format = λ first. s.held.of_format (no_less (block 0 old) (block 0 new) le first);
+      };
     }

@@ -1,15 +1,17 @@
 -- One call in the table of inodes.
-use Rattle.std.proofs.Common.{◌≡◌, ◌≢◌, inl, inr, ◌<◌, ℕ, zero, suc, cond, eqb, List, [], ◌∷◌, ◌++◌, length, get_or, set, map, refl, sym}
-use Rattle.std.proofs.Common.{◌∙◌, ap, subst, arith}
-use Rattle.std.specs.Prelude.{bytes_eq, Option, Some, None, IsPermutation}
+use Rattle.std.proofs.Common.{◌≡◌, ◌≢◌, inl, inr, ◌<◌, ◌≤◌, ℕ, zero, suc, cond, eqb, List, [], ◌∷◌, ◌++◌, length, get_or, set, map}
+use Rattle.std.proofs.Common.{refl, sym, ◌∙◌, ap, subst, arith}
+use Rattle.std.specs.List.{Contains, range_with_len}
+use Rattle.std.specs.Prelude.{flat_map, bytes_eq, Option, Some, None, IsPermutation}
 use Rattle.std.specs.Option.{option_to_list}
 use Rattle.std.proofs.lemmas.Bool.{cases_lt, cond-true, cond-false}
-use Rattle.std.proofs.lemmas.List.{append_assoc, get_or_past}
+use Rattle.std.proofs.lemmas.List.{append_assoc, get_or_past, length-take}
 use Rattle.std.proofs.lemmas.List.FromFn.{length-map-range_with_len, get_or-map-range_with_len}
 use Rattle.std.proofs.lemmas.List.Sorted.{IsPermutation-sym, IsPermutation-to_front, IsPermutation-append_left, IsPermutation-append_right}
 use Rattle.std.proofs.lemmas.List.Sorted.{IsPermutation-trans, IsPermutation-map}
 use Rattle.model.specs.Stream.{Octets}
-use Rattle.model.specs.Files.{File, IsFile, IsFileSystem, name_in, content_of, entry, slot_of, file_at, files_in, table}
+use Rattle.model.specs.Files.{File, IsFile, IsFileSystem, name_in, content_of, entry, slot_of, file_at, files_in, table, largest_file}
+use Rattle.model.specs.Files.{block_count, pointer, size}
 use Rattle.model.specs.FileCalls.{appended}
 use Rattle.model.specs.Laws.SpoolFiles.{CreatesOne, AppendsToOne}
 use Rattle.model.proofs.Joined.{bytes_same, bytes_differ}
@@ -37,7 +39,7 @@ creates_one files inodes k name low free same =
 
 -- ---- octets after a file
 
-appended_other : (name octets : Octets) (f : File) → f.name ≢ name → appended name octets f ≡ f
+pub appended_other : (name octets : Octets) (f : File) → f.name ≢ name → appended name octets f ≡ f
 appended_other name octets f other =
     cond-false (bytes_eq name f.name) (record { name = f.name; content = f.content ++ octets }) f
     (bytes_differ name f.name (λ is. other (sym is)))
@@ -79,6 +81,21 @@ one_longer (Some g ∷ inodes) (suc k) name content octets is once =
     omega arith) in
     λ i. sym first i ∷ rest i
 
+-- ---- files by inode
+
+pub where_is : (inodes : List (Option File)) (f : File) → Contains (files_in inodes) f → (k : ℕ) × (get_or inodes k None ≡ Some f)
+where_is [] f (k, low, is) = absurd (omega arith)
+where_is (None ∷ inodes) f has = let rest = where_is inodes f has in (suc rest.0, rest.1)
+where_is (Some g ∷ inodes) f (zero, low, is) = (0, ap Some is)
+where_is (Some g ∷ inodes) f (suc k, low, is) = let rest = where_is inodes f (k, omega arith, is) in (suc rest.0, rest.1)
+
+pub is_among : (inodes : List (Option File)) (k : ℕ) (f : File) → get_or inodes k None ≡ Some f → Contains (files_in inodes) f
+is_among [] k f is = absurd (cc)
+is_among (None ∷ inodes) zero f is = absurd (cc)
+is_among (None ∷ inodes) (suc k) f is = is_among inodes k f is
+is_among (Some g ∷ inodes) zero f is = (0, omega arith, cc)
+is_among (Some g ∷ inodes) (suc k) f is = let rest = is_among inodes k f is in (suc rest.0, omega (arith, rest.1), rest.2)
+
 -- ---- names in the table
 
 module _ (inodes : ℕ) (blocks : List Octets) (fs : IsFileSystem inodes blocks) where
@@ -86,6 +103,7 @@ module _ (inodes : ℕ) (blocks : List Octets) (fs : IsFileSystem inodes blocks)
     below : k < inodes
     file : IsFile (entry inodes blocks k)
     named : f.name ≡ name_in (slot_of inodes blocks k)
+    content : f.content ≡ content_of blocks (entry inodes blocks k)
 
   is_there : (k : ℕ) (f : File) → get_or (table inodes blocks) k None ≡ Some f → IsThere k f
   is_there k f is = elim (cases_lt k inodes) [
@@ -101,7 +119,7 @@ module _ (inodes : ℕ) (blocks : List Octets) (fs : IsFileSystem inodes blocks)
           | inr file ↦
               let some : file_at inodes blocks k ≡ Some its = ap (λ (n : ℕ). cond (eqb n 0) None (Some its)) file.kind_is in
               let one : f ≡ its = cc in
-              record { below = low; file = file; named = ap (λ (g : File). g.name) one }
+              record { below = low; file = file; named = ap (λ (g : File). g.name) one; content = ap (λ (g : File). g.content) one }
         ]
   ]
 
@@ -111,6 +129,20 @@ module _ (inodes : ℕ) (blocks : List Octets) (fs : IsFileSystem inodes blocks)
       let one = is_there k f first in
       let other = is_there l g second in
       fs.names_distinct k l one.below other.below one.file other.file (sym one.named ∙ same ∙ other.named)
+
+-- no file is larger than pointers reach
+pub content_small : (inodes : ℕ) (blocks : List Octets) → IsFileSystem inodes blocks → (f : File)
+    → Contains (files_in (table inodes blocks)) f → length f.content ≤ largest_file
+content_small inodes blocks fs f has =
+    let place = where_is (table inodes blocks) f has in
+    let its = is_there inodes blocks fs place.0 f place.1 in
+    omega (
+      arith,
+      ap (λ (o : Octets). length o) its.content,
+      length-take (size (entry inodes blocks place.0)) (flat_map (λ i. get_or blocks (pointer (entry inodes blocks place.0) i) [])
+          (range_with_len 0 (block_count (entry inodes blocks place.0)))),
+      its.file.small,
+    )
 
 pub appends_to_one : AppendsToOne
 appends_to_one files inodes blocks k name content octets fs is same =

@@ -29,6 +29,7 @@ pub mod Joined
 pub mod Owning
 pub mod Formats
 pub mod Sizes
+pub mod Packing
 pub mod HoldsOne
 pub mod Inodes
 pub mod Growing
@@ -42,3 +43,5 @@ pub mod Indexing
 pub mod ByKind
 pub mod Blocks
 pub mod Tables
+pub mod Naming
+pub mod PackedGrowing

@@ -256,8 +256,8 @@ joined_length n s f d m r b l = omega (arith, length-append {A = ℕ})
 body_count : (text : Octets) → length (body_lines text) ≤ length text
 body_count text = omega (arith, length-drop (length (header_lines text) + 1) (lines text), lines_count 0 text)
 
--- a number of at most seven digits, seven tabs, the fields, and two numbers of at most six digits
-pub line_short : (number : ℕ) (text : Octets) → number < 10 ^ 7 → cause Carried text ≡ None → length (overview_line number text) ≤ 8191
+-- a number of at most ten digits, seven tabs, the fields, and two numbers of at most six digits
+pub line_short : (number : ℕ) (text : Octets) → number < 10 ^ 10 → cause Carried text ≡ None → length (overview_line number text) ≤ 8191
 line_short number text small is =
     let octets = carried_size text is in
     let parts = joined_length (decimal number) (overview_field (codes "Subject") text) (overview_field (codes "From") text)
@@ -272,7 +272,7 @@ line_short number text small is =
       shown (codes "Date"),
       shown (codes "Message-ID"),
       shown (codes "References"),
-      length-decimal-le 7 number (omega arith) small (omega arith),
+      length-decimal-le 10 number (omega arith) small (omega arith),
       length-decimal-le 6 (length text) (omega arith) (omega arith) (omega arith),
       length-decimal-le 6 (length (body_lines text)) (omega arith) (omega (arith, body_count text)) (omega (arith, body_count text)),
     )

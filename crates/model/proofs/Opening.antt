@@ -1,11 +1,11 @@
 -- What an opening finds.
-use Rattle.std.proofs.Common.{◌≡◌, inl, inr, ◌<◌, ◌≤◌, ℕ, zero, suc, ◌+◌, ◌-◌, ◌*◌, Bool, true, false, cond, count_by, List, [], ◌∷◌}
-use Rattle.std.proofs.Common.{length, get_or, take, refl, sym, ◌∙◌, ap, subst, arith}
+use Rattle.std.proofs.Common.{◌≡◌, inl, inr, ◌<◌, ◌≤◌, ℕ, zero, suc, ◌+◌, ◌-◌, ◌*◌, Bool, true, false, cond, count_by, eqb, List, [], ◌∷◌}
+use Rattle.std.proofs.Common.{◌++◌, length, get_or, take, refl, sym, ◌∙◌, ap, subst, arith}
 use Rattle.std.specs.Prelude.{flat_map, filter_map, slice_get, Option, Some, None, IsPermutation}
-use Rattle.std.specs.List.{Contains, remove}
-use Rattle.std.proofs.lemmas.Bool.{cases_lt}
+use Rattle.std.specs.List.{All, Contains, remove}
+use Rattle.std.proofs.lemmas.Bool.{cases_lt, or_right}
 use Rattle.std.proofs.lemmas.List.{nil_from_length, same_lists, get_or_default, get_or-take, length-take}
-use Rattle.std.proofs.lemmas.List.Elements.{All-contains}
+use Rattle.std.proofs.lemmas.List.Elements.{All-contains, All-head, All-tail}
 use Rattle.std.proofs.lemmas.List.Sorted.{Contains-permutation, IsPermutation-cons, IsPermutation-refl, IsPermutation-remove}
 use Rattle.std.proofs.lemmas.List.Sorted.{IsPermutation-trans, IsPermutation-sym, length_permutation, sum_by-IsPermutation}
 use Rattle.std.proofs.lemmas.List.Sums.{sum_by-append, sum_by-cons}
@@ -15,12 +15,15 @@ use Rattle.model.specs.Spool.{Spool, SpoolEntry, entries_from, entries, group_ma
 use Rattle.model.specs.FileKinds.{HasRoomInFile, is_of_change}
 use Rattle.model.specs.SpoolFiles.{change_file, entry_files, files_of, numbers_file, numbers_name}
 use Rattle.model.specs.SpoolFiles.{overview_file, overview_name}
-use Rattle.model.specs.Laws.SpoolFiles.{ChangesAreCounted, ChangesAreRead, FilesAreCounted, FilesMakeSpool, FrontsAreRead}
+use Rattle.model.specs.Packs.{IsMember, IsStored, pack_name, pack_octets, pack_of}
+use Rattle.model.specs.Laws.SpoolFiles.{ChangesAreCounted, ChangesAreRead, FilesAreCounted, FilesAreOnce, FilesMakeSpool, FrontsAreRead}
+use Rattle.model.specs.Laws.SpoolFiles.{IsOnce}
 use Rattle.model.specs.declared.change.Change.{Change}
 use Rattle.model.specs.declared.change.Change.TheVariants.{Group, Article, Expire}
-use Rattle.model.proofs.HoldsOne.{changes_few, entry_at, fits_lawful, no_change, same_change, source_is}
-use Rattle.model.proofs.Inodes.{names_once}
+use Rattle.model.proofs.HoldsOne.{changes_few, entry_at, fits_lawful, no_change, not_the_pack, same_change, source_is}
+use Rattle.model.proofs.Inodes.{names_once, where_is}
 use Rattle.model.proofs.Joined.{joined_from}
+use Rattle.model.proofs.Packing.{is_meant, stand_same}
 
 -- ---- what a file says
 
@@ -29,9 +32,9 @@ unfolding files_of entries
 changes_read host inodes blocks S n c room held fits has =
     let file = change_file (record { serial = n; change = c }) in
     let few = changes_few host inodes blocks S held in
-    let in_files : Contains held.files file = subst (λ (fs : List File). Contains fs file) (sym held.held.contents) has in
+    let in_files : IsStored held.files file = subst (λ (fs : List File). IsStored fs file) (sym held.held.contents) has in
     let in_spool : Contains (flat_map (entry_files S) (entries_from 1 S)) file =
-    Contains-permutation held.files (files_of S) file held.same in_files in
+    is_meant held.files (files_of S) held.same file (not_the_pack n c) in_files in
     let source = joined_from (entry_files S) (entries_from 1 S) file in_spool in
     let its = entry_at 1 S source.item source.here in
     let file_is = source_is S source.item.serial n c source.item.change source.has in
@@ -48,11 +51,7 @@ changes_read host inodes blocks S n c room held fits has =
 
 -- ---- as many, and none twice
 
-abbrev Once : {X : Type 0} → List X → Type 0
-Once [] = Unit {0}
-Once (x ∷ xs) = (¬ (Contains xs x)) × Once xs
-
-same_elements : {X : Type 0} (xs ys : List X) → Once xs → ((x : X) → Contains xs x → Contains ys x) → length xs ≡ length ys
+same_elements : (xs ys : List File) → IsOnce xs → ((x : File) → Contains xs x → Contains ys x) → length xs ≡ length ys
     → IsPermutation ys xs
 same_elements [] ys once within same = subst (λ zs. IsPermutation zs []) (sym (nil_from_length ys (sym same))) (IsPermutation-refl [])
 same_elements (x ∷ xs) ys once within same =
@@ -71,22 +70,9 @@ same_elements (x ∷ xs) ys once within same =
 
 -- ---- files by inode
 
-pub where_is : (inodes : List (Option File)) (f : File) → Contains (files_in inodes) f → (k : ℕ) × (get_or inodes k None ≡ Some f)
-where_is [] f (k, low, is) = absurd (omega arith)
-where_is (None ∷ inodes) f has = let rest = where_is inodes f has in (suc rest.0, rest.1)
-where_is (Some g ∷ inodes) f (zero, low, is) = (0, ap Some is)
-where_is (Some g ∷ inodes) f (suc k, low, is) = let rest = where_is inodes f (k, omega arith, is) in (suc rest.0, rest.1)
-
-pub is_among : (inodes : List (Option File)) (k : ℕ) (f : File) → get_or inodes k None ≡ Some f → Contains (files_in inodes) f
-is_among [] k f is = absurd (cc)
-is_among (None ∷ inodes) zero f is = absurd (cc)
-is_among (None ∷ inodes) (suc k) f is = is_among inodes k f is
-is_among (Some g ∷ inodes) zero f is = (0, omega arith, cc)
-is_among (Some g ∷ inodes) (suc k) f is = let rest = is_among inodes k f is in (suc rest.0, omega (arith, rest.1), rest.2)
-
 files_from : (inodes : List (Option File))
     → ((k l : ℕ) (f g : File) → get_or inodes k None ≡ Some f → get_or inodes l None ≡ Some g → f.name ≡ g.name → k ≡ l)
-    → Once (files_in inodes)
+    → IsOnce (files_in inodes)
 files_from [] names = tt
 files_from (None ∷ inodes) names =
     files_from inodes (λ k l f g first second same. let one : suc k ≡ suc l = names (suc k) (suc l) f g first second same in omega arith)
@@ -95,16 +81,17 @@ files_from (Some f ∷ inodes) names = (
   files_from inodes (λ k l g h first second same. let one : suc k ≡ suc l = names (suc k) (suc l) g h first second same in omega arith),
 )
 
+pub files_once : FilesAreOnce
+files_once inodes blocks rule = files_from (table inodes blocks) (names_once inodes blocks rule)
+
 pub files_make_spool : FilesMakeSpool
-files_make_spool host inodes blocks files S held lawful each same =
-    let once : Once files = subst Once (sym held.contents) (files_from (table inodes blocks) (names_once inodes blocks held.rule)) in
-    record {
-      files = files;
-      held = held;
-      same = IsPermutation-sym (files_of S) files
-          (same_elements files (files_of S) once (λ f has. All-contains (Contains (files_of S)) files f each has) same);
-      lawful = lawful;
-    }
+files_make_spool host inodes blocks stored files S held lawful s once each same = record {
+  files = stored;
+  held = held;
+  same = stand_same stored files (files_of S) s (IsPermutation-sym (files_of S) files
+      (same_elements files (files_of S) once (λ f has. All-contains (Contains (files_of S)) files f each has) same));
+  lawful = lawful;
+}
 
 counted_from : (S : Spool) (n : ℕ) (R : Spool)
     → length (flat_map (entry_files S) (entries_from n R)) ≡ length R + 2 * length (filter_map group_made (entries_from n R))
@@ -173,9 +160,30 @@ entries_count S n (c ∷ R) =
       entries_count S (suc n) R,
     )
 
+-- the pack is no file of a change, and each file in it is
+pack_counts : (packed : List File) → counted (pack_of packed) ≡ 0
+pack_counts [] = refl
+pack_counts (f ∷ packed) = none_counted (record { name = pack_name; content = pack_octets (f ∷ packed) }) [] refl
+
+packed_count : (packed : List File) → All IsMember packed → counted packed ≡ length packed
+packed_count [] each = refl
+packed_count (f ∷ packed) each =
+    let one = one_counted f packed (or_right (eqb (get_or f.name 0 0) 103) _ (All-head IsMember f packed each).kind) in
+    omega (arith, one, packed_count packed (All-tail IsMember f packed each))
+
 pub changes_counted : ChangesAreCounted
 unfolding files_of entries
 changes_counted host inodes blocks S held =
-    ap counted (sym held.held.contents)
-    ∙ sym (sum_by-IsPermutation (λ x. cond (is_of_change x) 1 0) held.files (flat_map (entry_files S) (entries_from 1 S)) held.same)
-    ∙ entries_count S 1 S
+    let s = held.same in
+    let value : File → ℕ = λ x. cond (is_of_change x) 1 0 in
+    omega (
+      arith,
+      ap counted held.held.contents,
+      sum_by-IsPermutation value held.files (s.plain ++ pack_of s.packed) s.stored_are,
+      sum_by-append value s.plain (pack_of s.packed),
+      pack_counts s.packed,
+      packed_count s.packed s.members,
+      sum_by-append value s.plain s.packed,
+      sum_by-IsPermutation value (s.plain ++ s.packed) (flat_map (entry_files S) (entries_from 1 S)) s.files_are,
+      entries_count S 1 S,
+    )

@@ -41,6 +41,12 @@ filing_calls S text g = Append (numbers_name g) (next_record S text g) ∷ Appen
 abbrev pub making_calls : Octets → Octets → List FileCall
 making_calls name octets = Create name ∷ Append name octets ∷ []
 
+-- the calls of a change beside those for its own file: the numbers and the overview of the groups are made, or extended
+abbrev pub index_calls : Spool → Change → List FileCall
+index_calls S (Group g) = Create (numbers_name g.name) ∷ Create (overview_name g.name) ∷ []
+index_calls S (Article f) = flat_map (filing_calls S f.text) f.envelope.groups
+index_calls S (Expire e) = []
+
 -- the calls that a change makes after these changes
 abbrev pub change_calls : Spool → Change → List FileCall
 change_calls S (Group g) =

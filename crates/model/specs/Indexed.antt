@@ -9,6 +9,7 @@ use Rattle.model.specs.Spool.{Spool, SpoolEntry, entries, NewsGroup, NewsExpiry,
 use Rattle.model.specs.Spool.{last_naming}
 use Rattle.model.specs.Spool.{by_id, news_group}
 use Rattle.model.specs.FileCalls.{next_line}
+use Rattle.model.specs.Packs.{member_octets, pack_name}
 use Rattle.model.specs.SpoolFiles.{change_file, numbers_name, overview_name, numbers_file, overview_file, overview_lines}
 use Rattle.model.specs.declared.change.Change.{Change}
 use Rattle.model.specs.declared.change.Change.TheVariants.{Group, Article, Expire}
@@ -103,9 +104,15 @@ pub record IsIndexOf (S : Spool) (index : SpoolIndex) : Type 0 where
 
 -- ---- where the files are
 
--- the inode of each change's file by serial, and of the numbers and the overview of each group
+-- where the file of a change is: it is the file of this inode; or it stands in the pack, the file of this inode, from this octet on, in
+-- this many octets
+pub data ChangePlace : Type 0 where
+  Alone : ℕ → ChangePlace
+  Packed : ℕ → ℕ → ℕ → ChangePlace
+
+-- the place of each change's file by serial, and the inodes of the numbers and the overview of each group
 pub record FilePlaces : Type 0 where
-  pub changes : List ℕ
+  pub changes : List ChangePlace
   pub numbers : List ℕ
   pub overviews : List ℕ
 
@@ -113,8 +120,33 @@ pub record FilePlaces : Type 0 where
 abbrev pub files_at : ℕ → List Octets → List ℕ → List (Option File)
 files_at inodes blocks places = map (λ k. slice_index_or (table inodes blocks) k None) places
 
+-- the octets of the file stand there in the pack
+pub record IsPackedAt (inodes : List (Option File)) (inode from size : ℕ) (f : File) : Type 0 where
+  pub front : Octets
+  pub rest : Octets
+  pub from_is : from ≡ length front
+  pub size_is : size ≡ length (member_octets f)
+  pub pack_is : slice_index_or inodes inode None ≡ Some (record { name = pack_name; content = front ++ (member_octets f ++ rest) })
+
+-- the file is at this place, in a volume with these files by inode
+abbrev pub IsAt : List (Option File) → ChangePlace → File → Type 0
+IsAt inodes (Alone inode) f = slice_index_or inodes inode None ≡ Some f
+IsAt inodes (Packed inode from size) f = IsPackedAt inodes inode from size f
+
+-- each file is at its place
+abbrev pub AreAt : List (Option File) → List ChangePlace → List File → Type 0
+AreAt inodes [] [] = Unit {0}
+AreAt inodes [] (f ∷ files) = ⊥
+AreAt inodes (p ∷ places) [] = ⊥
+AreAt inodes (p ∷ places) (f ∷ files) = IsAt inodes p f × AreAt inodes places files
+
+-- each file stays in its inode under its name, and grows only at its end
+abbrev pub KeepsFiles : List (Option File) → List (Option File) → Type 0
+KeepsFiles old new = (k : ℕ) (f : File) → slice_index_or old k None ≡ Some f
+    → (more : Octets) × (slice_index_or new k None ≡ Some (record { name = f.name; content = f.content ++ more }))
+
 pub record ArePlaces (inodes : ℕ) (blocks : List Octets) (S : Spool) (places : FilePlaces) : Type 0 where
-  pub changes_are : files_at inodes blocks places.changes ≡ map (λ e. Some (change_file e)) (entries S)
+  pub changes_are : AreAt (table inodes blocks) places.changes (map change_file (entries S))
   pub numbers_are : files_at inodes blocks places.numbers
       ≡ map (λ g. Some (record { name = numbers_name g.name; content = numbers_file S g.name })) (groups S)
   pub overviews_are : files_at inodes blocks places.overviews

@@ -8,6 +8,7 @@ pub mod Expiry
 pub mod Spools
 pub mod Service
 pub mod SpoolFiles
+pub mod Packs
 pub mod Room
 pub mod Formats
 pub mod Layout

@@ -4,9 +4,9 @@ use Rattle.std.specs.Prelude.{ℕ, ◌+◌, ◌-◌, ◌/◌, Bool, false, ◌||
 use Rattle.std.specs.Prelude.{None}
 use Rattle.std.specs.List.{list_any, sum_by}
 use Rattle.model.specs.Stream.{Octets}
-use Rattle.model.specs.Files.{File, first_data, indirect_for, largest_file}
+use Rattle.model.specs.Files.{File, first_data, free_blocks, free_inodes, indirect_for, largest_file}
 use Rattle.model.specs.Spool.{Spool, groups}
-use Rattle.model.specs.SpoolFiles.{files_of, numbers_file, overview_file}
+use Rattle.model.specs.SpoolFiles.{numbers_file, overview_file}
 use Rattle.model.specs.declared.change.Change.{Change}
 use Rattle.model.specs.declared.change.Change.TheVariants.{Group, Article, Expire}
 
@@ -69,12 +69,34 @@ has_all_groups S (Group g) = nat_le most_groups (length (groups S))
 has_all_groups S (Article f) = false
 has_all_groups S (Expire e) = false
 
+-- whether there is no room for this change where this many blocks and inodes are free
 unfoldable pub is_full_for : ℕ → ℕ → Spool → Change → Bool
 is_full_for blocks inodes S c =
-    nat_lt (free_blocks_beside blocks inodes (files_of S)) blocks_asked
-    || (nat_lt (free_inodes_beside inodes (files_of S)) (files_made c) || (extends_large S c || has_all_groups S c))
+    nat_lt blocks blocks_asked || (nat_lt inodes (files_made c) || (extends_large S c || has_all_groups S c))
 
--- whether there is no room for this change in a volume with these numbers of blocks and inodes
-abbrev pub is_full : ℕ → ℕ → Spool → Option Change → Bool
+-- ---- what is left to the operator
+
+-- The blocks that an article, which any caller may send, leaves to the other changes: if callers could take all of them, neither an
+-- expiry nor a group would ever find room again. A small volume leaves none, since it would be most of them.
+abbrev pub blocks_left : ℕ → Change → ℕ
+blocks_left blocks (Group g) = 0
+blocks_left blocks (Article f) = if nat_lt blocks 8_192 then 0 else 320
+blocks_left blocks (Expire e) = 0
+
+-- and the inodes
+abbrev pub inodes_left : ℕ → Change → ℕ
+inodes_left inodes (Group g) = 0
+inodes_left inodes (Article f) = if nat_lt inodes 2_048 then 0 else 64
+inodes_left inodes (Expire e) = 0
+
+-- the blocks and the inodes that are free for this change in a volume of these blocks, with this many inodes
+abbrev pub blocks_for_change : List Octets → Change → ℕ
+blocks_for_change blocks c = free_blocks blocks - blocks_left (length blocks) c
+
+abbrev pub inodes_for_change : List Octets → ℕ → Change → ℕ
+inodes_for_change blocks inodes c = free_inodes inodes blocks - inodes_left inodes c
+
+-- whether there is no room for this change in a volume of these blocks, with this many inodes
+abbrev pub is_full : List Octets → ℕ → Spool → Option Change → Bool
 is_full blocks inodes S None = false
-is_full blocks inodes S (Some c) = is_full_for blocks inodes S c
+is_full blocks inodes S (Some c) = is_full_for (blocks_for_change blocks c) (inodes_for_change blocks inodes c) S c

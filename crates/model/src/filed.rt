@@ -5,11 +5,13 @@ ghost use Rattle.model.specs.Laws.Indexed.{ArticlesGrow, EmptyIndex, ExpiriesGro
 ghost use Rattle.model.specs.Laws.Indexed.{NotesGrow, NumbersAreWhole};
 ghost use Rattle.model.specs.Laws.Layout.{EmptyVolumesStand, FormatsMayRise, ImagesStandForOne, VersionIsOne};
 ghost use Rattle.model.specs.Laws.Room.{ChangesAskFew, FilesGrowByBlocks, FreeIsBeside, NotFullHasRoom};
+ghost use Rattle.model.specs.Laws.Packs.{FilesStandAlone, MembersAreRead, PackedFilesStay, PackedSpoolsGrow, PacksGrow};
+ghost use Rattle.model.specs.Laws.Packs.{SpoolsHaveNoPack};
 ghost use Rattle.model.specs.Laws.SpoolFiles.{AppendsToOne, BlocksHoldOne, ChangesAreCounted, ChangesAreFew, ChangesAreRead, CreatesOne};
-ghost use Rattle.model.specs.Laws.SpoolFiles.{EmptyHoldsNone, FilesAreByKind, FilesAreCounted, FilesGrow, FilesMakeSpool, FrontsAreRead};
-ghost use Rattle.model.specs.Laws.SpoolFiles.{SpoolsGrow};
+ghost use Rattle.model.specs.Laws.SpoolFiles.{EmptyHoldsNone, FilesAreByKind, FilesAreCounted, FilesAreOnce, FilesGrow, FilesMakeSpool};
+ghost use Rattle.model.specs.Laws.SpoolFiles.{FrontsAreRead, NamesAreDistinct, SpoolsGrow};
 
-/// Blocks hold at most one spool, and it has at most as many changes as there are inodes.
+/// Blocks hold at most one spool, and it has at most as many changes as there are inodes, and files in the largest pack.
 pub fn blocks_hold_one_spool()
     ensures one { BlocksHoldOne }
     ensures few { ChangesAreFew }
@@ -24,6 +26,18 @@ pub fn empty_blocks_hold_no_change()
 pub fn spools_grow_by_their_files()
     ensures files { FilesGrow }
     ensures spools { SpoolsGrow }
+{}
+
+/// Without a pack, files stand for themselves. A file that is put into the pack is one more of those that the stored ones
+/// stand for, and a change whose file goes there makes the same spool. A file in the pack is read at its place, and stays
+/// there.
+pub fn packs_stand_for_files()
+    ensures alone { FilesStandAlone }
+    ensures spools { SpoolsHaveNoPack }
+    ensures grow { PacksGrow }
+    ensures packed { PackedSpoolsGrow }
+    ensures read { MembersAreRead }
+    ensures stay { PackedFilesStay }
 {}
 
 /// An empty file in a free inode adds one file and changes no other.
@@ -56,6 +70,8 @@ pub fn files_say_their_spool()
     ensures fronts { FrontsAreRead }
     ensures changes { ChangesAreCounted }
     ensures make { FilesMakeSpool }
+    ensures once { FilesAreOnce }
+    ensures names { NamesAreDistinct }
     ensures counted { FilesAreCounted }
     ensures kinds { FilesAreByKind }
 {}

@@ -4,7 +4,7 @@
 mod running;
 mod version;
 
-pub use command_line::{Renewal, ServeOptions};
-pub use printing::Failure;
+pub use program_command_line::{Renewal, ServeOptions};
+pub use program_printing::Failure;
 pub use program_server::Streams;
 pub use running::{AfterRun, fail, import, renew, run, serve};

@@ -1,20 +1,19 @@
 //! What the program does: each of its commands except the simulation, and the server.
 
 ghost use Rattle.std.specs.Prelude.{◌≡◌};
-ghost use Rattle.printing.specs.Status.{status_of};
+ghost use Rattle.program_printing.specs.Status.{status_of};
 
 use crate::version::print_version;
-use command_line::{AgedExpiry, Asked, Export, NewVolume, Renewal, ServeOptions, read_words};
-use exporting::LineEnds;
-use importing::ImportCounts;
-use logging::{Verbosity, moment};
-use names::{GroupName, NameError, Wildmat};
-use printing::{DONE, Failure, REFUSED};
 use program_changes::AgeOrder;
+use program_command_line::{
+    AgedExpiry, Asked, Export, NewVolume, Renewal, ServeOptions, read_words,
+};
 use program_files::{changes_at, octets_at};
+use program_printing::{DONE, Failure, REFUSED};
 use program_renewal::{Order, Report, json_text};
 use program_server::{Offer, Streams};
-use simulation::simulate;
+use program_simulation::simulate;
+use server_logging::{Verbosity, moment};
 use std::alloc::Global;
 use std::convert::AsStr;
 use std::fs::File;
@@ -24,6 +23,9 @@ use std::rt::Files;
 use std::sync::Wait;
 use std::thread::Threads;
 use std::time::Clock;
+use text_names::{GroupName, NameError, Wildmat};
+use volume_exporting::LineEnds;
+use volume_importing::ImportCounts;
 
 /// What a refusal says of an age if the clock can't be read, or is before 1970 or after 9999.
 const NO_TIME: &str = "needs a clock that gives a time from 1970 to 9999";

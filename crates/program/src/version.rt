@@ -1,7 +1,7 @@
 //! The version, and the commit that the build told the program.
 
-use command_line::VERSION;
-use printing::Failure;
+use program_command_line::VERSION;
+use program_printing::Failure;
 use std::fs::File;
 use std::io::{self, Write};
 use std::os::unix::fs::FileExt;

@@ -4,22 +4,21 @@ ghost use Rattle.std.specs.Prelude.{OnOk};
 ghost use Rattle.journal.specs.Journal.{IsIdle};
 
 use crate::flush;
-use expiring::{AgedArticles, AgedGroup, aged_group, since};
 use journal::Journal;
-use kernel::Spool;
-use locked_kernel::Locked;
+use journal_volume::BatchBuf;
+use kernel::{Opened, Spool};
+use kernel_expiring::{AgedArticles, AgedGroup, aged_group, since};
+use kernel_locked::Locked;
+use kernel_shared::Kern;
 use model::Moment;
-use names::Wildmat;
-use opening::Opened;
-use printing::CommandError;
 use program_files::{VolumeDisk, VolumeFile, new_counts, open};
-use shared_kernel::Kern;
+use program_printing::CommandError;
 use std::alloc::Global;
 use std::fs::File;
 use std::io::Write;
 use std::rt::Files;
 use std::sync::Wait;
-use volume::BatchBuf;
+use text_names::Wildmat;
 
 /// Which articles are removed from their groups by their age.
 #[derive(Clone, Copy)]

@@ -7,21 +7,21 @@ ghost use Rattle.journal.specs.Journal.{IsIdle};
 mod ages;
 
 pub use ages::{AgeOrder, expire_older};
-use flusher::{FlushError, TurnSeat, flush_turn};
 use journal::Journal;
-use locked_kernel::Locked;
-use lookups::LookUps;
-use mark::Mark;
-use names::{GroupName, GroupRequest};
-use opening::Opened;
-use printing::CommandError;
+use journal_volume::BatchBuf;
+use kernel::Opened;
+use kernel_locked::Locked;
+use kernel_shared::{AdminError, ExpireError, Kern, NoHooks};
 use program_files::{VolumeDisk, VolumeFile, new_counts, open};
-use shared_kernel::{AdminError, ExpireError, Kern, NoGate};
+use program_printing::CommandError;
+use server_flusher::{FlushError, TurnSeat, flush_turn};
+use server_mark::Mark;
+use session_lookups::LookUps;
 use std::alloc::Global;
 use std::fs::File;
 use std::rt::Files;
 use std::sync::Wait;
-use volume::BatchBuf;
+use text_names::{GroupName, GroupRequest};
 
 /// Adds a group and makes it durable. Answers its serial.
 pub fn group<R: Files<File = File> + Wait>(
@@ -106,7 +106,7 @@ fn flush<R: Wait>(
 {
     let (mark, seat, _) = Mark::new(alloc)?;
     let mut seat = TurnSeat::new(seat);
-    match flush_turn(rt, journal, kern, &mark, &mut seat, batch, &NoGate) {
+    match flush_turn(rt, journal, kern, &mark, &mut seat, batch, &NoHooks) {
         Ok(_) => Ok(()),
         Err(FlushError::Fault) => Err(CommandError::Fault),
         Err(FlushError::Halted) => Err(CommandError::Halted),

@@ -2,11 +2,11 @@
 //! what is wrong with a volume.
 #![tactic(auto)]
 
-mod files;
-mod refusals;
+mod opening_refusals;
+mod volume_file;
 
-pub use files::{
+pub use opening_refusals::refusal_of;
+pub use volume_file::{
     ReadDisk, VolumeDisk, VolumeFile, block_octets, changes_at, find, find_to_read, format,
     new_counts, octets_at, open, open_found, open_to_read,
 };
-pub use refusals::refusal_of;

@@ -1,16 +1,16 @@
 //! Files the articles of a batch.
 #![tactic(auto)]
 
-use importing::{ImportCounts, ImportError, Place, Report, Watcher};
-use logging::{beginning_of_1970, moment};
 use model::Moment;
-use printing::CommandError;
 use program_files::{VolumeFile, find, new_counts, refusal_of};
+use program_printing::CommandError;
+use server_logging::{beginning_of_1970, moment};
 use std::alloc::Global;
 use std::fs::File;
 use std::io::{self, Read, Write};
 use std::rt::Files;
 use std::time::{Clock, Duration, Instant};
+use volume_importing::{ImportCounts, ImportError, Place, Report, Watcher};
 use volume_store::Store;
 
 /// The seconds between two lines of progress.
@@ -109,7 +109,7 @@ impl<'a, R: Clock, F: Write> Watcher for Teller<'a, R, F> {
     }
 }
 
-/// Files the articles of a batch in a volume, as `importing::import` does. Each refused article is reported on
+/// Files the articles of a batch in a volume, as `volume_importing::import` does. Each refused article is reported on
 /// `faults`; if that is a terminal, it also shows the progress.
 pub fn import<R: Files<File = File> + Clock, I: Read, F: Write>(
     rt: &R,
@@ -132,7 +132,7 @@ pub fn import<R: Files<File = File> + Clock, I: Read, F: Write>(
         }
     };
     let mut teller = Teller::new(rt, faults, is_terminal)?;
-    let imported = importing::import(alloc, &mut store, input, &mut teller);
+    let imported = volume_importing::import(alloc, &mut store, input, &mut teller);
     // a line of progress that can't be erased is no reason to withhold the report
     let _ = teller.erase();
     match imported {

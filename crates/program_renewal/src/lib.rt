@@ -2,10 +2,10 @@
 //! left. The new volume is made beside its place, and put there at the end.
 #![tactic(auto)]
 
-mod copying;
 mod progress;
 mod refusal;
 mod renewal;
+mod renewal_copy;
 mod report;
 mod target;
 

@@ -1,8 +1,8 @@
 //! Shows on a terminal how far a renewal is.
 
-use renewing::{RenewalCounts, Watcher};
 use std::io::{self, Write};
 use std::time::{Clock, Duration, Instant};
+use volume_renewing::{RenewalCounts, Watcher};
 
 /// The seconds between two lines of progress.
 const PAUSE_SECS: u64 = 1;

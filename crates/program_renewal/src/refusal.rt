@@ -1,12 +1,12 @@
 //! Why a volume was not renewed.
 
-use causes::Cause;
+use disk_causes::Cause;
 use journal::JournalError;
-use printing::{CommandError, Failure};
-use renewing::Shortage;
+use program_printing::{CommandError, Failure};
 use std::alloc::AllocError;
 use std::io;
 use thiserror::Error;
+use volume_renewing::Shortage;
 
 /// Why a volume was not renewed. It has all its changes, and the new one is not there.
 #[derive(Debug, Drop, Error)]

@@ -2,25 +2,24 @@
 
 ghost use Rattle.std.specs.Prelude.{◌≡◌, IfOk, length, unwrap_or};
 
-use crate::copying::{copy, usage_of};
 use crate::progress::Teller;
 use crate::refusal::Refusal;
+use crate::renewal_copy::{copy, usage_of};
 use crate::report::{Report, Usage};
 use crate::target::Target;
-use counting::Explains;
-use filedisk::{FileDisk, FileError};
-use lookups::LookUps;
-use names::is_host;
-use new_volume::{FORMAT_2, VolumePlan, are_sizes, device_octets, format};
-use printing::{CommandError, Failure};
+use disk_file::{Explains, FileDisk, FileError};
 use program_files::{VolumeDisk, VolumeFile, find, refusal_of};
-use renewing::RenewalCounts;
+use program_printing::{CommandError, Failure};
+use session_lookups::LookUps;
 use spool::Spool;
 use std::alloc::Global;
 use std::fs::File;
 use std::io::Write;
 use std::rt::Files;
 use std::time::Clock;
+use text_names::is_host;
+use volume_new::{FORMAT_3, VolumePlan, are_sizes, device_octets, format};
+use volume_renewing::RenewalCounts;
 use volume_store::Store;
 
 /// A volume in a file, whose device collects writes until a sync.
@@ -38,7 +37,7 @@ pub struct Order<'a> {
     pub inodes: Option<u64>,
 }
 
-/// Renews a volume that no server serves, as `renewing::renew` does. The new volume is made in a file beside its place, whose
+/// Renews a volume that no server serves, as `volume_renewing::renew` does. The new volume is made in a file beside its place, whose
 /// name ends in `.part`, and put there once it is durable. So a crash or a kill at any moment leaves the old volume with all
 /// that it stands for, and the new one not at all or whole. A refusal leaves no new volume, and removes the file that was
 /// begun. If `faults` is a terminal, it shows the progress.
@@ -64,8 +63,8 @@ fn renew_order<R: Files<File = File> + Clock, F: Write>(
     target: &Target,
     teller: &mut Teller<'_, R, F>,
 ) -> Result<Report, Refusal> {
-    let mut old = open(teller.rt, alloc, target.file(order.old))?;
-    let before = usage_of(&mut old)?;
+    let old = open(teller.rt, alloc, target.file(order.old))?;
+    let before = usage_of(&old);
     let plan = plan_of(alloc, old.spool(), order)?;
     let renewed = renew_to(alloc, old.spool(), &plan, target, teller);
     teller.erase();
@@ -95,7 +94,7 @@ fn plan_of<'a>(alloc: Global, old: &'a Spool, order: &Order<'_>) -> Result<Volum
     ensures host { IfOk result (λ plan. plan.host.now ≡ old.now.host) }
     ensures blocks { IfOk result (λ plan. plan.blocks ≡ unwrap_or order.now.blocks (length old.now.blocks)) }
     ensures inodes { IfOk result (λ plan. plan.inodes ≡ unwrap_or order.now.inodes old.now.inodes) }
-    ensures format { IfOk result (λ plan. plan.format ≡ 2) }
+    ensures format { IfOk result (λ plan. plan.format ≡ 3) }
 {
     let host = old.host();
     let blocks = order.blocks.unwrap_or(u64::from(old.blocks()));
@@ -113,7 +112,7 @@ fn plan_of<'a>(alloc: Global, old: &'a Spool, order: &Order<'_>) -> Result<Volum
         host,
         blocks,
         inodes,
-        format: FORMAT_2,
+        format: FORMAT_3,
     })
 }
 
@@ -144,7 +143,7 @@ fn fill<R: Files<File = File> + Clock, F: Write>(
     teller: &mut Teller<'_, R, F>,
 ) -> Result<(RenewalCounts, Usage), Refusal> {
     let counts = copy(alloc, old, new, teller)?;
-    let after = usage_of(new)?;
+    let after = usage_of(new);
     match target.put(teller.rt) {
         Ok(()) => Ok((counts, after)),
         Err(error) => Err(Refusal::NotPut(error)),

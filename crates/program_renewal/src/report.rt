@@ -1,9 +1,9 @@
 //! What a renewal did, for a person or as JSON.
 
-use renewing::RenewalCounts;
 use serde_json::{Value, json};
 use std::alloc::{AllocError, Global};
 use std::fmt::{self, Display, Formatter};
+use volume_renewing::RenewalCounts;
 
 /// How much there is of something, and how much of it is used.
 #[derive(Clone, Copy, Debug, PartialEq, Eq)]
@@ -54,7 +54,7 @@ impl Display for Report {
     }
 }
 
-/// What a renewal did as one JSON object, with no space and no end of line. Refused only for want of memory.
+/// What a renewal did as one JSON object, with no space and no end of line.
 pub fn json_text(alloc: Global, report: &Report) -> Result<String, AllocError> {
     report_value(alloc, report)?.to_string(alloc)
 }

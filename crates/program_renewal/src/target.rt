@@ -1,10 +1,9 @@
 //! Where the new volume is made, and where it is put.
 
-use causes::Cause;
-use counting::Counts;
-use filedisk::FileError;
-use printing::{CommandError, Failure};
+use disk_causes::Cause;
+use disk_file::{Counts, FileError};
 use program_files::{VolumeFile, new_counts};
+use program_printing::{CommandError, Failure};
 use std::alloc::{AllocError, Global};
 use std::fs::{self, File};
 use std::io::{self, ErrorKind};

@@ -1,13 +1,12 @@
 //! Reports the state of a volume.
 
-use printing::CommandError;
 use program_files::{VolumeFile, find_to_read, new_counts, refusal_of};
-use reporting::{VolumeStatus, json_text, table_text};
+use program_printing::CommandError;
 use std::alloc::Global;
 use std::fs::File;
 use std::io::Write;
 use std::rt::Files;
-use volume_states::state_on;
+use volume_states::{VolumeStatus, json_text, state_on, table_text};
 
 /// Prints the state of a volume, for a person or as JSON on one line.
 pub fn status<R: Files<File = File>, W: Write>(

@@ -7,21 +7,19 @@ ghost use Rattle.journal.specs.Journal.{IsIdle, IsReady};
 mod progress;
 
 use crate::progress::open_told;
-use counting::Counts;
-use flusher::TurnSeat;
+use disk_file::Counts;
 use journal::Journal;
-use kernel::Kernel;
-use locked_kernel::Locked;
-use logging::{Log, Verbosity, beginning_of_1970};
-use lookups::LookUps;
-use mark::{Mark, Seat};
+use kernel::{Kernel, Opened};
+use kernel_locked::Locked;
+use kernel_shared::NoHooks;
 use model::Moment;
-use networks::Network;
-use opening::Opened;
-use printing::CommandError;
 use program_files::{VolumeDisk, VolumeFile, new_counts};
+use program_printing::CommandError;
 use server::{Limits, MetricsFile, ServeError, Server};
-use shared_kernel::NoGate;
+use server_flusher::TurnSeat;
+use server_logging::{Log, Verbosity, beginning_of_1970};
+use server_mark::{Mark, Seat};
+use session_lookups::LookUps;
 use std::alloc::{AllocError, Global};
 use std::fs::File;
 use std::io::{BufRead, Write};
@@ -30,7 +28,8 @@ use std::rt::Files;
 use std::sync::{Arc, Wait};
 use std::thread::Threads;
 use std::time::Clock;
-use usage::{BitmapMarks, Tally, VolumeFacts};
+use text_networks::Network;
+use volume_usage::{BitmapMarks, Tally, VolumeFacts};
 
 /// What is asked of a server.
 #[derive(Clone, Copy)]
@@ -339,7 +338,7 @@ fn serve_parts<
         marks,
         tally,
         newest,
-        gate: &NoGate,
+        hooks: &NoHooks,
         limits: Limits::standard(),
         metrics: entrance.metrics.as_ref(),
     };

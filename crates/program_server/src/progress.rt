@@ -3,12 +3,12 @@
 ghost use Rattle.std.specs.Prelude.{IfOk};
 ghost use Rattle.journal.specs.Journal.{IsReady};
 
-use counting::Counts;
 use crossbeam_channel::{Receiver, RecvTimeoutError, bounded};
-use logging::{Log, LogEvent, OpeningStep};
-use opening::{OpenError, Opened, Refused};
-use printing::CommandError;
+use disk_file::Counts;
+use kernel::{OpenError, Opened, Refused};
 use program_files::{VolumeDisk, VolumeFile, block_octets, find, refusal_of};
+use program_printing::CommandError;
+use server_logging::{Log, LogEvent, OpeningStep};
 use std::alloc::Global;
 use std::fs::File;
 use std::rt::Files;
@@ -55,7 +55,7 @@ pub(crate) fn open_told<R: Files<File = File> + Threads + Wait + Clock + Sync>(
         move || -> Result<Opened<VolumeDisk>, Refused<VolumeDisk>>
             ensures { IfOk result (λ opened. IsReady opened.journal) }
         {
-            let opened = opening::open(alloc, device, sessions);
+            let opened = kernel::open(alloc, device, sessions);
             drop(under_way);
             opened
         },

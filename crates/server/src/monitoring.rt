@@ -1,18 +1,18 @@
 //! What a monitor is told of a running server, in a file that is written again and again.
 
 use crossbeam_channel::{Receiver, RecvTimeoutError};
-use logging::{Cause, EventCounts, Log, LogEvent};
-use metrics::{CommitTimes, Metrics, SessionStates, VolumeCounts, text};
-use releasing::{Shared, Writers};
-use roster::SessionState;
-use shared_kernel::Kern;
+use kernel_shared::Kern;
+use server_logging::{Cause, EventCounts, Log, LogEvent};
+use server_metrics::{CommitTimes, Metrics, SessionStates, VolumeCounts, text};
+use server_releasing::{Shared, Writers};
+use server_roster::SessionState;
 use std::alloc::{AllocError, Global};
 use std::fs::{self, File};
 use std::io;
 use std::rt::Files;
 use std::sync::Wait;
 use std::time::{Clock, Duration};
-use usage::{Tally, VolumeFacts};
+use volume_usage::{Tally, VolumeFacts};
 
 /// The seconds from one writing to the next one.
 const WRITING_SECS: u64 = 15;
@@ -25,7 +25,7 @@ pub struct MetricsFile {
 }
 
 impl MetricsFile {
-    /// The file with this path. Refused only for want of memory.
+    /// The file with this path.
     pub fn at(alloc: Global, path: &str) -> Result<MetricsFile, AllocError> {
         Ok(MetricsFile {
             path: String::from_str(alloc, path)?,

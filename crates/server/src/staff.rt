@@ -1,10 +1,10 @@
 //! The threads of the sessions. They are started as callers come, and stay for later callers.
 
 use crate::threads::Hall;
-use accepting::Crew;
-use answering::SessionThread;
-use releasing::ReplyWriter;
-use shared_kernel::{Gate, Kern};
+use kernel_shared::{Hooks, Kern};
+use server_accepting::Crew;
+use server_answering::SessionThread;
+use server_releasing::ReplyWriter;
 use std::sync::Wait;
 use std::thread::Scope;
 use std::time::Clock;
@@ -37,17 +37,17 @@ pub(crate) enum Wanted {
 }
 
 /// Asks for the threads of sessions.
-pub(crate) struct Recruiter<'s, R, K, G> {
-    pub(crate) hall: &'s Hall<'s, R, K, G>,
+pub(crate) struct Recruiter<'s, R, K, H> {
+    pub(crate) hall: &'s Hall<'s, R, K, H>,
 }
 
-impl<'s, R, K, G> Drop for Recruiter<'s, R, K, G> {
+impl<'s, R, K, H> Drop for Recruiter<'s, R, K, H> {
     fn drop(self) {
         let Recruiter { hall: _ } = self;
     }
 }
 
-impl<'s, R: Wait, K, G> Crew for Recruiter<'s, R, K, G> {
+impl<'s, R: Wait, K, H> Crew for Recruiter<'s, R, K, H> {
     /// The thread that starts others is asked, where threads are missing. One acceptor at a time asks it.
     fn has_threads(&self, sessions: usize) -> bool {
         let Hall {
@@ -67,18 +67,18 @@ impl<'s, R: Wait, K, G> Crew for Recruiter<'s, R, K, G> {
 }
 
 /// Starts the threads of sessions.
-pub(crate) struct Staff<'s, E, R, K, G> {
+pub(crate) struct Staff<'s, E, R, K, H> {
     pub(crate) scope: &'s Scope<'s, E>,
-    pub(crate) hall: &'s Hall<'s, R, K, G>,
+    pub(crate) hall: &'s Hall<'s, R, K, H>,
 }
 
-impl<'s, E, R, K, G> Drop for Staff<'s, E, R, K, G> {
+impl<'s, E, R, K, H> Drop for Staff<'s, E, R, K, H> {
     fn drop(self) {
         let Staff { scope: _, hall: _ } = self;
     }
 }
 
-impl<'s, E, R: Wait + Clock + Sync, K: Kern + Sync, G: Gate + Sync> Staff<'s, E, R, K, G> {
+impl<'s, E, R: Wait + Clock + Sync, K: Kern + Sync, H: Hooks + Sync> Staff<'s, E, R, K, H> {
     /// Starts threads as acceptors ask for them, until nobody asks any more.
     pub(crate) fn start_as_asked(&self) {
         let (rt, channels) = (self.hall.shared.rt, self.hall.channels);
@@ -155,7 +155,6 @@ impl<'s, E, R: Wait + Clock + Sync, K: Kern + Sync, G: Gate + Sync> Staff<'s, E,
                 log: hall.log,
                 doors: hall.doors,
                 partings: &hall.channels.parting,
-                reserve: hall.reserve,
                 verdicts: hall.verdicts,
             };
             thread.serve_calls(&hall.channels.calls)

@@ -6,18 +6,18 @@ ghost use Rattle.journal.specs.Journal.{IsIdle};
 use crate::monitoring::{Monitor, Written, write, write_all};
 use crate::staff::{Recruiter, Staff, Started, Wanted};
 use crate::{ServeError, Server};
-use accepting::{Acceptor, Caller, Doors, FAREWELLS, Parting, Way, linger_all};
-use attending::{Attending, Reserve, Verdicts, Watching, file_left};
 use crossbeam_channel::{Receiver, Sender, bounded};
 use disk::Disk;
-use flusher::{FlushError, Flusher, FlusherEnd, flush_all};
-use logging::{Cause, Log, LogEvent, Moments};
-use mark::{Mark, Seat};
-use metrics::LongestTime;
-use networks::Guests;
-use operator::Operator;
-use releasing::{Shared, Writers, release_all};
-use shared_kernel::{Asking, Bells, Closing, Gate, Kern, halt};
+use journal_volume::BatchBuf;
+use kernel_shared::{Asking, Bells, Closing, Hooks, Kern, halt};
+use server_accepting::{Acceptor, Caller, Doors, FAREWELLS, Parting, Way, linger_all};
+use server_attending::{Attending, Verdicts, Watching, file_left};
+use server_flusher::{FlushError, Flusher, FlusherEnd, flush_all};
+use server_logging::{Cause, Log, LogEvent, Moments};
+use server_mark::{Mark, Seat};
+use server_metrics::LongestTime;
+use server_operator::Operator;
+use server_releasing::{Shared, Writers, release_all};
 use std::alloc::{AllocError, Global};
 use std::fs::File;
 use std::io::{BufRead, Write};
@@ -26,8 +26,8 @@ use std::rt::Files;
 use std::sync::{Mutex, Wait};
 use std::thread::{self, JoinHandle, Scope, Threads};
 use std::time::{Clock, Duration, Instant};
-use usage::{Tally, VolumeFacts};
-use volume::BatchBuf;
+use text_networks::Guests;
+use volume_usage::{Tally, VolumeFacts};
 
 /// The most callers who are on the way to their sessions' threads. There is a thread for each, so none of them waits.
 const CALLS: usize = 64;
@@ -51,13 +51,13 @@ pub fn serve<
         + 'static,
     D: Disk + Drop + Send,
     K: Kern + Sync,
-    G: Gate + Sync,
+    H: Hooks + Sync,
     L: BufRead + Send + Drop + 'static,
     A: Write + Send + Drop + 'static,
 >(
     rt: &R,
     alloc: Global,
-    server: Server<'_, D, K, G>,
+    server: Server<'_, D, K, H>,
     lines: L,
     answers: A,
 ) -> Result<(), ServeError> {
@@ -78,7 +78,7 @@ pub fn serve<
         marks,
         tally,
         newest,
-        gate,
+        hooks,
         limits,
         metrics,
     } = server;
@@ -96,7 +96,7 @@ pub fn serve<
         rt,
         alloc,
         kern,
-        gate,
+        hooks,
         bells: &bells,
         writers: &writers,
         closing: &closing,
@@ -118,7 +118,6 @@ pub fn serve<
         tally,
         facts,
     };
-    let reserve = Reserve::new(tally, facts);
     let verdicts = Verdicts {
         log,
         host: facts.host,
@@ -141,7 +140,6 @@ pub fn serve<
         channels: &channels,
         moments: &moments,
         doors: &doors,
-        reserve: &reserve,
         verdicts,
         log,
         monitor,
@@ -206,8 +204,8 @@ impl Channels {
 }
 
 /// What the threads of a server share.
-pub(crate) struct Hall<'a, R, K, G> {
-    pub(crate) shared: &'a Shared<'a, R, K, G>,
+pub(crate) struct Hall<'a, R, K, H> {
+    pub(crate) shared: &'a Shared<'a, R, K, H>,
     /// The threads of sessions that were started.
     pub(crate) started: &'a Mutex<Started>,
     /// Held by the acceptor that asks for threads.
@@ -215,13 +213,12 @@ pub(crate) struct Hall<'a, R, K, G> {
     pub(crate) channels: &'a Channels,
     pub(crate) moments: &'a Moments,
     pub(crate) doors: &'a Doors<'a>,
-    pub(crate) reserve: &'a Reserve<'a>,
     pub(crate) verdicts: Verdicts<'a>,
     pub(crate) log: &'a Log,
     pub(crate) monitor: Option<Monitor<'a>>,
 }
 
-impl<'a, R, K, G> Drop for Hall<'a, R, K, G> {
+impl<'a, R, K, H> Drop for Hall<'a, R, K, H> {
     fn drop(self) {
         let Hall {
             shared: _,
@@ -230,7 +227,6 @@ impl<'a, R, K, G> Drop for Hall<'a, R, K, G> {
             channels: _,
             moments: _,
             doors: _,
-            reserve: _,
             verdicts: _,
             log: _,
             monitor: _,
@@ -281,9 +277,9 @@ fn run_and_watch<
         + Sync,
     D: Disk + Drop + Send,
     K: Kern + Sync,
-    G: Gate + Sync,
+    H: Hooks + Sync,
 >(
-    hall: &'a Hall<'a, R, K, G>,
+    hall: &'a Hall<'a, R, K, H>,
     flusher: Flusher<'a, D>,
     looker: Looker<'a>,
     caller: Sender<Caller>,
@@ -310,9 +306,9 @@ fn run<
     R: Net<Listener = TcpListener, Stream = TcpStream> + Threads + Wait + Clock + Sync,
     D: Disk + Drop,
     K: Kern + Sync,
-    G: Gate + Sync,
+    H: Hooks + Sync,
 >(
-    hall: &'a Hall<'a, R, K, G>,
+    hall: &'a Hall<'a, R, K, H>,
     flusher: Flusher<'a, D>,
     looker: Looker<'a>,
     caller: Sender<Caller>,
@@ -354,9 +350,9 @@ fn run<
 
 /// Starts the releaser, the thread that lingers, the operator's, and the one that starts the threads of sessions. Answers
 /// false if the system cannot start all.
-fn start_others<'s, E, R: Wait + Clock + Sync, K: Kern + Sync, G: Gate + Sync>(
+fn start_others<'s, E, R: Wait + Clock + Sync, K: Kern + Sync, H: Hooks + Sync>(
     scope: &'s Scope<'s, E>,
-    hall: &'s Hall<'s, R, K, G>,
+    hall: &'s Hall<'s, R, K, H>,
     looker: Looker<'s>,
 ) -> bool {
     let staff = Staff { scope, hall };
@@ -373,10 +369,10 @@ fn start_accepting<
     E,
     R: Net<Listener = TcpListener, Stream = TcpStream> + Wait + Clock + Sync,
     K: Kern + Sync,
-    G: Gate + Sync,
+    H: Hooks + Sync,
 >(
     scope: &'s Scope<'s, E>,
-    hall: &'s Hall<'s, R, K, G>,
+    hall: &'s Hall<'s, R, K, H>,
     caller: &Sender<Caller>,
     way: Way,
     acceptors: &mut Vec<JoinHandle<()>>,
@@ -404,13 +400,13 @@ fn start_accepting<
 }
 
 /// Reads from the callers whose sessions are closed.
-fn linger<R: Wait + Clock, K, G>(hall: &Hall<'_, R, K, G>) {
+fn linger<R: Wait + Clock, K, H>(hall: &Hall<'_, R, K, H>) {
     let Shared { rt, limits, .. } = hall.shared;
     linger_all(*rt, limits.linger, &hall.channels.partings)
 }
 
 /// Makes the changes that the operator's lines ask for, and has them answered.
-fn answer_lines<R: Wait + Clock, K: Kern, G>(hall: &Hall<'_, R, K, G>, looker: Looker<'_>) {
+fn answer_lines<R: Wait + Clock, K: Kern, H>(hall: &Hall<'_, R, K, H>, looker: Looker<'_>) {
     let Shared {
         rt,
         alloc,
@@ -426,7 +422,7 @@ fn answer_lines<R: Wait + Clock, K: Kern, G>(hall: &Hall<'_, R, K, G>, looker: L
         tally,
         facts,
     } = looker;
-    let service = operator::OperatorService {
+    let service = server_operator::OperatorService {
         rt: *rt,
         alloc: *alloc,
         kern: *kern,
@@ -441,8 +437,8 @@ fn answer_lines<R: Wait + Clock, K: Kern, G>(hall: &Hall<'_, R, K, G>, looker: L
 }
 
 /// Flushes until a turn is refused or a stop is done. The log reports a refusal.
-fn flush<R: Wait + Clock, D: Disk + Drop, K: Kern, G: Gate>(
-    hall: &Hall<'_, R, K, G>,
+fn flush<R: Wait + Clock, D: Disk + Drop, K: Kern, H: Hooks>(
+    hall: &Hall<'_, R, K, H>,
     flusher: Flusher<'_, D>,
     facts: VolumeFacts<'_>,
 ) -> Result<(), ServeError> {
@@ -452,7 +448,7 @@ fn flush<R: Wait + Clock, D: Disk + Drop, K: Kern, G: Gate>(
         bells,
         ..
     } = hall.shared;
-    let watching = Watching::new(hall.shared, hall.log, flusher.tally, facts, hall.reserve);
+    let watching = Watching::new(hall.shared, hall.log, flusher.tally, facts);
     watching.look();
     let attending = Attending::new(hall.shared, &watching, hall.verdicts, flusher.tally);
     let tally = flusher.tally;
@@ -477,8 +473,8 @@ fn event_of(error: FlushError, tally: &Tally) -> LogEvent {
 }
 
 /// Gives up because there are no threads for callers: nothing more is flushed.
-fn give_up<R: Wait, D: Disk + Drop, K: Kern, G>(
-    shared: &Shared<'_, R, K, G>,
+fn give_up<R: Wait, D: Disk + Drop, K: Kern, H>(
+    shared: &Shared<'_, R, K, H>,
     flusher: Flusher<'_, D>,
 ) {
     let Flusher { mark, seat, .. } = flusher;
@@ -487,7 +483,7 @@ fn give_up<R: Wait, D: Disk + Drop, K: Kern, G>(
 }
 
 /// Wakes the threads that wait for the flusher. The acceptors and the operator's thread go on: they refuse what comes.
-fn wake<R, K, G>(shared: &Shared<'_, R, K, G>) {
+fn wake<R, K, H>(shared: &Shared<'_, R, K, H>) {
     let Shared { bells, .. } = shared;
     bells.operator.unpark();
     bells.releaser.unpark();
@@ -497,7 +493,7 @@ fn wake<R, K, G>(shared: &Shared<'_, R, K, G>) {
 /// Waits until a caller was told that the service ends, or the operator has asked for the server's end, for
 /// `LAST_CALL_SECS` at most. Meanwhile it files what sessions leave: the kernel is halted, so their callers are told too.
 /// Where the clock cannot be read, it waits for nobody.
-fn wait_for_caller_or_stop<R: Wait + Clock, K: Kern, G: Gate>(hall: &Hall<'_, R, K, G>) {
+fn wait_for_caller_or_stop<R: Wait + Clock, K: Kern, H: Hooks>(hall: &Hall<'_, R, K, H>) {
     let Shared { rt, bells, .. } = hall.shared;
     let Ok(since) = Instant::now(*rt) else {
         return;
@@ -519,7 +515,7 @@ fn wait_for_caller_or_stop<R: Wait + Clock, K: Kern, G: Gate>(hall: &Hall<'_, R,
 }
 
 /// Disconnects the callers and ends all threads, after the last caller was accepted.
-fn end<R: Wait, K, G>(hall: &Hall<'_, R, K, G>) {
+fn end<R: Wait, K, H>(hall: &Hall<'_, R, K, H>) {
     let Shared { rt, .. } = hall.shared;
     hall.channels.operator.end(*rt);
     hall.shared.close();

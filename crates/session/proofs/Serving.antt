@@ -1,6 +1,6 @@
 -- The mark of a step, and of what is filed.
 use Rattle.std.proofs.Common.{◌≡◌, ℕ, Bool, true, false, refl, ap, sym, ◌∙◌, subst}
-use Rattle.std.specs.Prelude.{Option, Some, None, if◌then◌else◌}
+use Rattle.std.specs.Prelude.{Option, Some, None, if◌then◌else◌, is_some}
 use Rattle.model.specs.Stream.{Octets}
 use Rattle.model.specs.Answer.{answer, full_answer, is_long}
 use Rattle.model.specs.Reads.{reads}
@@ -13,10 +13,10 @@ use Rattle.model.specs.declared.session.Answer.{Answer}
 use Rattle.model.specs.declared.session.Awaits.{Awaits}
 use Rattle.model.specs.declared.session.Awaits.TheVariants as awaits
 use Rattle.model.specs.declared.session.Session.{Session}
-use Rattle.replies.specs.Answered.{Answered, answered}
+use Rattle.session_replies.specs.Answered.{Answered, answered}
 use Rattle.session.specs.Served.{Grows, IsServed, lacks_room_for, mark_in}
 use Rattle.session.specs.declared.Served.{Served}
-use Rattle.outbox.specs.declared.lines.Lines.{Lines}
+use Rattle.kernel_outbox.specs.declared.made_lines.Lines.{Lines}
 
 module _ (host : Octets) (S : Spool) (x : Session) (m : Message) (t : ℕ) where
   abbrev step_mark : Bool → Mark
@@ -77,7 +77,7 @@ module _ (host : Octets) (S : Spool) (x : Session) (m : Message) (t : ℕ) where
 
 -- the answer where there is no room
 abbrev pub full_served : Answered → Served
-full_served answered = record { answered = answered; mark = mark.Full }
+full_served answered = record { answered = answered; mark = mark.Full; has_accepted = false }
 
 pub is_full_served : (host : Octets) (S : Spool) (made : Lines → Octets) (keeps : Lines → Type 0) (lacks : Change → Bool)
     (adds : Change → Type 0) (stays : Type 0) (x : Session) (m : Message) (t : ℕ) (k : Mark) (c : Change)
@@ -89,5 +89,6 @@ is_full_served host S made keeps lacks adds stays x m t k c is makes room same =
   kept = tt;
   next = ap (λ (a : Answer). a.next) (sym (full_is host S x m t));
   reads = sym (full_reads host S x m t);
+  accepted = ap is_some (sym (ap (λ (a : Answer). a.change) (full_is host S x m t) ∙ full_none host S x m t));
   spool = subst (Grows adds stays) (sym (ap (λ (a : Answer). a.change) (full_is host S x m t) ∙ full_none host S x m t)) same;
 }

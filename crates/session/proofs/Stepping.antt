@@ -15,11 +15,11 @@ use Rattle.model.specs.declared.change.Change.{Change}
 use Rattle.model.specs.declared.session.Answer.{Answer}
 use Rattle.model.specs.declared.session.Awaits.{Awaits}
 use Rattle.model.specs.declared.session.Awaits.TheVariants as awaits
-use Rattle.outbox.specs.Lines.{with_lines}
-use Rattle.outbox.specs.declared.lines.Lines.{Lines}
+use Rattle.kernel_outbox.specs.Lines.{with_lines}
+use Rattle.kernel_outbox.specs.declared.made_lines.Lines.{Lines}
 use Rattle.model.specs.declared.session.Session.{Session}
-use Rattle.posting_commands.specs.Outcomes.{Replied, post_said, said_served, then_line}
-use Rattle.replies.specs.Answered.{Answered, Answers, answered, made_answer}
+use Rattle.session_posting.specs.Outcomes.{Replied, post_said, said_served, then_line}
+use Rattle.session_replies.specs.Answered.{Answered, Answers, answered, made_answer}
 use Rattle.session.specs.Steps.{IsStep, step_of}
 
 module _ (host : Octets) (S : Spool) (x : Session) (t : ℕ) (m : Message) where

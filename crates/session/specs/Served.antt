@@ -1,5 +1,5 @@
 -- What serving a message answers, and what it does to the spool.
-use Rattle.std.specs.Prelude.{◌≡◌, ℕ, Bool, true, false, Option, Some, None, Result, MatchResult, if◌then◌else◌}
+use Rattle.std.specs.Prelude.{◌≡◌, ℕ, Bool, true, false, Option, Some, None, Result, MatchResult, if◌then◌else◌, is_some}
 use Rattle.model.specs.Stream.{Octets}
 use Rattle.model.specs.Answer.{answer, is_long}
 use Rattle.model.specs.Reads.{reads}
@@ -9,11 +9,11 @@ use Rattle.model.specs.declared.message.Message.{Message}
 use Rattle.model.specs.declared.message.Mark.{Mark}
 use Rattle.model.specs.declared.message.Mark.TheVariants as mark
 use Rattle.model.specs.declared.session.Session.{Session}
-use Rattle.outbox.specs.Lines.{IsKept, whole}
-use Rattle.outbox.specs.declared.lines.Lines.{Lines}
-use Rattle.replies.specs.Answered.{reply_of}
-use Rattle.change_spool.specs.declared.FilingError.{FilingError}
-use Rattle.change_spool.specs.declared.FilingError.TheVariants as error
+use Rattle.kernel_outbox.specs.Lines.{IsKept, whole}
+use Rattle.kernel_outbox.specs.declared.made_lines.Lines.{Lines}
+use Rattle.session_replies.specs.Answered.{reply_of}
+use Rattle.session_lookups.specs.declared.change_spool.FilingError.{FilingError}
+use Rattle.session_lookups.specs.declared.change_spool.FilingError.TheVariants as error
 use Rattle.session.specs.declared.Served.{Served}
 
 -- whether there is no room for the change of an answer, if it makes one
@@ -46,4 +46,5 @@ pub record IsServed (host : Octets) (S : Spool) (made : Lines → Octets) (keeps
   pub kept : IsKept keeps (reply_of served.answered)
   pub next : served.answered.answer.next ≡ (answer host S x m t served.mark).next
   pub reads : served.answered.reads ≡ reads host S x m t served.mark
+  pub accepted : served.has_accepted ≡ is_some (answer host S x m t served.mark).change
   pub spool : Grows adds stays (answer host S x m t served.mark).change

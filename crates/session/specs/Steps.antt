@@ -10,9 +10,9 @@ use Rattle.model.specs.declared.message.Message.{Message}
 use Rattle.model.specs.declared.session.Awaits.{Awaits}
 use Rattle.model.specs.declared.session.Awaits.TheVariants as awaits
 use Rattle.model.specs.declared.session.Session.{Session}
-use Rattle.posting_commands.specs.Outcomes.{Replied, said_served}
-use Rattle.outbox.specs.declared.lines.Lines.{Lines}
-use Rattle.replies.specs.Answered.{Answers, answered}
+use Rattle.session_posting.specs.Outcomes.{Replied, said_served}
+use Rattle.kernel_outbox.specs.declared.made_lines.Lines.{Lines}
+use Rattle.session_replies.specs.Answered.{Answers, answered}
 
 -- an article that would be too long as it is stored is refused and marked `Long`; everything else is served
 abbrev pub step_of : Octets → Spool → Session → ℕ → Awaits → Message → Replied

@@ -1,18 +1,17 @@
 //! Commands, each by its own function.
 
 ghost use Rattle.std.specs.Prelude.{◌≡◌, IfOk};
-ghost use Rattle.grammar.specs.Arguments.{IsInGrammar};
+ghost use Rattle.session_grammar.specs.Arguments.{IsInGrammar};
 ghost use Rattle.model.specs.Answer.{command_answer};
 ghost use Rattle.model.specs.Reads.{command_reads};
-ghost use Rattle.replies.specs.Answered.{Answers};
+ghost use Rattle.session_replies.specs.Answered.{Answers};
 
-use listing_commands::{list, newgroups, newnews};
-use lookups::LookUps;
 use model::{Command, Moment, Session};
-use plain_commands::{date, mode_reader, quit};
-use posting_commands::{ihave, post};
-use reading_commands::{fetch, group, last, list_group, next, over};
-use replies::{Answered, FixedBlock, says_block};
+use session_listing::{list, newgroups, newnews};
+use session_lookups::LookUps;
+use session_posting::{ihave, post};
+use session_reading::{fetch, group, last, list_group, next, over};
+use session_replies::{Answered, FixedBlock, date, mode_reader, quit, says_block};
 use std::alloc::{AllocError, Global};
 
 /// The answer to a command, with what it reads.

@@ -4,7 +4,7 @@
 
 ghost use Rattle.std.specs.Prelude.{◌≡◌, ◌++◌, ◌∷◌, [], IfOk, OnErr};
 ghost use Rattle.model.specs.Lawful.{IsLawful, IsLawfulSession};
-ghost use Rattle.posting_commands.specs.Accepted.{change_of};
+ghost use Rattle.session_posting.specs.Accepted.{change_of};
 ghost use Rattle.session.specs.Served.{IsFiled, IsServed};
 
 mod commands;
@@ -12,12 +12,11 @@ mod messages;
 mod received;
 mod steps;
 
-use change_spool::{ChangeSpool, FilingError};
 use model::{Mark, Moment, Session, lawful_stays};
-use plain_commands::full;
-use posting_commands::{Accepted, Step, Stored};
 pub use received::Received;
-use replies::Answered;
+use session_lookups::{ChangeSpool, FilingError};
+use session_posting::{Accepted, Step, Stored};
+use session_replies::{Answered, full};
 use std::alloc::{AllocError, Global};
 use steps::step;
 
@@ -27,6 +26,8 @@ pub struct Served {
     /// counts its own change among those that it reads
     pub answered: Answered,
     pub mark: Mark,
+    /// Whether the message's change was filed; it is the spool's last one then.
+    pub has_accepted: bool,
 }
 
 /// Answers a message and files the change that it accepts, at the given moment. The text of the message was read before,
@@ -46,14 +47,18 @@ pub fn serve<S: ChangeSpool>(
     ensures err { OnErr result (spool.new ≡ spool.old) }
 {
     lawful_stays();
-    // its clauses state that the moment is before the year 10000
+    // for the proof: the moment is before the year 10000
     let _seconds = moment.seconds();
     let Step {
         answered,
         accepted,
         mark,
     } = step(alloc, spool, session, received, moment)?;
-    let served = Served { answered, mark };
+    let served = Served {
+        answered,
+        mark,
+        has_accepted: accepted.is_some(),
+    };
     let Some(accepted) = accepted else {
         return Ok(served);
     };
@@ -62,6 +67,7 @@ pub fn serve<S: ChangeSpool>(
         Err(FilingError::Full) => Ok(Served {
             answered: full(alloc, session)?,
             mark: Mark::Full,
+            has_accepted: false,
         }),
         Err(FilingError::Memory) => Err(AllocError),
     }

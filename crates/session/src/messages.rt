@@ -5,20 +5,19 @@ ghost use Rattle.model.specs.Answer.{awaiting, line_answer, says};
 ghost use Rattle.model.specs.Commands.{parsed_line};
 ghost use Rattle.model.specs.Reads.{line_reads};
 ghost use Rattle.model.specs.declared.session.Awaits.TheVariants as waits;
-ghost use Rattle.replies.specs.Answered.{Answers, answered};
+ghost use Rattle.session_replies.specs.Answered.{Answers, answered};
 ghost use Rattle.model.specs.Replies.{syntax_error};
-ghost use Rattle.replies.specs.Replies.{sent};
-ghost use Rattle.posting_commands.specs.Outcomes.{said, said_served};
+ghost use Rattle.session_replies.specs.Replies.{sent};
+ghost use Rattle.session_posting.specs.Outcomes.{said, said_served};
 ghost use Rattle.session.specs.Steps.{IsStep, step_of};
 
 use crate::Received;
 use crate::commands::command;
-use grammar::arguments_are_in_grammar;
-use lookups::LookUps;
 use model::{Awaits, Mark, Message, Moment, Parsed, Session};
-use plain_commands::ends;
-use posting_commands::{Step, ihave_block, post_block};
-use replies::{Answered, Reply, says_line};
+use session_grammar::arguments_are_in_grammar;
+use session_lookups::LookUps;
+use session_posting::{Step, ihave_block, post_block};
+use session_replies::{Answered, Reply, ends, says_line};
 use std::alloc::{AllocError, Global};
 
 /// An answer that is served and files nothing.
@@ -53,7 +52,7 @@ fn line<L: LookUps>(
         (line_reads (L.host_of spool.now) (L.changes spool.now) session.now moment (parsed_line text.now))) }
 {
     arguments_are_in_grammar();
-    match grammar::read(alloc, text)? {
+    match session_grammar::read(alloc, text)? {
         Parsed::Command(read) => command(alloc, spool, session, read, moment),
         Parsed::Unknown => says_line(alloc, session, Reply::UnknownCommand, 0),
         Parsed::Bad => says_line(alloc, session, Reply::SyntaxError, 0),

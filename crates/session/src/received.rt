@@ -2,10 +2,10 @@
 
 ghost use Rattle.std.specs.Prelude.{◌≡◌, IfOk, IfSome};
 
-use article::Reading;
 use model::Message;
 use std::alloc::{AllocError, Global};
 use std::marker::Model;
+use text_article::Reading;
 
 /// A message, whose text was read if it is a block. Contracts see the message.
 #[derive(Drop)]

@@ -5,16 +5,16 @@ ghost use Rattle.std.specs.Prelude.{◌≡◌, IfOk, IsSome, None, if◌then◌e
 ghost use Rattle.model.specs.Answer as answers;
 ghost use Rattle.model.specs.Reads.{reads};
 ghost use Rattle.model.specs.declared.message.Mark.TheVariants as mark;
-ghost use Rattle.outbox.specs.Lines.{IsKept};
-ghost use Rattle.posting_commands.specs.Outcomes.{said};
-ghost use Rattle.replies.specs.Answered.{made_answer, reply_of};
+ghost use Rattle.kernel_outbox.specs.Lines.{IsKept};
+ghost use Rattle.session_posting.specs.Outcomes.{said};
+ghost use Rattle.session_replies.specs.Answered.{made_answer, reply_of};
 ghost use Rattle.session.specs.Steps.{IsStep, step_of};
 
 use crate::Received;
 use crate::messages::{at_ihave, at_line, at_nothing, at_post};
-use lookups::LookUps;
 use model::{Awaits, Moment, Session};
-use posting_commands::Step;
+use session_lookups::LookUps;
+use session_posting::Step;
 use std::alloc::{AllocError, Global};
 
 /// Answers a message at the given moment. A line is a command (RFC 3977, section 3.1), and a block is the article that

@@ -1,63 +1,23 @@
 -- What blocks that hold a spool leave free, and the change that they get.
-use Rattle.std.proofs.Common.{◌≡◌, ◌≤◌, ℕ, ◌+◌, ◌-◌, false, List, [], ◌∷◌, ◌++◌, length, refl, sym, ◌∙◌, ap, subst, arith, length-append}
-use Rattle.std.specs.Prelude.{replicate, OnErr, Result, Ok, Err, Some, None, filter_map}
+use Rattle.std.proofs.Common.{◌≡◌, ℕ, List, [], ◌∷◌, ◌++◌, refl, sym, subst}
+use Rattle.std.specs.Prelude.{replicate, OnErr, Result, Ok, Err, None}
 use Rattle.model.specs.Stream.{Octets}
 use Rattle.model.specs.Files.{HasRoom, IsFileSystem, table}
-use Rattle.model.specs.Room.{files_made, is_full}
-use Rattle.model.specs.Spool.{Spool, entries, group_made, groups}
+use Rattle.model.specs.Spool.{Spool, entries, groups}
 use Rattle.model.specs.SpoolFiles.{files_of}
 use Rattle.model.specs.declared.change.Change.{Change}
-use Rattle.model.specs.declared.change.Change.TheVariants.{Group, Article, Expire}
 use Rattle.model.proofs.HoldsOne.{empty_none, holds_one}
-use Rattle.model.proofs.Opening.{files_counted}
-use Rattle.model.proofs.Growing.{groups_more}
 use mathlib.Core.HLevel.{is_prop→PathP}
 use Rattle.std.proofs.Math.Logic.{∥∥₁_elim, ∥∥₁_prop}
 use Rattle.std.specs.Prelude.{IsTrue}
 use Rattle.model.specs.Names.{is_host}
 use Rattle.model.specs.Indexed.{ArePlaces, FilePlaces}
-use Rattle.index.specs.View.{IndexView, Indexes}
-use Rattle.volume.specs.Volume.{VolumeView}
-use Rattle.spool.specs.Kept.{AreFree, CanStand, StandsIn, spool_set}
+use Rattle.spool_index.specs.View.{IndexView, Indexes}
+use Rattle.journal_volume.specs.Volume.{VolumeView}
+use Rattle.spool.specs.Kept.{CanStand, StandsIn, spool_set}
 use Rattle.spool_growing.specs.Kept.{IsHeld, IsKept}
 use Rattle.spool.specs.View.{Adds, SpoolView}
 use Rattle.spool_growing.specs.Growing.{Dirties}
-use Rattle.spool_growing.proofs.Held.{enough, files_count}
-
-groups_made : (S : Spool) (c : Change)
-    → length (groups (S ++ c ∷ [])) ≡ length (groups S) + length (filter_map group_made (record { serial = length S + 1; change = c } ∷ []))
-groups_made S c = ap (λ (gs : List _). length gs) (groups_more S c)
-    ∙ length-append (groups S) (filter_map group_made (record { serial = length S + 1; change = c } ∷ []))
-
-pub files_more : (S : Spool) (c : Change) → length (files_of (S ++ c ∷ [])) ≡ length (files_of S) + files_made c
-files_more S (Group created) =
-    omega (
-      arith,
-      files_counted S,
-      files_counted (S ++ Group created ∷ []),
-      groups_made S (Group created),
-      length-append S (Group created ∷ []),
-    )
-files_more S (Article filing) =
-    omega (
-      arith,
-      files_counted S,
-      files_counted (S ++ Article filing ∷ []),
-      groups_made S (Article filing),
-      length-append S (Article filing ∷ []),
-    )
-files_more S (Expire expiry) =
-    omega (
-      arith,
-      files_counted S,
-      files_counted (S ++ Expire expiry ∷ []),
-      groups_made S (Expire expiry),
-      length-append S (Expire expiry ∷ []),
-    )
-
-pub free_after : (free inodes : ℕ) (S : Spool) (c : Change) → AreFree free inodes S → files_made c ≤ free
-    → AreFree (free - files_made c) inodes (S ++ c ∷ [])
-free_after free inodes S c are some = omega (arith, are, some, files_more S c)
 
 -- ---- the fields of a spool that is used whole
 
@@ -67,14 +27,10 @@ the_changes host inodes blocks S is T =
     ∥∥₁_elim T.held (spool_set T.changes S) (λ other. holds_one host host inodes blocks T.changes S is.room.few other.held is.held)
 
 -- with the changes that stand in the blocks
-pub kept_stands : (host : Octets) (inodes : ℕ) (v : VolumeView) (i : IndexView) (p : FilePlaces) (free : ℕ) (S : Spool)
-    (T : StandsIn host inodes v.cache) → IsKept host inodes v i p S → AreFree free inodes S
-    → IsKept host inodes v i p T.changes × AreFree free inodes T.changes
-kept_stands host inodes v i p free S T kept are =
-    subst (λ (R : Spool). IsKept host inodes v i p R × AreFree free inodes R) (sym (the_changes host inodes v.cache S kept.is T)) (
-      kept,
-      are,
-    )
+pub kept_stands : (host : Octets) (inodes : ℕ) (v : VolumeView) (i : IndexView) (p : FilePlaces) (S : Spool)
+    (T : StandsIn host inodes v.cache) → IsKept host inodes v i p S → IsKept host inodes v i p T.changes
+kept_stands host inodes v i p S T kept =
+    subst (λ (R : Spool). IsKept host inodes v i p R) (sym (the_changes host inodes v.cache S kept.is T)) kept
 
 pub kept_same : (host : Octets) (inodes : ℕ) (v w : VolumeView) (i j : IndexView) (p q : FilePlaces) (S : Spool) → w ≡ v → j ≡ i → q ≡ p
     → IsKept host inodes v i p S → IsKept host inodes w j q S
@@ -119,12 +75,6 @@ added host inodes v w S R c old view changes dirties =
       sound = R.held;
     }) c) view (record { host = refl; inodes = refl; changes = changes; dirties = dirties })
 
--- inodes enough are left
-pub enough_left : (host : Octets) (inodes : ℕ) (v : VolumeView) (i : IndexView) (p : FilePlaces) (free : ℕ) (S : Spool) (c : Change)
-    → IsKept host inodes v i p S → AreFree free inodes S → is_full (length v.cache) inodes S (Some c) ≡ false → files_made c ≤ free
-enough_left host inodes v i p free S c kept are room =
-    omega (arith, (enough host inodes v.cache S kept.is c room).inodes_free, files_count host inodes v.cache S kept.is, are)
-
 pub if_err : {T E P : Type 0} (r : Result T E) → P → OnErr r P
 if_err (Ok x) is = tt
 if_err (Err e) is = is
@@ -132,7 +82,7 @@ if_err (Err e) is = is
 -- a spool without changes stands in an empty file system
 pub nothing_stands : (host : Octets) (inodes : ℕ) (v : VolumeView) (i : IndexView) (p : FilePlaces) → IsTrue (is_host host)
     → HasRoom inodes v.cache → IsFileSystem inodes v.cache → table inodes v.cache ≡ replicate inodes None → v.seen ≡ v.cache
-    → Indexes [] i → p ≡ record { changes = []; numbers = []; overviews = [] } → CanStand host inodes inodes v i p
+    → Indexes [] i → p ≡ record { changes = []; numbers = []; overviews = [] } → CanStand host inodes v i p
 unfolding files_of entries groups
 nothing_stands host inodes v i p named room rule none seen indexed places = record {
   changes = [];
@@ -140,7 +90,6 @@ nothing_stands host inodes v i p named room rule none seen indexed places = reco
     is = record { named = named; room = room; held = empty_none host inodes v.cache rule none };
     seen = seen;
     indexed = indexed;
-    placed = subst (ArePlaces inodes v.cache []) (sym places) (record { changes_are = refl; numbers_are = refl; overviews_are = refl });
+    placed = subst (ArePlaces inodes v.cache []) (sym places) (record { changes_are = tt; numbers_are = refl; overviews_are = refl });
   };
-  free_are = omega arith;
 }

@@ -7,7 +7,7 @@ use Rattle.model.specs.Stream.{Octets}
 use Rattle.model.specs.Indexed.{GroupIndex, group_index}
 use Rattle.model.specs.Lawful.{MayExpire}
 use Rattle.model.specs.Spool.{Spool, NewsArticle, NewsGroup, filed_in, group_named, high, is_here, low}
-use Rattle.index.proofs.LookUps.{group_is, not_here}
+use Rattle.spool_index.proofs.LookUps.{group_is, not_here}
 use Rattle.spool.specs.Refusals.{has_number}
 
 -- ---- their numbers

@@ -1,5 +1,27 @@
 -- Whether the files of groups are too large for another article.
-use Rattle.std.proofs.Common.{◌≡◌, inl, inr, ◌<◌, ℕ, zero, suc, ◌*◌, Bool, true, false, List, [], ◌∷◌, length, get_or, refl, sym, ◌∙◌, ap}
+use Rattle.std.proofs.Common.{
+  ◌≡◌,
+  inl,
+  inr,
+  ◌<◌,
+  ℕ,
+  zero,
+  suc,
+  ◌-◌,
+  ◌*◌,
+  Bool,
+  true,
+  false,
+  List,
+  [],
+  ◌∷◌,
+  length,
+  get_or,
+  refl,
+  sym,
+  ◌∙◌,
+  ap,
+}
 use Rattle.std.proofs.Common.{subst, arith}
 use Rattle.std.specs.Prelude.{Some, None, nat_lt, option_map, ◌||◌, if◌then◌else◌}
 use Rattle.std.specs.List.{list_any}
@@ -7,23 +29,24 @@ use Rattle.std.proofs.lemmas.Bool.{cases_lt, le-ltb, lt-ltb}
 use Rattle.std.proofs.lemmas.List.{length-map}
 use Rattle.model.specs.Stream.{Octets}
 use Rattle.model.specs.Indexed.{GroupIndex, group_index}
-use Rattle.model.specs.Room.{is_full_for, is_large}
+use Rattle.model.specs.Files.{free_blocks, free_inodes}
+use Rattle.model.specs.Room.{blocks_for_change, blocks_left, inodes_for_change, inodes_left, is_full, is_full_for, is_large}
 use Rattle.model.specs.Spool.{Spool, NewsArticle, filed_in, group_named, high}
-use Rattle.model.specs.SpoolFiles.{files_of, numbers_file, overview_file}
+use Rattle.model.specs.SpoolFiles.{numbers_file, overview_file}
 use Rattle.model.specs.Article.{groups_of}
 use Rattle.model.specs.Lawful.{MayFile}
 use Rattle.model.specs.declared.change.Change.{Change}
 use Rattle.model.specs.declared.change.Change.TheVariants.{Article}
 use Rattle.model.specs.declared.change.Filing.{Filing}
-use Rattle.change_spool.specs.declared.FilingError.TheVariants as file
+use Rattle.session_lookups.specs.declared.change_spool.FilingError.TheVariants as file
 use Rattle.spool_opening.specs.Replayed.{AreHere}
 use Rattle.spool_opening.proofs.Filed.{are_here}
 use Rattle.spool.specs.Refusals.{article_refusal}
 use Rattle.spool.specs.View.{SpoolView}
 use Rattle.model.proofs.Indexing.{numbers_size}
-use Rattle.index_groups.specs.Filing.{end_of}
-use Rattle.index.proofs.Growing.{overview_size}
-use Rattle.index.proofs.LookUps.{group_is}
+use Rattle.spool_groups.specs.Filing.{end_of}
+use Rattle.spool_index.proofs.Growing.{overview_size}
+use Rattle.spool_index.proofs.LookUps.{group_is}
 use Rattle.spool.proofs.Full.{lacks}
 
 pub any_at : (p : Octets → Bool) (xs : List Octets) (k : ℕ) (d : Octets) → k < length xs → p (get_or xs k d) ≡ true → list_any p xs ≡ true
@@ -66,13 +89,22 @@ parted false false true = refl
 parted false false false = refl
 
 pub full_article : (blocks inodes : ℕ) (S : Spool) (f : Filing)
-    → is_full_for blocks inodes S (Article f) ≡ (lacks blocks inodes S 1 || list_any (one_large S) f.envelope.groups)
+    → is_full_for blocks inodes S (Article f) ≡ (lacks blocks inodes 1 || list_any (one_large S) f.envelope.groups)
 unfolding is_full_for
-full_article blocks inodes S f =
-    parted (nat_lt (Rattle.model.specs.Room.free_blocks_beside blocks inodes (files_of S)) 256)
-    (nat_lt (Rattle.model.specs.Room.free_inodes_beside inodes (files_of S)) 1) (list_any (one_large S) f.envelope.groups)
+full_article blocks inodes S f = parted (nat_lt blocks 256) (nat_lt inodes 1) (list_any (one_large S) f.envelope.groups)
 
-pub article_refused : (s : SpoolView) (c : Change) (full : Bool) → is_full_for (length s.blocks) s.inodes s.changes c ≡ full
+-- by what the article leaves to other changes
+pub article_lacks : (v : SpoolView) (f : Filing) (count inodes blocks_kept inodes_kept : ℕ) (lacking : Bool) → count ≡ length v.blocks
+    → inodes ≡ v.inodes → blocks_kept ≡ blocks_left count (Article f) → inodes_kept ≡ inodes_left inodes (Article f)
+    → lacking ≡ lacks (free_blocks v.blocks - blocks_kept) (free_inodes v.inodes v.blocks - inodes_kept) 1
+    → lacking ≡ lacks (blocks_for_change v.blocks (Article f)) (inodes_for_change v.blocks v.inodes (Article f)) 1
+article_lacks v f count inodes blocks_kept inodes_kept lacking counted same blocks_are inodes_are is =
+    let first : blocks_kept ≡ blocks_left (length v.blocks) (Article f) =
+    blocks_are ∙ ap (λ (n : ℕ). blocks_left n (Article f)) counted in
+    let second : inodes_kept ≡ inodes_left v.inodes (Article f) = inodes_are ∙ ap (λ (n : ℕ). inodes_left n (Article f)) same in
+    is ∙ (λ k. lacks (free_blocks v.blocks - first k) (free_inodes v.inodes v.blocks - second k) 1)
+
+pub article_refused : (s : SpoolView) (c : Change) (full : Bool) → is_full s.blocks s.inodes s.changes (Some c) ≡ full
     → article_refusal s c ≡ (if full then Some file.Full else None)
 article_refused s c full room = ap (λ (b : Bool). if b then Some file.Full else None) room
 

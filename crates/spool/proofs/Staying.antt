@@ -1,7 +1,7 @@
 -- Lines of a spool stay what they are while changes come.
 use Rattle.std.proofs.Common.{◌≡◌, ◌++◌, subst, sym}
 use Rattle.model.specs.Spool.{Spool}
-use Rattle.outbox.specs.declared.lines.Lines.{Lines}
+use Rattle.kernel_outbox.specs.declared.made_lines.Lines.{Lines}
 use Rattle.spool_texts.specs.Parts.{HasLines}
 pub use Rattle.spool_texts.proofs.Staying.{Stay}
 use Rattle.spool_texts.proofs.Staying.{lines_stay as lines_stay_so}

@@ -6,10 +6,10 @@ use Rattle.model.specs.Spool.{Spool, NewsGroup, group_named, high, low}
 use Rattle.model.specs.Stream.{Octets}
 use Rattle.model.proofs.Growing.{new_has_nothing}
 use Rattle.model.proofs.HoldsOne.{changes_few}
-use Rattle.index.specs.View.{IndexView}
-use Rattle.outbox.specs.declared.lines.Lines.{Lines}
+use Rattle.spool_index.specs.View.{IndexView}
+use Rattle.kernel_outbox.specs.declared.made_lines.Lines.{Lines}
 use Rattle.spool_texts.specs.Parts.{HasLines, HasRange, IsStored, KeepsLines}
-use Rattle.volume.specs.Volume.{VolumeView}
+use Rattle.journal_volume.specs.Volume.{VolumeView}
 use Rattle.spool_growing.specs.Kept.{IsKept}
 
 module _ (host : Octets) (inodes : ℕ) (volume : VolumeView) (index : IndexView) (places : FilePlaces) (S : Spool)

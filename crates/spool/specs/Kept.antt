@@ -1,16 +1,15 @@
 -- What a spool keeps besides its blocks.
-use Rattle.std.specs.Prelude.{◌≡◌, ℕ, ◌+◌, List, length}
+use Rattle.std.specs.Prelude.{◌≡◌, ℕ, List}
 use mathlib.Core.HLevel.{is_prop→PathP}
 use mathlib.Core.Path.{PathP}
 use Rattle.std.proofs.Math.Logic.{∥∥₁_elim, ∥∥₁_prop}
 use Rattle.std.proofs.Props.{props}
 use Rattle.model.specs.Indexed.{FilePlaces}
 use Rattle.model.specs.Spool.{Spool}
-use Rattle.model.specs.SpoolFiles.{files_of}
 use Rattle.model.specs.Stream.{Octets}
 use Rattle.model.proofs.HoldsOne.{holds_one}
-use Rattle.index.specs.View.{IndexView}
-use Rattle.volume.specs.Volume.{VolumeView}
+use Rattle.spool_index.specs.View.{IndexView}
+use Rattle.journal_volume.specs.Volume.{VolumeView}
 use Rattle.spool_growing.specs.Kept.{IsHeld, IsKept}
 
 -- the changes that the blocks hold
@@ -32,12 +31,7 @@ one_stands host inodes blocks p q = λ i. record { changes = same i; held = alon
   along : PathP (λ i. ∥ IsHeld host inodes blocks (same i) ∥₁) p.held q.held
   along = is_prop→PathP (λ i. ∥ IsHeld host inodes blocks (same i) ∥₁) (λ i. ∥∥₁_prop) p.held q.held
 
--- this many inodes have no file
-abbrev pub AreFree : ℕ → ℕ → Spool → Type 0
-AreFree free inodes S = free + length (files_of S) ≡ inodes
-
 -- the blocks hold some changes, and all that is kept agrees with them
-pub record CanStand (host : Octets) (inodes free : ℕ) (volume : VolumeView) (index : IndexView) (places : FilePlaces) : Type 0 where
+pub record CanStand (host : Octets) (inodes : ℕ) (volume : VolumeView) (index : IndexView) (places : FilePlaces) : Type 0 where
   pub changes : Spool
   pub kept : IsKept host inodes volume index places changes
-  pub free_are : AreFree free inodes changes

@@ -1,12 +1,12 @@
 -- Why a change is refused, apart from memory: the first test that fails.
-use Rattle.std.specs.Prelude.{◌≡◌, ℕ, ◌⊎◌, Bool, ◌&&◌, nat_le, if◌then◌else◌, length, Option, Some, None, Result, MatchResult}
+use Rattle.std.specs.Prelude.{◌≡◌, ℕ, ◌⊎◌, Bool, ◌&&◌, nat_le, if◌then◌else◌, Option, Some, None, Result, MatchResult}
 use Rattle.model.specs.Stream.{Octets}
 use Rattle.model.specs.Spool.{Spool, high, is_here, low}
 use Rattle.model.specs.Room.{is_full}
 use Rattle.model.specs.declared.change.Change.{Change}
 use Rattle.model.specs.declared.change.Change.TheVariants.{Expire}
-use Rattle.change_spool.specs.declared.FilingError.{FilingError}
-use Rattle.change_spool.specs.declared.FilingError.TheVariants as file
+use Rattle.session_lookups.specs.declared.change_spool.FilingError.{FilingError}
+use Rattle.session_lookups.specs.declared.change_spool.FilingError.TheVariants as file
 use Rattle.spool.specs.View.{SpoolView}
 use Rattle.spool.specs.declared.errors.AddError.{AddError}
 use Rattle.spool.specs.declared.errors.AddError.TheVariants as add
@@ -20,7 +20,7 @@ Tested memory refusal old new result done =
     × (new ≡ old))
 
 abbrev pub is_full_for : SpoolView → Change → Bool
-is_full_for s c = is_full (length s.blocks) s.inodes s.changes (Some c)
+is_full_for s c = is_full s.blocks s.inodes s.changes (Some c)
 
 -- a group: one with its name exists, or there is no room
 abbrev pub group_refusal : SpoolView → Octets → Change → Option AddError

@@ -8,41 +8,39 @@ ghost use Rattle.std.specs.List.{All, flat_map};
 ghost use Rattle.model.specs.Lawful.{MayExpire, MayFile, MayMake};
 ghost use Rattle.model.specs.Layout.{Holds};
 ghost use Rattle.model.specs.Names.{is_host};
-ghost use Rattle.model.specs.Room.{free_blocks_beside, free_inodes_beside};
-ghost use Rattle.model.specs.Files.{HasRoom, IsFileSystem, table};
+ghost use Rattle.model.specs.Files.{HasRoom, IsFileSystem, free_blocks, free_inodes, table};
 ghost use Rattle.model.specs.Spool.{Spool as Changes, groups, is_here};
-ghost use Rattle.model.specs.SpoolFiles.{files_of};
 ghost use Rattle.model.specs.Volume.{AreDistinct, blocks_from, laid_over};
 ghost use Rattle.model.specs.declared.change.Change.TheVariants as changed;
 ghost use Rattle.model.specs.declared.change.NewGroup.{NewGroup};
-ghost use Rattle.names.specs.Requests.{group_of};
+ghost use Rattle.text_names.specs.Requests.{group_of};
 ghost use Rattle.spool_opening.specs.Replayed.{AreHere};
-ghost use Rattle.volume.specs.Volume.{AgreeOutside};
+ghost use Rattle.journal_volume.specs.Volume.{AgreeOutside};
 
+mod article_room;
 mod errors;
-mod files;
+mod filed_articles;
 mod look_ups;
 mod open;
-mod room;
-mod stored;
+mod stored_changes;
 
-use article::Article;
-use blocks::Blocks;
-use change_spool::FilingError;
+use article_room::extends_large;
+pub use article_room::{blocks_left, inodes_left};
 pub use errors::{AddError, ExpireError};
-use filing::{BLOCKS_ASKED, Free};
-use fs::free_block_count;
-use index::Index;
-use index_groups::Group;
-use lookups::LookUps;
+use fs::{free_block_count, free_inode_count};
+use fs_blocks::Blocks;
+use journal_volume::{BatchBuf, Volume};
 use model::{Change, Envelope, Moment, Status, Text};
-use names::GroupRequest;
-use places::Places;
-use room::extends_large;
-use spool_growing::{grow_by_article, grow_by_expiry, grow_by_group};
+use session_lookups::{FilingError, LookUps};
+use spool_groups::Group;
+use spool_growing::{
+    BLOCKS_ASKED, Free, PlaceKind, grow_by_article, grow_by_expiry, grow_by_group,
+};
+use spool_index::{Index, Places};
 use std::alloc::{AllocError, Global};
 use std::marker::Model;
-use volume::{BatchBuf, Volume};
+use text_article::Article;
+use text_names::GroupRequest;
 
 /// The most groups on a server.
 const GROUPS: usize = 4096;
@@ -55,7 +53,6 @@ pub struct Spool {
     alloc: Global,
     host: Text,
     inodes: u32,
-    free_inodes: u32,
     free: Free,
     volume: Volume,
     index: Index,
@@ -72,7 +69,6 @@ impl Drop for Spool {
             alloc: _,
             host: _,
             inodes: _,
-            free_inodes: _,
             free: _,
             volume: _,
             index: _,
@@ -82,8 +78,8 @@ impl Drop for Spool {
 }
 
 impl Model for Spool {
-    ghost use Rattle.filing.specs.Calls.{IsKnown};
-    ghost use Rattle.spool.specs.Kept.{AreFree};
+    ghost use Rattle.std.specs.Prelude.{◌≡◌};
+    ghost use Rattle.spool_growing.specs.Calls.{IsKnown};
     ghost use Rattle.spool_growing.specs.Kept.{IsKept};
     ghost use Rattle.spool.specs.View.{SpoolView};
 
@@ -99,7 +95,7 @@ impl Model for Spool {
     } };
 
     ghost invariant = { λ s. IsKept s.host s.inodes s.volume s.index s.places s.stands.changes
-        × AreFree s.free_inodes s.inodes s.stands.changes × IsKnown s.inodes s.free s.volume.cache };
+        × IsKnown s.inodes s.free s.volume.cache };
 }
 
 impl Spool {
@@ -107,33 +103,34 @@ impl Spool {
     ghost use Rattle.spool.specs.Refusals.{Tested, article_refusal, expiry_refusal, group_refusal, has_number, is_full_for};
     ghost use Rattle.spool.specs.View.{Adds, IsSpool};
 
-    /// The spool in the blocks of a volume, with its index, the places of its files, and the number of free inodes.
+    /// The spool in the blocks of a volume, with its index and the places of its files.
     pub fn of(
         alloc: Global,
         host: Text,
         inodes: u32,
-        free_inodes: u32,
         volume: Volume,
         index: Index,
         places: Places,
     ) -> Spool
-        requires { CanStand host inodes free_inodes volume index places }
+        requires { CanStand host inodes volume index places }
         ensures host { result.host ≡ host }
         ensures inodes { result.inodes ≡ inodes }
         ensures changes { (S : Changes) → Holds host inodes volume.cache S → result.changes ≡ S }
         ensures blocks { result.blocks ≡ volume.cache }
         ensures dirty { result.dirty ≡ volume.dirty }
     {
-        let blocks = free_block_count(&volume, inodes);
+        let free_blocks = free_block_count(&volume, inodes);
+        let free_inodes = free_inode_count(&volume, inodes);
         Spool {
             alloc,
             host,
             inodes,
-            free_inodes,
             free: Free {
                 inode: 0,
                 block: 0,
-                blocks,
+                inodes: free_inodes,
+                blocks: free_blocks,
+                pack: None,
             },
             volume,
             index,
@@ -158,7 +155,6 @@ impl Spool {
             alloc,
             host,
             inodes,
-            inodes,
             volume,
             Index::new(alloc),
             Places::new(alloc),
@@ -177,6 +173,34 @@ impl Spool {
         ensures { result ≡ self.now.inodes }
     {
         self.inodes
+    }
+
+    /// The number of inodes without a file.
+    pub fn free_inodes(&self) -> u32
+        ensures { result ≡ free_inodes self.now.inodes self.now.blocks }
+    {
+        self.free.inodes
+    }
+
+    /// The number of blocks that no file has.
+    pub fn free_blocks(&self) -> u32
+        ensures { result ≡ free_blocks self.now.blocks }
+    {
+        self.free.blocks
+    }
+
+    /// The number of blocks that aren't free.
+    pub fn used_blocks(&self) -> u32
+        ensures { result + free_blocks self.now.blocks ≡ length self.now.blocks }
+    {
+        self.blocks().saturating_sub(self.free_blocks())
+    }
+
+    /// The number of inodes with a file.
+    pub fn used_inodes(&self) -> u32
+        ensures { result + free_inodes self.now.inodes self.now.blocks ≡ self.now.inodes }
+    {
+        self.inodes - self.free.inodes
     }
 
     /// The number of logical blocks.
@@ -214,26 +238,20 @@ impl Spool {
         self.index.group(name).is_some()
     }
 
-    /// Whether too few blocks are free for a change.
-    fn lacks_blocks(&self) -> bool
-        ensures { result ≡ nat_lt (free_blocks_beside (length self.now.blocks) self.now.inodes (files_of self.now.changes)) 256 }
+    /// Whether too few blocks are free for a change that leaves this many, or too few inodes for its files.
+    fn lacks_room(&self, files: u32, blocks_left: u32, inodes_left: u32) -> bool
+        ensures { result ≡ (nat_lt (free_blocks self.now.blocks - blocks_left) 256
+            || nat_lt (free_inodes self.now.inodes self.now.blocks - inodes_left) files) }
     {
-        self.free.blocks < BLOCKS_ASKED
-    }
-
-    /// Whether too few blocks are free for a change, or too few inodes for its files.
-    fn lacks_room(&self, files: u32) -> bool
-        ensures { result ≡ (nat_lt (free_blocks_beside (length self.now.blocks) self.now.inodes (files_of self.now.changes)) 256
-            || nat_lt (free_inodes_beside self.now.inodes (files_of self.now.changes)) files) }
-    {
-        self.lacks_blocks() || self.free_inodes < files
+        self.free.blocks.saturating_sub(blocks_left) < BLOCKS_ASKED
+            || self.free.inodes.saturating_sub(inodes_left) < files
     }
 
     /// Whether there is no room for a group.
     fn is_full_for_group(&self) -> bool
         ensures { (group : NewGroup) → result ≡ is_full_for self.now (changed.Group group) }
     {
-        self.lacks_room(GROUP_FILES) || GROUPS <= self.index.groups().len()
+        self.lacks_room(GROUP_FILES, 0, 0) || GROUPS <= self.index.groups().len()
     }
 
     /// Adds the group that is asked for, and answers its serial. Refused as `Exists`, `Full` or `Memory`, tested in that
@@ -251,7 +269,7 @@ impl Spool {
         if self.is_full_for_group() {
             return Err(AddError::Full);
         }
-        // its clauses state that the moment is before the year 10000
+        // for the proof: the moment is before the year 10000
         let _seconds = group.moment.seconds();
         match self.push_group(name, group.status, description, group.moment) {
             Ok(()) => Ok(self.len()),
@@ -289,7 +307,6 @@ impl Spool {
             moment,
         )?;
         self.free = free;
-        self.free_inodes -= GROUP_FILES;
         Ok(())
     }
 
@@ -298,13 +315,47 @@ impl Spool {
         requires { AreHere self.now.changes envelope.now.groups }
         ensures { (text : List ℕ) → result ≡ is_full_for self.now (changed.Article (record { text = text; envelope = envelope.now })) }
     {
-        self.lacks_room(1) || extends_large(&self.index, envelope.groups.as_slice())
+        let blocks = blocks_left(self.volume.len());
+        let inodes = inodes_left(self.inodes);
+        self.lacks_room(1, blocks, inodes) || extends_large(&self.index, envelope.groups.as_slice())
     }
 
-    /// Files an article with this envelope, and answers its serial. Its change must be one that may follow. Refused as
-    /// `Full` or `Memory`, tested in that order. A refusal changes nothing.
+    /// Files an article with this envelope, its file in an inode of its own, and answers its serial. Its change must be one
+    /// that may follow. Refused as `Full` or `Memory`, tested in that order. A refusal changes nothing.
     pub fn add_article(
         &mut self,
+        article: &Article<'_>,
+        envelope: &Envelope,
+    ) -> Result<u64, FilingError>
+        requires { MayFile self.old.host self.old.changes (record { text = article.now; envelope = envelope.now }) }
+        ensures { Tested FilingError.Memory (article_refusal self.old (changed.Article
+            (record { text = article.now; envelope = envelope.now }))) self.old self.new result
+            (λ serial. (serial ≡ length self.old.changes + 1) × Adds self.old self.new (changed.Article
+            (record { text = article.now; envelope = envelope.now }))) }
+    {
+        self.add_in(PlaceKind::Alone, article, envelope)
+    }
+
+    /// Files an article as `add_article` does, but its file in the pack, if that may grow by it. The volume must be one of
+    /// format 3.
+    pub fn pack_article(
+        &mut self,
+        article: &Article<'_>,
+        envelope: &Envelope,
+    ) -> Result<u64, FilingError>
+        requires { MayFile self.old.host self.old.changes (record { text = article.now; envelope = envelope.now }) }
+        ensures { Tested FilingError.Memory (article_refusal self.old (changed.Article
+            (record { text = article.now; envelope = envelope.now }))) self.old self.new result
+            (λ serial. (serial ≡ length self.old.changes + 1) × Adds self.old self.new (changed.Article
+            (record { text = article.now; envelope = envelope.now }))) }
+    {
+        self.add_in(PlaceKind::Packed, article, envelope)
+    }
+
+    /// Files an article as `add_article` does, but its file in a place of this kind.
+    fn add_in(
+        &mut self,
+        kind: PlaceKind,
         article: &Article<'_>,
         envelope: &Envelope,
     ) -> Result<u64, FilingError>
@@ -317,15 +368,20 @@ impl Spool {
         if self.is_full_for_article(envelope) {
             return Err(FilingError::Full);
         }
-        match self.push_article(article, envelope) {
+        match self.push_article(kind, article, envelope) {
             Ok(()) => Ok(self.len()),
             Err(_) => Err(FilingError::Memory),
         }
     }
 
-    /// Files an article that may be filed with this envelope and for which there is room. Refused only for want of memory,
-    /// and then nothing changes.
-    fn push_article(&mut self, article: &Article<'_>, envelope: &Envelope) -> Result<(), AllocError>
+    /// Files an article that may be filed with this envelope and for which there is room, its file in a place of this kind.
+    /// Refused only for want of memory, and then nothing changes.
+    fn push_article(
+        &mut self,
+        kind: PlaceKind,
+        article: &Article<'_>,
+        envelope: &Envelope,
+    ) -> Result<(), AllocError>
         requires may { MayFile self.old.host self.old.changes (record { text = article.now; envelope = envelope.now }) }
         requires room { is_full_for self.old (changed.Article
             (record { text = article.now; envelope = envelope.now })) ≡ false }
@@ -340,11 +396,11 @@ impl Spool {
             &mut self.volume,
             &mut self.index,
             &mut self.places,
+            kind,
             article,
             envelope,
         )?;
         self.free = free;
-        self.free_inodes -= 1;
         Ok(())
     }
 
@@ -358,9 +414,9 @@ impl Spool {
         }
     }
 
-    /// Removes the articles of a group up to a number, and answers the serial of that change. Refused as `NotFound`
-    /// (the group does not exist, or the number is not in it), `Full` or `Memory`, tested in that order. A refusal
-    /// changes nothing.
+    /// Removes the articles of a group up to a number, and answers the serial of that change. Its file goes into the pack, if
+    /// that may grow by it; the volume must be one of format 3. Refused as `NotFound` (the group does not exist, or the
+    /// number is not in it), `Full` or `Memory`, tested in that order. A refusal changes nothing.
     pub fn expire(&mut self, name: &[u8], number: u32) -> Result<u64, ExpireError>
         ensures { Tested ExpireError.Memory (expiry_refusal self.old name.now number) self.old self.new result
             (λ serial. (serial ≡ length self.old.changes + 1) × Adds self.old self.new
@@ -369,7 +425,7 @@ impl Spool {
         if !self.has_number(name, number) {
             return Err(ExpireError::NotFound);
         }
-        if self.lacks_room(1) {
+        if self.lacks_room(1, 0, 0) {
             return Err(ExpireError::Full);
         }
         match self.push_expiry(name, number) {
@@ -397,7 +453,6 @@ impl Spool {
             number,
         )?;
         self.free = free;
-        self.free_inodes -= 1;
         Ok(())
     }
 }

@@ -1,9 +1,9 @@
 //! The commands' questions, answered by the spool.
 
 use crate::Spool;
-use lookups::{GroupView, LookUps};
+use kernel_outbox::{Lines, Source};
 use model::Part;
-use outbox::{Lines, Source};
+use session_lookups::{GroupView, LookUps};
 use std::alloc::AllocError;
 
 impl LookUps for Spool {

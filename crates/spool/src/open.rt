@@ -7,12 +7,11 @@ ghost use Rattle.model.specs.Names.{is_host};
 ghost use Rattle.model.specs.declared.change.Change.{Change};
 
 use crate::Spool;
-use fs_layout::inodes::free_inode_count;
+use journal_volume::Volume;
 use model::Text;
 use spool_opening::open;
 use spool_reading::ReadSpoolError;
 use std::alloc::Global;
-use volume::Volume;
 
 impl Spool {
     /// Opens the spool of a host in the blocks of a volume of this format, whatever they contain. `Damaged` exactly if
@@ -39,9 +38,8 @@ impl Spool {
             Ok(opened) => opened,
             Err(error) => return Err(error),
         };
-        let free = free_inode_count(&volume, inodes);
         let index = opened.index;
         let places = opened.places;
-        Ok(Spool::of(alloc, host, inodes, free, volume, index, places))
+        Ok(Spool::of(alloc, host, inodes, volume, index, places))
     }
 }

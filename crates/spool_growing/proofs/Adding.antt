@@ -12,6 +12,7 @@ use Rattle.model.specs.Article.{are_distinct, groups_of, overview_line}
 use Rattle.model.specs.Files.{File, table, largest_file}
 use Rattle.model.specs.Indexed.{ArePlaces, FilePlaces, GroupIndex, group_index}
 use Rattle.model.specs.Lawful.{MayFile}
+use Rattle.model.specs.Packs.{most_changes, pack_name}
 use Rattle.model.specs.Room.{is_full}
 use Rattle.model.specs.Laws.Room.{HasRoomForChange}
 use Rattle.model.specs.Spool.{Spool, NewsArticle, NewsGroup, group_named, groups}
@@ -26,13 +27,15 @@ use Rattle.model.proofs.HoldsOne.{high_few}
 use Rattle.model.proofs.Joined.{bytes_same, both_at}
 use Rattle.model.proofs.Growing.{group_has_name}
 use Rattle.fs.specs.Calls.{IsFileAt}
-use Rattle.filing.specs.declared.Piece.{Piece}
-use Rattle.filing.specs.Calls.{MayAllGrow, MayGrow, append_call}
-use Rattle.index_groups.specs.Filing.{end_of}
-use Rattle.index.specs.View.{IndexView, Indexes}
-use Rattle.index.proofs.Callers.{overview_small}
-use Rattle.index.proofs.Growing.{filed_distinct, overview_size}
-use Rattle.index.proofs.Known.{count_is}
+use Rattle.spool_growing.specs.declared.file_calls.Piece.{Piece}
+use Rattle.spool_growing.specs.Calls.{MayAllGrow, MayGrow, append_call}
+use Rattle.spool_growing.specs.Putting.{AreNotPacked}
+use Rattle.spool_index.specs.Places.{name_of}
+use Rattle.spool_groups.specs.Filing.{end_of}
+use Rattle.spool_index.specs.View.{IndexView, Indexes}
+use Rattle.spool_index.proofs.Callers.{overview_small}
+use Rattle.spool_index.proofs.Growing.{filed_distinct, overview_size}
+use Rattle.spool_index.proofs.Known.{count_is}
 use Rattle.spool_reading.proofs.Groups.{high_is}
 use Rattle.spool_growing.specs.Articles.{ArePieces, ArePiecesOf, CanFile, CanFileIn}
 use Rattle.spool_growing.specs.Kept.{IsHeld}
@@ -146,8 +149,8 @@ overview_at inodes blocks S p name k its are =
 -- ---- one group
 
 pub few_filed : (S : Spool) (name : Octets) (k : ℕ) (its : IsAt S name k) (i : GroupIndex) → i ≡ group_index S its.group
-    → length S ≤ 4194304
-    → length i.filed ≤ 4194304
+    → length S ≤ most_changes
+    → length i.filed ≤ most_changes
 few_filed S name k its i is few =
     omega (arith, ap (λ (j : GroupIndex). length j.filed) is, high_is S its.group, high_few S its.group.name, few)
 
@@ -276,6 +279,23 @@ piece_for inodes S text (h ∷ gs) (r ∷ s ∷ pieces) (suc (suc k)) p are at =
     let rest = piece_for inodes S text gs pieces k p are.1 at in
     record { group = rest.group; has = (suc rest.has.0, omega (arith, rest.has.1), rest.has.2); is = rest.is }
 
+-- ---- none goes to the pack
+
+not_the_pack : (inodes : List (Option File)) (p : Piece) (name content : Octets) (x : ℕ) → IsFileAt inodes p.at name content
+    → get_or name 0 0 ≡ x → x ≢ 112 → name_of inodes p.at ≢ Some pack_name
+not_the_pack inodes p name content x there first other named =
+    let is : Some name ≡ Some pack_name = sym (ap (option_map (λ (f : File). f.name)) there) ∙ named in
+    other (sym first ∙ ap (λ (o : Octets). get_or o 0 0) (same_Some name pack_name is))
+
+pub none_for_pack : (inodes : List (Option File)) (S : Spool) (text : Octets) (gs : List Octets) (pieces : List Piece)
+    → ArePieces inodes S text gs pieces → AreNotPacked inodes pieces
+none_for_pack inodes S text gs pieces are k p at = by_kind (piece_for inodes S text gs pieces k p are at) where
+  by_kind : IsForOne inodes S text gs p → name_of inodes p.at ≢ Some pack_name
+  by_kind one = elim one.is [
+    | ForNumbers there says ↦ not_the_pack inodes p (numbers_name one.group) (numbers_file S one.group) 110 there refl (λ e. omega arith)
+    | ForOverview there says ↦ not_the_pack inodes p (overview_name one.group) (overview_file S one.group) 111 there refl (λ e. omega arith)
+  ]
+
 -- ---- no two go to one file
 
 none_passes : (p : Octets → Bool) (xs : List Octets) (x : Octets) → list_any p xs ≡ false → Contains xs x → p x ≡ false
@@ -354,10 +374,10 @@ record_size S text g =
     omega (arith, records_size (length (overview_file S g)) ((a, next_line S text g) ∷ []), length-append (next_record S text g) [])
 
 module _ (host : Octets) (inodes : ℕ) (blocks : List Octets) (S : Spool) (f : Filing) (pieces : List Piece)
-    (is : IsHeld host inodes blocks S) (may : MayFile host S f) (room : is_full (length blocks) inodes S (Some (Article f)) ≡ false)
+    (is : IsHeld host inodes blocks S) (may : MayFile host S f) (room : is_full blocks inodes S (Some (Article f)) ≡ false)
     (are : ArePieces (table inodes blocks) S f.text f.envelope.groups pieces) where
-  rooms : HasRoomForChange (length blocks) inodes S (Article f)
-  rooms = not_full_room host (length blocks) inodes S (Article f) (changes_are_few host inodes blocks S is) is.held.lawful may room
+  rooms : HasRoomForChange blocks inodes S (Article f)
+  rooms = not_full_room host blocks inodes S (Article f) (changes_are_few host inodes blocks S is) is.held.lawful may room
 
   lines_short : (g : Octets) → length (next_line S f.text g) ≤ 8191
   lines_short g = (changes_ask_few host S (Article f) (changes_are_few host inodes blocks S is) is.held.lawful may).lines f g refl

@@ -13,7 +13,7 @@ use Rattle.model.specs.Stream.{Octets}
 use Rattle.model.specs.Volume.{AreDistinct}
 use Rattle.fs.specs.Touches.{Touches}
 use Rattle.fs_inodes.proofs.Owners.{contained}
-use Rattle.volume.specs.Volume.{Differs}
+use Rattle.journal_volume.specs.Volume.{Differs}
 use Rattle.spool_growing.specs.Growing.{Dirties}
 
 -- distinct numbers that are among others are no more than these

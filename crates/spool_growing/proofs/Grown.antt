@@ -1,42 +1,41 @@
 -- What is kept of a spool with one change more.
 use Rattle.std.proofs.Common.{◌≡◌, ◌≢◌, ◌⊎◌, inl, inr, ◌↔◌, ℕ, ◌+◌, List, [], ◌∷◌, ◌++◌, length, refl, sym}
-use Rattle.std.proofs.Common.{◌∙◌, ap, subst, arith, length-append}
+use Rattle.std.proofs.Common.{◌∙◌, ap, subst, arith}
 use Rattle.std.specs.Prelude.{Some, None, option_map}
 use Rattle.std.proofs.lemmas.Bool.{cases_eq}
-use Rattle.std.proofs.lemmas.List.{length-map}
-use Rattle.std.proofs.lemmas.List.Sorted.{IsPermutation-refl, length_permutation}
 use Rattle.model.specs.Stream.{Octets}
-use Rattle.model.specs.Files.{File, files_in, table}
+use Rattle.model.specs.Files.{File, table}
 use Rattle.model.specs.Indexed.{FilePlaces}
-use Rattle.model.specs.Lawful.{MayMake, MayExpire}
-use Rattle.model.specs.Records.{expiry_record, group_record}
-use Rattle.model.specs.Spool.{Spool, group_named, news_expiry, news_group}
-use Rattle.model.specs.FileCalls.{Create, FileCall, after_calls, appended, change_calls, making_calls}
+use Rattle.model.specs.Lawful.{MayMake}
+use Rattle.model.specs.Packs.{pack_name}
+use Rattle.model.specs.Records.{group_record}
+use Rattle.model.specs.Spool.{Spool, group_named, news_group}
+use Rattle.model.specs.FileCalls.{Create, change_calls, making_calls}
 use Rattle.model.specs.SpoolFiles.{expiry_name, group_name}
 use Rattle.model.specs.SpoolFiles.{numbers_name, overview_name}
 use Rattle.model.specs.declared.change.Change.{Change}
-use Rattle.model.specs.declared.change.Change.TheVariants.{Group, Expire}
-use Rattle.model.specs.declared.change.Expiry.{Expiry}
+use Rattle.model.specs.declared.change.Change.TheVariants.{Group}
 use Rattle.model.specs.declared.change.NewGroup.{NewGroup}
 use Rattle.fs.specs.Calls.{IsFileAt, IsThere}
-use Rattle.filing.specs.Calls.{Calls, CreatesAt, MakesAt, SameFilesBut}
-use Rattle.filing.proofs.Calling.{calls_then}
+use Rattle.spool_growing.specs.Calls.{Calls, CreatesAt, MakesAt, SameFilesBut}
+use Rattle.spool_growing.proofs.Calling.{calls_then}
+use Rattle.spool_growing.proofs.Taken.{creates, inodes_taken}
 use Rattle.fs_inodes.proofs.Grown.{one_name}
-use Rattle.index.specs.View.{IndexView, Indexes}
-use Rattle.places.specs.Places.{AreNamed, name_of, with_change, with_group}
-use Rattle.places.proofs.Named.{are_by_name, grow_by_change, grow_by_group, have_names}
-use Rattle.volume.specs.Volume.{VolumeView}
+use Rattle.spool_index.specs.View.{IndexView, Indexes}
+use Rattle.spool_index.specs.Places.{AreNamed, name_of, with_group}
+use Rattle.spool_index.proofs.Named.{are_by_name, grow_by_group, have_names, name_kept}
+use Rattle.journal_volume.specs.Volume.{VolumeView}
 use Rattle.spool_growing.specs.Growing.{LacksGroup, MakesGroup, group_calls}
 use Rattle.spool_growing.specs.Kept.{IsHeld, IsKept}
 use Rattle.std.specs.List.{Contains}
 use Rattle.model.specs.Volume.{AreDistinct}
 use Rattle.model.specs.Lawful.{IsLawful}
 use Rattle.fs.specs.Touches.{Touches}
-use Rattle.volume.specs.Volume.{Differs}
+use Rattle.journal_volume.specs.Volume.{Differs}
 use Rattle.spool_growing.specs.Growing.{IsGrown}
 use Rattle.spool_growing.specs.Growing.{Dirties}
 use Rattle.spool_growing.proofs.Dirty.{dirties}
-use Rattle.spool_growing.proofs.Absent.{lacks_names, lacks_serial}
+use Rattle.spool_growing.proofs.Absent.{lacks_names, lacks_serial, not_first}
 use Rattle.spool_growing.proofs.Held.{changes_are_few, grown, not_there}
 
 -- ---- names that are not there
@@ -44,15 +43,19 @@ use Rattle.spool_growing.proofs.Held.{changes_are_few, grown, not_there}
 pub lacks_group : (host : Octets) (inodes : ℕ) (blocks : List Octets) (S : Spool) (name : Octets) → IsHeld host inodes blocks S
     → group_named S name ≡ None → LacksGroup inodes blocks name
 lacks_group host inodes blocks S name is none = record {
-  group = not_there host inodes blocks S is (group_name name) (λ f has. (lacks_names S name none f has).group);
-  numbers = not_there host inodes blocks S is (numbers_name name) (λ f has. (lacks_names S name none f has).numbers);
-  overview = not_there host inodes blocks S is (overview_name name) (λ f has. (lacks_names S name none f has).overview);
+  group = not_there host inodes blocks S is (group_name name)
+      (not_first (group_name name) pack_name 103 112 refl refl (λ e. omega arith)) (λ f has. (lacks_names S name none f has).group);
+  numbers = not_there host inodes blocks S is (numbers_name name)
+      (not_first (numbers_name name) pack_name 110 112 refl refl (λ e. omega arith)) (λ f has. (lacks_names S name none f has).numbers);
+  overview = not_there host inodes blocks S is (overview_name name)
+      (not_first (overview_name name) pack_name 111 112 refl refl (λ e. omega arith)) (λ f has. (lacks_names S name none f has).overview);
 }
 
 pub lacks_expiry : (host : Octets) (inodes : ℕ) (blocks : List Octets) (S : Spool) → IsHeld host inodes blocks S
     → ¬ (IsThere (table inodes blocks) (expiry_name (length S + 1)))
 lacks_expiry host inodes blocks S is =
     not_there host inodes blocks S is (expiry_name (length S + 1))
+    (not_first (expiry_name (length S + 1)) pack_name 120 112 refl refl (λ e. omega arith))
     (λ f has. (lacks_serial S (omega (arith, changes_are_few host inodes blocks S is)) f has).expiry)
 
 -- another name is there still not
@@ -66,25 +69,6 @@ still_absent inodes at name content q old new others there other none (k, c, her
 
 -- ---- the files of a group
 
-files_after : (inodes : ℕ) (calls : List FileCall) (old new : List Octets) → Calls inodes calls old new
-    → length (files_in (table inodes new)) ≡ length (after_calls (files_in (table inodes old)) calls)
-files_after inodes calls old new made =
-    sym (length_permutation (files_in (table inodes new)) (after_calls (files_in (table inodes old)) calls)
-    (made.files (files_in (table inodes old)) (IsPermutation-refl (files_in (table inodes old)))))
-
-pub one_file_more : (inodes at : ℕ) (name octets : Octets) (old new : List Octets) → MakesAt inodes at name octets old new
-    → length (files_in (table inodes new)) ≡ length (files_in (table inodes old)) + 1
-one_file_more inodes at name octets old new made =
-    files_after inodes (making_calls name octets) old new made.calls
-    ∙ length-map (files_in (table inodes old) ++ record { name = name; content = [] } ∷ []) (appended name octets)
-    ∙ length-append (files_in (table inodes old)) (record { name = name; content = [] } ∷ [])
-
-pub one_empty_more : (inodes at : ℕ) (name : Octets) (old new : List Octets) → CreatesAt inodes at name old new
-    → length (files_in (table inodes new)) ≡ length (files_in (table inodes old)) + 1
-one_empty_more inodes at name old new made =
-    files_after inodes (Create name ∷ []) old new made.calls
-    ∙ length-append (files_in (table inodes old)) (record { name = name; content = [] } ∷ [])
-
 named : (inodes k : ℕ) (name content : Octets) (blocks : List Octets) → IsFileAt (table inodes blocks) k name content
     → name_of (table inodes blocks) k ≡ Some name
 named inodes k name content blocks there = ap (option_map (λ (f : File). f.name)) there
@@ -97,9 +81,11 @@ makes_group inodes at numbers overview name octets a b c d first second third = 
   calls = calls_then inodes (making_calls (group_name name) octets) (Create (numbers_name name) ∷ Create (overview_name name) ∷ []) a b d
       first.calls
       (calls_then inodes (Create (numbers_name name) ∷ []) (Create (overview_name name) ∷ []) b c d second.calls third.calls);
-  group = third.calls.names at (group_name name)
-      (second.calls.names at (group_name name) (named inodes at (group_name name) octets b first.there));
-  first = third.calls.names numbers (numbers_name name) (named inodes numbers (numbers_name name) [] c second.there);
+  group = name_kept (table inodes c) (table inodes d) at (group_name name) third.calls.keeps
+      (name_kept (table inodes b) (table inodes c) at (group_name name) second.calls.keeps
+      (named inodes at (group_name name) octets b first.there));
+  first = name_kept (table inodes c) (table inodes d) numbers (numbers_name name) third.calls.keeps
+      (named inodes numbers (numbers_name name) [] c second.there);
   second = named inodes overview (overview_name name) [] d third.there;
   used = third.used;
 }
@@ -113,13 +99,6 @@ group_is_made : (inodes : ℕ) (S : Spool) (g : NewGroup) (at numbers overview :
 group_is_made inodes S g at numbers overview octets old new says made =
     subst (λ (o : Octets). Calls inodes (group_calls g.name o) old new) says made.calls
 
--- the calls of an expiry that is made
-expiry_is_made : (inodes : ℕ) (S : Spool) (e : Expiry) (at : ℕ) (octets : Octets) (old new : List Octets)
-    → octets ≡ expiry_record (news_expiry (length S + 1) e) → MakesAt inodes at (expiry_name (length S + 1)) octets old new
-    → Calls inodes (change_calls S (Expire e)) old new
-expiry_is_made inodes S e at octets old new says made =
-    subst (λ (o : Octets). Calls inodes (making_calls (expiry_name (length S + 1)) o) old new) says made.calls
-
 pub kept_with_group : (host : Octets) (inodes : ℕ) (v w : VolumeView) (i j : IndexView) (p q : FilePlaces) (S : Spool) (g : NewGroup)
     (at numbers overview : ℕ) (octets : Octets)
     → IsKept host inodes v i p S → MayMake S g → octets ≡ group_record (news_group (length S + 1) g)
@@ -131,33 +110,12 @@ kept_with_group host inodes v w i j p q S g at numbers overview octets kept may 
     let calls = group_is_made inodes S g at numbers overview octets v.cache w.cache says made in
     let is = grown host inodes v.cache S kept.is c w.cache may calls in
     let placed = grow_by_group (table inodes v.cache) (table inodes w.cache) S g p at numbers overview
-    (have_names inodes v.cache S p kept.placed) made.calls.names made.group made.first made.second in
+    (have_names inodes v.cache S p kept.placed) made.calls.keeps made.group made.first made.second in
     record {
       is = is;
       seen = seen;
       indexed = indexed;
-      placed = are_by_name host inodes w.cache (S ++ c ∷ []) q is.held
-          (subst (AreNamed (table inodes w.cache) (S ++ c ∷ [])) (sym places) placed);
-    }
-
-pub kept_with_expiry : (host : Octets) (inodes : ℕ) (v w : VolumeView) (i j : IndexView) (p q : FilePlaces) (S : Spool) (e : Expiry)
-    (at : ℕ) (octets : Octets)
-    → IsKept host inodes v i p S → MayExpire S e → octets ≡ expiry_record (news_expiry (length S + 1) e)
-    → MakesAt inodes at (expiry_name (length S + 1)) octets v.cache w.cache → q ≡ with_change at p
-    → Indexes (S ++ Expire e ∷ []) j → w.seen ≡ w.cache
-    → IsKept host inodes w j q (S ++ Expire e ∷ [])
-kept_with_expiry host inodes v w i j p q S e at octets kept may says made places indexed seen =
-    let c : Change = Expire e in
-    let calls = expiry_is_made inodes S e at octets v.cache w.cache says made in
-    let is = grown host inodes v.cache S kept.is c w.cache may calls in
-    let placed = grow_by_change (table inodes v.cache) (table inodes w.cache) S c p at refl
-    (have_names inodes v.cache S p kept.placed) made.calls.names
-    (named inodes at (expiry_name (length S + 1)) octets w.cache made.there) in
-    record {
-      is = is;
-      seen = seen;
-      indexed = indexed;
-      placed = are_by_name host inodes w.cache (S ++ c ∷ []) q is.held
+      placed = are_by_name host inodes w.cache (S ++ c ∷ []) q is.room.few is.held
           (subst (AreNamed (table inodes w.cache) (S ++ c ∷ [])) (sym places) placed);
     }
 
@@ -187,6 +145,7 @@ pub group_grown : (inodes : ℕ) (v m w : VolumeView) (i j : IndexView) (p q : F
     → ((host : Octets) (S : Spool) → IsLawful host S → MayMake S g → Indexes S i → Indexes (S ++ Group g ∷ []) j)
     → ((S : Spool) → Indexes S i → octets ≡ group_record (news_group (length S + 1) g))
     → IsGrown inodes v w i j p q (Group g)
+unfolding creates
 group_grown inodes v m w i j p q g at numbers overview octets seen made dirties cache now places indexed says =
     let made' : MakesGroup inodes at numbers overview g.name octets v.cache w.cache =
     subst (λ (bs : List Octets). MakesGroup inodes at numbers overview g.name octets v.cache bs) (sym cache)
@@ -195,29 +154,6 @@ group_grown inodes v m w i j p q g at numbers overview octets seen made dirties 
       kept = λ host S kept may.
           kept_with_group host inodes v w i j p q S g at numbers overview octets kept may
           (says S kept.indexed) made' places (indexed host S kept.is.held.lawful may kept.indexed) (now ∙ sym cache);
-      dirties = dirties;
-    }
-
-pub expiry_grown : (inodes : ℕ) (v m w : VolumeView) (i j : IndexView) (p q : FilePlaces) (e : Expiry) (at serial : ℕ) (octets : Octets)
-    → v.seen ≡ v.cache → MakesAt inodes at (expiry_name serial) octets v.seen m.seen → Dirties v.cache w.cache v.dirty w.dirty
-    → w.cache ≡ m.seen → w.seen ≡ m.seen
-    → q ≡ with_change at p
-    → ((S : Spool) → MayExpire S e → Indexes S i → Indexes (S ++ Expire e ∷ []) j)
-    → ((S : Spool) → Indexes S i → serial ≡ length S + 1)
-    → octets ≡ expiry_record (news_expiry serial e)
-    → IsGrown inodes v w i j p q (Expire e)
-expiry_grown inodes v m w i j p q e at serial octets seen made dirties cache now places indexed serials says =
-    let made' : MakesAt inodes at (expiry_name serial) octets v.cache w.cache =
-    subst (λ (bs : List Octets). MakesAt inodes at (expiry_name serial) octets v.cache bs) (sym cache)
-    (subst (λ (bs : List Octets). MakesAt inodes at (expiry_name serial) octets bs m.seen) seen made) in
-    let said : (S : Spool) → serial ≡ length S + 1 → octets ≡ expiry_record (news_expiry (length S + 1) e) =
-    λ S its. says ∙ ap (λ (n : ℕ). expiry_record (news_expiry n e)) its in
-    let named : (S : Spool) → serial ≡ length S + 1 → MakesAt inodes at (expiry_name (length S + 1)) octets v.cache w.cache =
-    λ S its. subst (λ (n : ℕ). MakesAt inodes at (expiry_name n) octets v.cache w.cache) its made' in
-    record {
-      kept = λ host S kept may.
-          let its = serials S kept.indexed in
-          kept_with_expiry host inodes v w i j p q S e at octets kept may (said S its) (named S its) places
-          (indexed S may kept.indexed) (now ∙ sym cache);
+      free = λ room rule. omega (arith, inodes_taken inodes (group_calls g.name octets) v.cache w.cache made'.calls room rule);
       dirties = dirties;
     }

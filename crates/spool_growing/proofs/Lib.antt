@@ -5,3 +5,8 @@ pub mod Grown
 pub mod Adding
 pub mod Touched
 pub mod Filed
+pub mod Calling
+pub mod Pieces
+pub mod Packing
+pub mod Stored
+pub mod Taken

@@ -18,15 +18,16 @@ use Rattle.model.proofs.Asking.{changes_ask_few}
 use Rattle.fs.specs.Calls.{IsFileAt}
 use Rattle.fs.specs.Touches.{Touches, touched_by_growth}
 use Rattle.fs_layout.proofs.Touching.{touches_more}
-use Rattle.filing.specs.declared.Piece.{Piece}
-use Rattle.filing.specs.Calls.{size_at, touched_by_pieces}
+use Rattle.spool_growing.specs.declared.file_calls.Piece.{Piece}
+use Rattle.spool_growing.specs.Calls.{size_at, touched_by_pieces}
 use Rattle.spool_growing.specs.Articles.{ArePieces}
 use Rattle.spool_growing.specs.Kept.{IsHeld}
+use Rattle.spool_growing.specs.Putting.{touched_by_put}
 use Rattle.spool_growing.proofs.Held.{changes_are_few}
 
 -- ---- its file
 
-few_put : (fresh end : ℕ) → fresh ≤ 65 → pointers_put fresh end ≤ 3
+few_put : (fresh end : ℕ) → fresh ≤ 1000 → pointers_put fresh end ≤ 3
 few_put fresh end few = by_tests (eqb fresh 0) (nat_lt largest_file_one end) (nat_lt 40960 end) where
   by_tests : (none huge large : Bool) → cond none 0 (cond huge (2 + (fresh + 1022) / 1024) (cond large 1 0)) ≤ 3
   by_tests true huge large = omega arith
@@ -34,12 +35,16 @@ few_put fresh end few = by_tests (eqb fresh 0) (nat_lt largest_file_one end) (na
   by_tests false false true = omega arith
   by_tests false false false = omega arith
 
-reached_by : (n : ℕ) → n ≤ largest_record → 2 + touched_by_growth 0 n ≤ content_blocks n + 6
+pub reached_by : (n : ℕ) → n ≤ 1_000_000 → 2 + touched_by_growth 0 n ≤ content_blocks n + 6
 reached_by n few = omega (arith, few_put (blocks_fresh 0 n) (0 + n) (omega (arith, few)))
+
+-- the pack gets this many octets
+pub reached_more : (size n : ℕ) → n ≤ 1_000_000 → touched_by_growth size n ≤ content_blocks n + 5
+reached_more size n few = omega (arith, few_put (blocks_fresh size n) (size + n) (omega (arith, few)))
 
 -- a new file of this many octets
 pub few_reached : (n : ℕ) → n ≤ largest_record → 2 + touched_by_growth 0 n ≤ 71
-few_reached n few = omega (arith, reached_by n few, few)
+few_reached n few = omega (arith, reached_by n (omega (arith, few)), few)
 
 -- ---- its numbers and lines
 
@@ -77,28 +82,28 @@ module _ (host : Octets) (inodes : ℕ) (blocks : List Octets) (S : Spool) (f : 
   abbrev octets_of : Octets
   octets_of = article_record (news_article (length S + 1) f)
 
-  few_changed : 2 + touched_by_growth 0 (length octets_of) + sum_by (blocks_filed S f.text) f.envelope.groups ≤ 254
+  few_changed : touched_by_put (length octets_of) + sum_by (blocks_filed S f.text) f.envelope.groups ≤ 254
   unfolding blocks_changed
   few_changed =
       let asks = changes_ask_few host S (Article f) (changes_are_few host inodes blocks S is) is.held.lawful may in
-      omega (arith, asks.changed, reached_by (length octets_of) asks.made)
+      omega (arith, asks.changed)
 
   few_touched : (octets : Octets) (pieces : List Piece) → octets ≡ octets_of
       → ArePieces (table inodes blocks) S f.text f.envelope.groups pieces
-      → 2 + touched_by_growth 0 (length octets) + touched_by_pieces (table inodes blocks) pieces ≤ 254
+      → touched_by_put (length octets) + touched_by_pieces (table inodes blocks) pieces ≤ 254
   few_touched octets pieces says are =
       let pieces_are = sym (pieces_touch (table inodes blocks) S f.text f.envelope.groups pieces are) in
-      subst (λ (n : ℕ). 2 + touched_by_growth 0 (length octets) + n ≤ 254) pieces_are
-      (subst (λ (o : Octets). 2 + touched_by_growth 0 (length o) + sum_by (blocks_filed S f.text) f.envelope.groups ≤ 254)
+      subst (λ (n : ℕ). touched_by_put (length octets) + n ≤ 254) pieces_are
+      (subst (λ (o : Octets). touched_by_put (length o) + sum_by (blocks_filed S f.text) f.envelope.groups ≤ 254)
       (sym says) few_changed)
 
   pub article_touches : (serial : ℕ) (octets : Octets) (pieces : List Piece) (seen new : List Octets)
       → seen ≡ blocks → serial ≡ length S + 1
       → octets ≡ article_record (news_article serial f) → ArePieces (table inodes blocks) S f.text f.envelope.groups pieces
-      → Touches (2 + touched_by_growth 0 (length octets) + touched_by_pieces (table inodes seen) pieces) seen new
+      → Touches (touched_by_put (length octets) + touched_by_pieces (table inodes seen) pieces) seen new
       → Touches 254 seen new
   article_touches serial octets pieces seen new same count says are touches =
-      let reached = 2 + touched_by_growth 0 (length octets) in
+      let reached = touched_by_put (length octets) in
       let its_own = ap (λ (n : ℕ). article_record (news_article n f)) count in
       let few : reached + touched_by_pieces (table inodes seen) pieces ≤ 254 =
       subst (λ (bs : List Octets). reached + touched_by_pieces (table inodes bs) pieces ≤ 254) (sym same)

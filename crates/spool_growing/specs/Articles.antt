@@ -8,9 +8,9 @@ use Rattle.model.specs.Lawful.{MayFile}
 use Rattle.model.specs.Spool.{Spool}
 use Rattle.model.specs.FileCalls.{next_line, next_record}
 use Rattle.model.specs.SpoolFiles.{numbers_file, numbers_name, overview_file, overview_name}
-use Rattle.index.specs.View.{IndexView, Indexes}
+use Rattle.spool_index.specs.View.{IndexView, Indexes}
 use Rattle.model.specs.declared.change.Envelope.{Envelope}
-use Rattle.filing.specs.declared.Piece.{Piece}
+use Rattle.spool_growing.specs.declared.file_calls.Piece.{Piece}
 use Rattle.spool_growing.specs.Kept.{IsHeld}
 
 -- ---- what an article adds to its groups

@@ -1,10 +1,10 @@
 -- One more change, in all that a spool keeps.
 use Rattle.std.specs.Prelude.{◌≡◌, ◌⊎◌, ◌↔◌, ℕ, ◌+◌, ◌≤◌, false, List, [], ◌∷◌, ◌++◌, length, map, Some}
 use Rattle.std.specs.List.{Contains}
-use Rattle.model.specs.Files.{bitmap_blocks, files_in, free_blocks, table}
-use Rattle.model.specs.Indexed.{FilePlaces}
+use Rattle.model.specs.Files.{File, HasRoom, IsFileSystem, bitmap_blocks, files_in, free_blocks, free_inodes, table}
+use Rattle.model.specs.Indexed.{ChangePlace, FilePlaces}
 use Rattle.model.specs.Lawful.{MayFollow}
-use Rattle.model.specs.Room.{is_full}
+use Rattle.model.specs.Room.{files_made, is_full}
 use Rattle.model.specs.Spool.{Spool}
 use Rattle.model.specs.FileCalls.{FileCall, Create, making_calls}
 use Rattle.model.specs.SpoolFiles.{group_name, numbers_name, overview_name}
@@ -12,12 +12,13 @@ use Rattle.model.specs.Stream.{Octets}
 use Rattle.model.specs.Volume.{AreDistinct}
 use Rattle.model.specs.declared.change.Change.{Change}
 use Rattle.fs.specs.Calls.{IsThere}
-use Rattle.filing.specs.declared.Piece.{Piece}
-use Rattle.filing.specs.Calls.{AreUsed, Calls, append_call}
-use Rattle.index.specs.View.{IndexView}
-use Rattle.places.specs.Places.{name_of}
-use Rattle.volume.specs.Volume.{Differs, VolumeView}
+use Rattle.spool_growing.specs.declared.file_calls.Piece.{Piece}
+use Rattle.spool_growing.specs.Calls.{AreUsed, Calls, append_call}
+use Rattle.spool_index.specs.View.{IndexView}
+use Rattle.spool_index.specs.Places.{name_of}
+use Rattle.journal_volume.specs.Volume.{Differs, VolumeView}
 use Rattle.spool_growing.specs.Kept.{IsKept}
+use Rattle.spool_growing.specs.Putting.{PutsAt}
 
 -- ---- files
 
@@ -60,17 +61,18 @@ pub record IsReady (inodes : ℕ) (volume : VolumeView) (index : IndexView) (pla
   pub changes : Spool
   pub kept : IsKept host inodes volume index places changes
   pub may : MayFollow host changes c
-  pub room : is_full (length volume.cache) inodes changes (Some c) ≡ false
+  pub room : is_full volume.cache inodes changes (Some c) ≡ false
 
--- if the blocks held changes that this one may follow, they now hold those and then this one
+-- If the blocks held changes that this one may follow, they now hold those and then this one. It took no more inodes than it has files.
 pub record IsGrown (inodes : ℕ) (v w : VolumeView) (i j : IndexView) (p q : FilePlaces) (c : Change) : Type 0 where
   pub kept : (host : Octets) (S : Spool) → IsKept host inodes v i p S → MayFollow host S c → IsKept host inodes w j q (S ++ c ∷ [])
+  pub free : HasRoom inodes v.cache → IsFileSystem inodes v.cache → free_inodes inodes v.cache ≤ free_inodes inodes w.cache + files_made c
   pub dirties : Dirties v.cache w.cache v.dirty w.dirty
 
 -- ---- an article
 
--- its file was made in this inode, and then these pieces were appended to their files
-pub record FilesArticle (inodes at : ℕ) (name octets : Octets) (pieces : List Piece) (old new : List Octets) : Type 0 where
-  pub calls : Calls inodes (making_calls name octets ++ map (append_call (table inodes old)) pieces) old new
-  pub article : name_of (table inodes new) at ≡ Some name
-  pub used : AreUsed at (table inodes new)
+-- its file was put at this place, and then these pieces were appended to their files
+pub record FilesArticle (inodes : ℕ) (at : ChangePlace) (f : File) (pieces : List Piece) (old new : List Octets) : Type 0 where
+  pub mid : List Octets
+  pub puts : PutsAt inodes at f old mid
+  pub calls : Calls inodes (map (append_call (table inodes old)) pieces) mid new

@@ -6,8 +6,8 @@ use Rattle.model.specs.Layout.{Holds}
 use Rattle.model.specs.Names.{is_host}
 use Rattle.model.specs.Spool.{Spool}
 use Rattle.model.specs.Stream.{Octets}
-use Rattle.index.specs.View.{IndexView, Indexes}
-use Rattle.volume.specs.Volume.{VolumeView}
+use Rattle.spool_index.specs.View.{IndexView, Indexes}
+use Rattle.journal_volume.specs.Volume.{VolumeView}
 
 -- blocks with room for this many inodes hold these changes of a host
 pub record IsHeld (host : Octets) (inodes : ℕ) (blocks : List Octets) (S : Spool) : Type 0 where

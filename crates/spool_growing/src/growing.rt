@@ -2,24 +2,23 @@
 //! the stage is applied, which takes no memory. If memory is refused, everything is as it was.
 
 ghost use Rattle.std.specs.Prelude.{◌≡◌, IfOk, OnErr, OnOk};
-ghost use Rattle.filing.specs.Calls.{IsKnown};
+ghost use Rattle.spool_growing.specs.Calls.{IsKnown};
 ghost use Rattle.model.specs.Files.{HasRoom};
 ghost use Rattle.model.specs.declared.change.Change.{Change};
 ghost use Rattle.spool_growing.specs.Growing.{IsGrown, IsReady};
 
-use crate::lines::lines_of;
-use crate::staging::{file_article, make_expiry, make_group};
-use admission::id_of;
-use article::Article;
-use blocks::Blocks;
-use filing::Free;
-use fs_layout::marks::lowest_free;
-use index::Index;
+use crate::index_lines::lines_of;
+use crate::staging::{file_article, make_group, put_expiry};
+use crate::{Free, PlaceKind};
+use fs_blocks::Blocks;
+use fs_layout::bitmap::lowest_free;
+use journal_volume::Volume;
 use model::{Envelope, Moment, Status};
-use places::Places;
-use records::{article_record, expiry_record, group_record};
+use spool_admission::id_of;
+use spool_index::{Index, Places};
+use spool_records::{article_record, expiry_record, group_record};
 use std::alloc::{AllocError, Global};
-use volume::Volume;
+use text_article::Article;
 
 /// What is free, after a search for the lowest free block.
 fn seek_block(volume: &Volume, inodes: u32, free: Free) -> Free
@@ -79,8 +78,8 @@ pub fn grow_by_group(
     Ok(seek_block(volume, inodes, next))
 }
 
-/// Adds an expiry that may follow and for which there is room, and answers what is free afterwards. Refused only for
-/// want of memory, and then nothing changes.
+/// Adds an expiry that may follow and for which there is room, and answers what is free afterwards. Its file goes into the
+/// pack, if that may grow by it. Refused only for want of memory, and then nothing changes.
 pub fn grow_by_expiry(
     alloc: Global,
     inodes: u32,
@@ -104,7 +103,7 @@ pub fn grow_by_expiry(
     let serial = index.len() + 1;
     let record = expiry_record(alloc, serial, name, number)?;
     let mut next = free;
-    let Ok(at) = make_expiry(alloc, volume, inodes, &mut next, serial, &record) else {
+    let Ok(at) = put_expiry(alloc, volume, inodes, &mut next, serial, &record) else {
         volume.drop_stage();
         return Err(AllocError);
     };
@@ -121,8 +120,8 @@ pub fn grow_by_expiry(
     Ok(seek_block(volume, inodes, next))
 }
 
-/// Files an article with this envelope and answers what is free afterwards. The change must be one that may follow, and
-/// there must be room for it. Refused only for want of memory, and then nothing changes.
+/// Files an article with this envelope, its file in a place of this kind, and answers what is free afterwards. The change
+/// must be one that may follow, and there must be room for it. Refused only for want of memory, and then nothing changes.
 pub fn grow_by_article(
     alloc: Global,
     inodes: u32,
@@ -130,6 +129,7 @@ pub fn grow_by_article(
     volume: &mut Volume,
     index: &mut Index,
     places: &mut Places,
+    kind: PlaceKind,
     article: &Article<'_>,
     envelope: &Envelope,
 ) -> Result<Free, AllocError>
@@ -155,6 +155,7 @@ pub fn grow_by_article(
         volume,
         inodes,
         &mut next,
+        kind,
         serial,
         &octets,
         &lines.pieces,

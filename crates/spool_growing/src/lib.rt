@@ -1,8 +1,13 @@
-//! Adds one more change to the files of a spool, to their places and to the index.
+//! Adds one more change to the files of a spool, to their places and to the index. `filing` has the calls of the file system that
+//! this takes, with what they cost.
 #![tactic(auto)]
 
+mod file_calls;
 mod growing;
-mod lines;
+mod index_lines;
+mod putting;
 mod staging;
 
+pub use file_calls::{BLOCKS_ASKED, Free, Piece, append_all, append_to, create_file, make_file};
 pub use growing::{grow_by_article, grow_by_expiry, grow_by_group};
+pub use putting::PlaceKind;

@@ -6,14 +6,18 @@ ghost use Rattle.model.specs.Files.{HasRoom, IsFileSystem, files_in, table};
 ghost use Rattle.model.specs.Records as model_records;
 ghost use Rattle.model.specs.SpoolFiles.{article_name, expiry_name};
 ghost use Rattle.fs.specs.Calls.{IsName, IsThere};
-ghost use Rattle.fs.specs.Touches.{Touches, touched_by_growth};
-ghost use Rattle.filing.specs.Calls.{CreatesAt, IsKnown, MakesAt, MayAllGrow, touched_by_pieces};
-ghost use Rattle.records.specs.Kinds.{front_of};
+ghost use Rattle.fs.specs.Touches.{Touches};
+ghost use Rattle.spool_index.specs.Viewed.{place_of};
+ghost use Rattle.spool_growing.specs.Calls.{CreatesAt, IsKnown, MayAllGrow, touched_by_pieces};
+ghost use Rattle.spool_records.specs.Kinds.{front_of};
 ghost use Rattle.spool_growing.specs.Growing.{FilesArticle, HasFree, LacksGroup, MakesGroup};
+ghost use Rattle.spool_growing.specs.Putting.{AreNotPacked, PutsAt, touched_by_put};
 
-use blocks::Blocks;
-use filing::{Free, Piece, append_all, create_file, make_file};
-use records::{FileKind, expiry_record, file_name, group_record, serial_digits};
+use crate::putting::put_file;
+use crate::{Free, Piece, PlaceKind, append_all, create_file, make_file};
+use fs_blocks::Blocks;
+use spool_index::ChangePlace;
+use spool_records::{FileKind, file_name, serial_digits};
 use std::alloc::{AllocError, Global};
 
 /// The inodes of the files of a group.
@@ -83,59 +87,71 @@ pub(crate) fn make_group<B: Blocks>(
     })
 }
 
-/// Makes the file of an expiry. Refused only for want of memory; then the caller must drop the stage.
-pub(crate) fn make_expiry<B: Blocks>(
+/// Puts the file of an expiry into the pack, if that may grow by it, and answers its place. Refused only for want of
+/// memory; then the caller must drop the stage.
+pub(crate) fn put_expiry<B: Blocks>(
     alloc: Global,
     blocks: &mut B,
     inodes: u32,
     free: &mut Free,
     serial: u64,
     record: &[u8],
-) -> Result<u32, AllocError>
+) -> Result<ChangePlace, AllocError>
     requires room { HasRoom inodes (B.blocks blocks.old) }
     requires rule { IsFileSystem inodes (B.blocks blocks.old) }
     requires short { length «record».now ≤ model_records.largest_record }
     requires lacks { ¬ (IsThere (table inodes (B.blocks blocks.old)) (expiry_name serial)) }
     requires free { HasFree inodes 1 (B.blocks blocks.old) }
     requires known { IsKnown inodes free.old (B.blocks blocks.old) }
-    ensures made { IfOk result (λ at. MakesAt inodes at (expiry_name serial) «record».now (B.blocks blocks.old) (B.blocks blocks.new)) }
+    ensures puts { IfOk result (λ at. PutsAt inodes (place_of at) (record { name = expiry_name serial; content = «record».now })
+        (B.blocks blocks.old) (B.blocks blocks.new)) }
     ensures touches { OnOk result (Touches 254 (B.blocks blocks.old) (B.blocks blocks.new)) }
     ensures known { OnOk result (IsKnown inodes free.new (B.blocks blocks.new)) }
     ensures kept { B.applied blocks.new ≡ B.applied blocks.old }
 {
     let name = file_name(alloc, FileKind::Expiry, &serial_digits(serial))?;
-    make_file(blocks, inodes, free, &name, record)
+    put_file(
+        alloc,
+        blocks,
+        inodes,
+        free,
+        PlaceKind::Packed,
+        &name,
+        record,
+    )
 }
 
-/// Makes the file of an article, and appends what it adds to its groups to their files. Refused only for want of
-/// memory; then the caller must drop the stage.
+/// Puts the file of an article, appends what it adds to its groups to their files, and answers the place of its own.
+/// Refused only for want of memory; then the caller must drop the stage.
 pub(crate) fn file_article<B: Blocks>(
     alloc: Global,
     blocks: &mut B,
     inodes: u32,
     free: &mut Free,
+    kind: PlaceKind,
     serial: u64,
     octets: &[u8],
     pieces: &[Piece],
-) -> Result<u32, AllocError>
+) -> Result<ChangePlace, AllocError>
     requires room { HasRoom inodes (B.blocks blocks.old) }
     requires rule { IsFileSystem inodes (B.blocks blocks.old) }
     requires short { length octets.now ≤ model_records.largest_record }
     requires lacks { ¬ (IsThere (table inodes (B.blocks blocks.old)) (article_name serial)) }
     requires free { HasFree inodes 1 (B.blocks blocks.old) }
     requires grow { MayAllGrow inodes pieces.now (B.blocks blocks.old) }
+    requires apart { AreNotPacked (table inodes (B.blocks blocks.old)) pieces.now }
     requires few { length pieces.now ≤ 32 }
     requires known { IsKnown inodes free.old (B.blocks blocks.old) }
-    ensures filed { IfOk result (λ at. FilesArticle inodes at (article_name serial) octets.now pieces.now (B.blocks blocks.old)
-        (B.blocks blocks.new)) }
+    ensures filed { IfOk result (λ at. FilesArticle inodes (place_of at) (record { name = article_name serial; content = octets.now })
+        pieces.now (B.blocks blocks.old) (B.blocks blocks.new)) }
     ensures touches { OnOk result (Touches
-        (2 + touched_by_growth 0 (length octets.now) + touched_by_pieces (table inodes (B.blocks blocks.old)) pieces.now)
+        (touched_by_put (length octets.now) + touched_by_pieces (table inodes (B.blocks blocks.old)) pieces.now)
         (B.blocks blocks.old) (B.blocks blocks.new)) }
     ensures known { OnOk result (IsKnown inodes free.new (B.blocks blocks.new)) }
     ensures kept { B.applied blocks.new ≡ B.applied blocks.old }
 {
     let name = file_name(alloc, FileKind::Article, &serial_digits(serial))?;
-    let at = make_file(blocks, inodes, free, &name, octets)?;
+    let at = put_file(alloc, blocks, inodes, free, kind, &name, octets)?;
     append_all(blocks, inodes, free, pieces)?;
     Ok(at)
 }

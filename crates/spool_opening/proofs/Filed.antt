@@ -11,25 +11,28 @@ use Rattle.model.specs.Article.{groups_of}
 use Rattle.model.specs.Files.{File, HasRoom, IsFileSystem, table}
 use Rattle.model.specs.Indexed.{FilePlaces, GroupIndex, group_index}
 use Rattle.model.specs.Lawful.{MayFile}
+use Rattle.model.specs.Packs.{most_changes}
 use Rattle.model.specs.Spool.{Spool, NewsGroup, group_named, groups, is_here, is_name}
 use Rattle.model.specs.SpoolFiles.{overview_file, overview_name}
 use Rattle.model.specs.declared.cause.Cause.{Cause}
 use Rattle.model.specs.declared.change.Change.TheVariants.{Article}
 use Rattle.model.specs.declared.change.Envelope.{Envelope}
 use Rattle.model.specs.declared.change.Filing.{Filing}
-use Rattle.index_groups.specs.Filing.{AreLineSizes, EndBelow, end_of}
-use Rattle.index.specs.View.{IndexView, Indexes}
-use Rattle.index.proofs.Growing.{overview_size}
-use Rattle.places.specs.Places.{AreNamed, with_change}
-use Rattle.places.proofs.Named.{grow_by_change}
+use Rattle.spool_groups.specs.Filing.{AreLineSizes, EndBelow, end_of}
+use Rattle.spool_index.specs.View.{IndexView, Indexes}
+use Rattle.spool_index.proofs.Growing.{overview_size}
+use Rattle.spool_index.specs.Places.{AreNamed, with_change}
+use Rattle.spool_index.specs.Viewed.{place_of}
+use Rattle.spool_index.specs.declared.places.ChangePlace.{ChangePlace}
+use Rattle.spool_index.proofs.Named.{grow_by_change}
 use Rattle.spool_opening.specs.Replayed.{AllGoOn, AreHere, IsBounded, IsItsFile, IsReplayed}
 use Rattle.spool_opening.specs.Stored.{HasPiece, Overview, Which, file_for, name_for, piece_for}
 use Rattle.spool_reading.proofs.Contents.{content_fits}
 use Rattle.spool_opening.proofs.Growing.{article_is_read}
-use Rattle.spool_opening.proofs.Replaying.{its_file_there, its_name}
+use Rattle.spool_opening.proofs.Replaying.{its_file_there, its_name, keeps_self}
 
 pub bounded : (host : Octets) (inodes : ℕ) (blocks : List Octets) (x : IndexView) (p : FilePlaces) (R : Spool) → HasRoom inodes blocks
-    → IsFileSystem inodes blocks → IsReplayed host inodes blocks x p R → length R ≤ 4194304 → IsBounded x
+    → IsFileSystem inodes blocks → IsReplayed host inodes blocks x p R → length R ≤ most_changes → IsBounded x
 bounded host inodes blocks x p R room rule replayed few = record {
   changes = R;
   indexed = replayed.indexed;
@@ -94,10 +97,10 @@ pieces_by_names inodes S text gs all w g filed =
     let at = any_at g gs filed in
     subst (λ (h : Octets). HasPiece inodes (name_for w h) (length (file_for w S h)) (piece_for w S text h)) at.1.1 (all at.0 w at.1.0)
 
-pub article_replayed : (host : Octets) (inodes : ℕ) (blocks : List Octets) (R : Spool) (x y : IndexView) (p q : FilePlaces) (at : ℕ)
-    (f : Filing) → IsFileSystem inodes blocks → IsReplayed host inodes blocks x p R
+pub article_replayed : (host : Octets) (inodes : ℕ) (blocks : List Octets) (R : Spool) (x y : IndexView) (p q : FilePlaces)
+    (at : ChangePlace) (f : Filing) → IsFileSystem inodes blocks → IsReplayed host inodes blocks x p R
     → IsItsFile inodes blocks at (length R + 1) (Article f) → MayFile host R f
-    → AllGoOn (table inodes blocks) R f.text f.envelope.groups → Indexes (R ++ Article f ∷ []) y → q ≡ with_change at p
+    → AllGoOn (table inodes blocks) R f.text f.envelope.groups → Indexes (R ++ Article f ∷ []) y → q ≡ with_change (place_of at) p
     → IsReplayed host inodes blocks y q (R ++ Article f ∷ [])
 article_replayed host inodes blocks R x y p q at f rule replayed its may all indexed placed = record {
   read = article_is_read host inodes blocks R replayed.read f rule may its.is.room
@@ -106,8 +109,8 @@ article_replayed host inodes blocks R x y p q at f rule replayed its may all ind
   indexed = indexed;
   placed =
       subst (AreNamed (table inodes blocks) (R ++ Article f ∷ [])) (sym placed)
-      (grow_by_change (table inodes blocks) (table inodes blocks) R (Article f) p at refl replayed.placed (λ k name is. is)
-      (its_name inodes blocks at (length R + 1) (Article f) its));
+      (grow_by_change (table inodes blocks) (table inodes blocks) R (Article f) p (place_of at) refl replayed.placed
+      (keeps_self (table inodes blocks)) (its_name inodes blocks at (length R + 1) (Article f) its));
 }
 
 -- ---- what the code has

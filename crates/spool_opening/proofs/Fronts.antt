@@ -2,29 +2,31 @@
 use Rattle.std.proofs.Common.{◌≡◌, ◌<◌, ◌≤◌, ℕ, zero, suc, ◌+◌, Bool, true, false, cond, List, [], ◌∷◌, ◌++◌, length, get_or, take, drop}
 use Rattle.std.proofs.Common.{refl, sym, ◌∙◌, ap, subst, arith, Some, length-append}
 use Rattle.std.specs.Prelude.{filter_map, slice_get}
-use Rattle.std.specs.List.{list_any}
+use Rattle.std.specs.List.{Contains, list_any}
 use Rattle.std.proofs.Math.Seq.{take-append-add, drop-append_seam, take-append_seam}
 use Rattle.std.proofs.lemmas.List.{append_assoc, append-nil, take_more, take-append-drop}
 use Rattle.std.proofs.lemmas.Option.{slice_get-get_or}
 use Rattle.model.specs.Stream.{Octets}
-use Rattle.model.specs.Files.{IsFileSystem, table}
+use Rattle.model.specs.Files.{File, IsFileSystem, most_inodes, table}
 use Rattle.model.specs.Layout.{Holds}
 use Rattle.model.specs.Lawful.{IsLawfulAfter, MayFollow}
 use Rattle.model.specs.Spool.{Spool, article_filed, filed_in, first, is_here, is_name, news_article}
 use Rattle.model.specs.FileCalls.{next_line, next_record}
 use Rattle.model.specs.FileKinds.{HasRoomInFile}
-use Rattle.model.specs.SpoolFiles.{numbers_file, numbers_of, overview_file, overview_of}
+use Rattle.model.specs.SpoolFiles.{files_of, numbers_file, numbers_of, overview_file, overview_of}
 use Rattle.model.specs.declared.change.Change.{Change}
 use Rattle.model.specs.declared.change.Change.TheVariants.{Group, Article, Expire}
 use Rattle.model.specs.declared.change.Filing.{Filing}
 use Rattle.model.proofs.Growing.{filed_article, filed_no_more, numbers_push, overview_push, here_stays}
 use Rattle.model.proofs.HoldsOne.{changes_few, fits_lawful, no_change}
 use Rattle.fs_layout.proofs.Tables.{there_once}
-use Rattle.model.proofs.Opening.{fronts_read, where_is, is_among}
+use Rattle.model.proofs.Inodes.{is_among, where_is}
+use Rattle.model.proofs.Opening.{fronts_read}
+use Rattle.model.proofs.Packing.{stored_beside}
 use Rattle.spool_opening.specs.Stored.{AreRead, NextIs, HasFront, HasPiece, IsFileAt, Numbers, Overview, Which, file_for, name_for}
 use Rattle.spool_opening.specs.Stored.{piece_for}
 use Rattle.spool_reading.proofs.Finding.{has_change, in_blocks, in_spool}
-use Rattle.spool_opening.proofs.GroupFiles.{has_index, index_is}
+use Rattle.spool_opening.proofs.GroupFiles.{has_index, index_is, not_member, not_pack}
 
 -- ---- the next change
 
@@ -36,11 +38,11 @@ may_next host before (c ∷ cs) (suc k) lawful low =
     subst (λ (S : Spool). MayFollow host S (get_or cs k no_change)) (append_assoc before (c ∷ []) (take k cs))
     (may_next host (before ++ c ∷ []) cs k lawful.1 (omega arith))
 
-pub is_front : (host : Octets) (inodes : ℕ) (blocks : List Octets) (S R : Spool) → inodes ≤ 4194304 → Holds host inodes blocks S
+pub is_front : (host : Octets) (inodes : ℕ) (blocks : List Octets) (S R : Spool) → inodes ≤ most_inodes → Holds host inodes blocks S
     → AreRead host inodes blocks R → R ≡ first S (length R)
 is_front host inodes blocks S R room held read = fronts_read host inodes blocks S R room held read.changes
 
-pub next_is : (host : Octets) (inodes : ℕ) (blocks : List Octets) (R S : Spool) → inodes ≤ 4194304 → Holds host inodes blocks S
+pub next_is : (host : Octets) (inodes : ℕ) (blocks : List Octets) (R S : Spool) → inodes ≤ most_inodes → Holds host inodes blocks S
     → R ≡ first S (length R) → length R < length S → NextIs host inodes blocks R S
 next_is host inodes blocks R S room held front low =
     let few = changes_few host inodes blocks S held in
@@ -55,7 +57,7 @@ next_is host inodes blocks R S room held front low =
       front = ap (λ (T : Spool). T ++ get_or S (length R) no_change ∷ []) front ∙ sym (take_more S (length R) no_change low);
     }
 
-pub next_there : (host : Octets) (inodes : ℕ) (blocks : List Octets) (R S : Spool) (room : inodes ≤ 4194304)
+pub next_there : (host : Octets) (inodes : ℕ) (blocks : List Octets) (R S : Spool) (room : inodes ≤ most_inodes)
     (held : Holds host inodes blocks S) (front : R ≡ first S (length R)) (low : length R < length S)
     → slice_get S (length R) ≡ Some (next_is host inodes blocks R S room held front low).change
 unfolding next_is
@@ -108,7 +110,7 @@ pub its_content : (host : Octets) (inodes : ℕ) (blocks : List Octets) (S : Spo
     → Holds host inodes blocks S
     → IsFileAt (table inodes blocks) k (name_for w g) content → content ≡ file_for w S g
 its_content host inodes blocks S w g k content held there =
-    (index_is w S g content (in_spool host inodes blocks S (record { name = name_for w g; content = content }) held
+    (index_is w S g content (in_spool host inodes blocks S (record { name = name_for w g; content = content }) held (not_pack w g)
     (is_among (table inodes blocks) k (record { name = name_for w g; content = content }) there))).is
 
 -- and it is there
@@ -117,7 +119,9 @@ pub its_file : (host : Octets) (inodes : ℕ) (blocks : List Octets) (S : Spool)
     → (k : ℕ) × IsFileAt (table inodes blocks) k (name_for w g) (file_for w S g)
 its_file host inodes blocks S w g held here =
     where_is (table inodes blocks) (record { name = name_for w g; content = file_for w S g })
-    (in_blocks host inodes blocks S (record { name = name_for w g; content = file_for w S g }) held (has_index w S g here))
+    (subst (λ (fs : List File). Contains fs (record { name = name_for w g; content = file_for w S g })) held.held.contents
+    (stored_beside held.files (files_of S) held.same (record { name = name_for w g; content = file_for w S g }) (has_index w S g here)
+    (not_member w g (file_for w S g))))
 
 seam : (front piece rest : Octets) → take (length piece) (drop (length front) ((front ++ piece) ++ rest)) ≡ piece
 seam front piece rest =

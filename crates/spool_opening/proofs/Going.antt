@@ -1,22 +1,22 @@
 -- What is asked of an article's lines by the index is what the definitions say.
-use Rattle.std.proofs.Common.{◌≡◌, ◌<◌, ◌≤◌, ◌↔◌, ℕ, ◌+◌, ◌*◌, Bool, false, List, length, take, drop, sym, ◌∙◌, ap}
-use Rattle.std.proofs.Common.{subst, arith, Option, None, inl, inr}
+use Rattle.std.proofs.Common.{◌≡◌, ◌≤◌, ◌↔◌, ℕ, ◌+◌, ◌*◌, Bool, false, List, length, take, drop, sym, ◌∙◌, ap}
+use Rattle.std.proofs.Common.{subst, arith, Option, None}
 use Rattle.std.specs.Prelude.{bytes_eq, IsTrue}
-use Rattle.std.proofs.lemmas.Bool.{cases_lt}
-use Rattle.std.proofs.lemmas.List.{get_or_past, length-take, length-drop, length-map}
+use Rattle.std.proofs.lemmas.List.{length-take, length-drop}
 use Rattle.std.proofs.lemmas.Slice.Eq.{bytes_eq-Decides}
 use Rattle.model.specs.Stream.{Octets}
 use Rattle.model.specs.Article.{overview_line}
 use Rattle.model.specs.Files.{File, HasRoom, IsFileSystem, table, largest_file}
 use Rattle.model.specs.Indexed.{group_index, value_of}
-use Rattle.model.specs.Spool.{Spool, NewsArticle, NewsGroup, filed_in, high}
+use Rattle.model.specs.Spool.{Spool, NewsGroup}
 use Rattle.model.specs.FileCalls.{next_line, next_record}
 use Rattle.model.specs.FileKinds.{is_of_change}
 use Rattle.model.specs.SpoolFiles.{number_record, numbers_file, numbers_name, overview_file}
 use Rattle.model.specs.SpoolFiles.{overview_name}
 use Rattle.model.proofs.Indexing.{numbers_size}
-use Rattle.index_groups.specs.Filing.{end_of}
-use Rattle.index.proofs.Growing.{overview_size}
+use Rattle.spool_groups.specs.Filing.{end_of}
+use Rattle.spool_index.proofs.Growing.{overview_size}
+use Rattle.spool_index.specs.declared.places.ChangePlace.{ChangePlace}
 use Rattle.spool_reading.specs.Sorted.{AreSorted}
 use Rattle.spool_opening.specs.Stored.{HasPiece, IsFileAt, Numbers, Overview, Which, file_for, name_for, piece_for}
 use Rattle.spool_opening.specs.Going.{GoesOn}
@@ -37,16 +37,12 @@ piece_by_test inodes blocks name piece content octets after at same rule there r
       (there_once inodes blocks rule at has.place name content has.content there has.there) ∙ has.piece_is),
 )
 
-pub no_piece : (inodes : List (Option File)) (slots : List ℕ) (named : List (Octets × ℕ)) (name piece : Octets) (after : ℕ)
-    → AreSorted inodes (length inodes) slots named → ((content : Octets) → is_of_change (record { name = name; content = content }) ≡ false)
-    → value_of named name ≡ None → HasPiece inodes name after piece → ⊥
-no_piece inodes slots named name piece after sorted other none has =
-    let low : has.place < length inodes =
-    elim (cases_lt has.place (length inodes)) [
-      | inl less ↦ less
-      | inr past ↦ absurd (let nothing = get_or_past inodes has.place None past in let is = has.there in cc)
-    ] in
-    absurd (let found = sorted.to name has.content has.place low has.there (other has.content) in cc)
+pub no_piece : (inodes : List (Option File)) (slots : List (Option ChangePlace)) (named : List (Octets × ℕ)) (packed : ℕ)
+    (name piece : Octets) (after : ℕ) → AreSorted inodes slots named packed
+    → ((content : Octets) → is_of_change (record { name = name; content = content }) ≡ false) → value_of named name ≡ None
+    → HasPiece inodes name after piece → ⊥
+no_piece inodes slots named packed name piece after sorted other none has =
+    absurd (let found = sorted.to name has.content has.place has.there (other has.content) in cc)
 
 pub piece_fits : (inodes : ℕ) (blocks : List Octets) (name piece : Octets) (after : ℕ) → HasRoom inodes blocks → IsFileSystem inodes blocks
     → HasPiece (table inodes blocks) name after piece → length piece ≤ largest_file

@@ -1,6 +1,6 @@
 -- The numbers and the overviews of a spool's groups, among its files.
-use Rattle.std.proofs.Common.{◌≡◌, ℕ, zero, suc, Bool, true, false, cond, List, ◌∷◌, [], get_or, refl, sym, ◌∙◌, ap, subst, arith, Option}
-use Rattle.std.proofs.Common.{Some}
+use Rattle.std.proofs.Common.{◌≡◌, ◌≢◌, ℕ, zero, suc, Bool, true, false, cond, List, ◌∷◌, [], get_or, refl, sym, ◌∙◌, ap}
+use Rattle.std.proofs.Common.{subst, arith, Option, Some}
 use Rattle.std.specs.Prelude.{filter_map, find, bytes_eq, is_some}
 use Rattle.std.specs.List.{Contains}
 use Rattle.std.proofs.lemmas.Bool.{true≢false}
@@ -10,6 +10,7 @@ use Rattle.model.specs.Files.{File}
 use Rattle.model.specs.Spool.{Spool, SpoolEntry, entries_from, entries, NewsGroup, group_made, group_named, groups, is_here, is_name}
 use Rattle.model.specs.Spool.{news_group}
 use Rattle.model.specs.FileKinds.{is_of_change}
+use Rattle.model.specs.Packs.{IsMember, pack_name}
 use Rattle.model.specs.SpoolFiles.{change_file, entry_files, files_of, index_files, numbers_name, numbers_file, overview_name}
 use Rattle.model.specs.SpoolFiles.{overview_file}
 use Rattle.model.specs.declared.change.Change.{Change}
@@ -190,3 +191,14 @@ named_for S f has not =
     by_place : (e : SpoolEntry) → Contains (entry_files S e) f → (w : Which) × ((g : Octets) × (f.name ≡ name_for w g))
     by_place e (zero, low, is) = absurd (true≢false (sym (of_change e.serial e.change) ∙ ap is_of_change is ∙ not))
     by_place e (suc k, low, is) = index_named S e.change f (k, omega arith, is)
+
+-- ---- and not the pack's
+
+-- numbers and overviews may not be packed
+pub not_member : (w : Which) (g content : Octets) → ¬ (IsMember (record { name = name_for w g; content = content }))
+not_member Numbers g content is = true≢false (sym is.kind)
+not_member Overview g content is = true≢false (sym is.kind)
+
+pub not_pack : (w : Which) (g : Octets) → name_for w g ≢ pack_name
+not_pack Numbers g is = absurd (let octets : 110 ≡ 112 = ap (λ (o : Octets). get_or o 0 0) is in omega arith)
+not_pack Overview g is = absurd (let octets : 111 ≡ 112 = ap (λ (o : Octets). get_or o 0 0) is in omega arith)

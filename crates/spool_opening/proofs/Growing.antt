@@ -2,7 +2,7 @@
 use Rattle.std.proofs.Common.{◌≡◌, ℕ, zero, suc, ◌+◌, Bool, true, false, cond, List, [], ◌∷◌, ◌++◌, length, take, refl, sym, ◌∙◌, ap, subst}
 use Rattle.std.proofs.Common.{arith, Option, Some, None}
 use Rattle.std.specs.Prelude.{slice_get, find, filter_map, bytes_eq, is_some}
-use Rattle.std.specs.List.{Contains, list_any}
+use Rattle.std.specs.List.{list_any}
 use Rattle.std.specs.Option.{option_or}
 use Rattle.std.proofs.lemmas.Bool.{true≢false}
 use Rattle.std.proofs.lemmas.List.{append-nil}
@@ -14,6 +14,7 @@ use Rattle.model.specs.Files.{IsFileSystem, files_in, table}
 use Rattle.model.specs.Lawful.{IsLawful, MayFollow}
 use Rattle.model.specs.Spool.{Spool, NewsGroup, entries, group_made, group_named, groups, is_here, is_name, news_group}
 use Rattle.model.specs.FileKinds.{HasRoomInFile}
+use Rattle.model.specs.Packs.{IsStored}
 use Rattle.model.specs.SpoolFiles.{change_file, numbers_of, overview_of}
 use Rattle.model.specs.declared.change.Change.{Change}
 use Rattle.model.specs.declared.change.Change.TheVariants.{Group, Article, Expire}
@@ -70,12 +71,12 @@ nothing host R name lawful new Overview = ap overview_of (new_has_nothing host R
 
 module _ (host : Octets) (inodes : ℕ) (blocks : List Octets) (R : Spool) (read : AreRead host inodes blocks R) where
   pub expiry_is_read : (e : Expiry) → let c = Expire e in MayFollow host R c → HasRoomInFile (length R + 1) c
-      → Contains (files_in (table inodes blocks)) (change_file (record { serial = length R + 1; change = c }))
+      → IsStored (files_in (table inodes blocks)) (change_file (record { serial = length R + 1; change = c }))
       → AreRead host inodes blocks (R ++ c ∷ [])
   expiry_is_read e may room there = record {
     lawful = lawful_more host [] R (Expire e) read.lawful may;
     changes = changes_more (λ n c. HasRoomInFile (n + 1) c
-        × Contains (files_in (table inodes blocks)) (change_file (record { serial = n + 1; change = c }))) R
+        × IsStored (files_in (table inodes blocks)) (change_file (record { serial = n + 1; change = c }))) R
         (Expire e) read.changes (room, there);
     fronts = λ w g here. named_same inodes blocks w g _ _ (other_grows w R (Expire e) g refl)
         (read.fronts w g (here_before R (Expire e) g refl here));
@@ -83,14 +84,14 @@ module _ (host : Octets) (inodes : ℕ) (blocks : List Octets) (R : Spool) (read
 
   pub article_is_read : (f : Filing) → let c = Article f in IsFileSystem inodes blocks
       → MayFollow host R c → HasRoomInFile (length R + 1) c
-      → Contains (files_in (table inodes blocks)) (change_file (record { serial = length R + 1; change = c }))
+      → IsStored (files_in (table inodes blocks)) (change_file (record { serial = length R + 1; change = c }))
       → ((w : Which) (g : Octets) → list_any (is_name g) f.envelope.groups ≡ true
       → HasPiece (table inodes blocks) (name_for w g) (length (file_for w R g)) (piece_for w R f.text g))
       → AreRead host inodes blocks (R ++ c ∷ [])
   article_is_read f rule may room there pieces = record {
     lawful = lawful_more host [] R (Article f) read.lawful may;
     changes = changes_more (λ n c. HasRoomInFile (n + 1) c
-        × Contains (files_in (table inodes blocks)) (change_file (record { serial = n + 1; change = c }))) R
+        × IsStored (files_in (table inodes blocks)) (change_file (record { serial = n + 1; change = c }))) R
         (Article f) read.changes (room, there);
     fronts = λ w g here. by_test w g (read.fronts w g (here_before R (Article f) g refl here))
         (list_any (is_name g) f.envelope.groups) refl;
@@ -107,13 +108,13 @@ module _ (host : Octets) (inodes : ℕ) (blocks : List Octets) (R : Spool) (read
 
   pub group_is_read : (created : NewGroup) → let c = Group created in
       MayFollow host R c → HasRoomInFile (length R + 1) c
-      → Contains (files_in (table inodes blocks)) (change_file (record { serial = length R + 1; change = c }))
+      → IsStored (files_in (table inodes blocks)) (change_file (record { serial = length R + 1; change = c }))
       → ((w : Which) → (k : ℕ) × ((content : Octets) × IsFileAt (table inodes blocks) k (name_for w created.name) content))
       → AreRead host inodes blocks (R ++ c ∷ [])
   group_is_read created may room there files = record {
     lawful = lawful_more host [] R (Group created) read.lawful may;
     changes = changes_more (λ n c. HasRoomInFile (n + 1) c
-        × Contains (files_in (table inodes blocks)) (change_file (record { serial = n + 1; change = c }))) R
+        × IsStored (files_in (table inodes blocks)) (change_file (record { serial = n + 1; change = c }))) R
         (Group created) read.changes (room, there);
     fronts = λ w g here. by_test w g (bytes_eq created.name g) refl here;
   } where

@@ -1,31 +1,35 @@
 -- The next change of a spool that the blocks hold.
-use Rattle.std.proofs.Common.{◌≡◌, ◌≢◌, ◌<◌, ◌≤◌, ℕ, zero, suc, ◌+◌, Bool, true, false, cond, List, [], ◌∷◌, ◌++◌, length, get_or, drop}
+use Rattle.std.proofs.Common.{◌≡◌, ◌<◌, ◌≤◌, ℕ, zero, suc, ◌+◌, Bool, true, false, cond, List, [], ◌∷◌, ◌++◌, length, get_or, drop}
 use Rattle.std.proofs.Common.{refl, sym, ◌∙◌, ap, subst, arith, Option, Some, None, length-append}
 use Rattle.std.specs.Prelude.{find, filter_map, is_some, ◌||◌}
 use Rattle.std.specs.List.{list_any}
 use Rattle.std.specs.Option.{option_or}
+use Rattle.std.proofs.lemmas.Bool.{true≢false}
 use Rattle.std.proofs.lemmas.List.{take-append-drop}
 use Rattle.model.specs.Stream.{Octets}
-use Rattle.model.specs.Files.{File, table}
-use Rattle.model.specs.Indexed.{FilePlaces, value_of}
+use Rattle.model.specs.Files.{File, files_in, most_inodes, table}
+use Rattle.model.specs.Indexed.{FilePlaces, IsAt, value_of}
 use Rattle.model.specs.Layout.{Holds}
 use Rattle.model.specs.Spool.{Spool, NewsGroup, group_made, is_here, is_name, news_group}
 use Rattle.model.specs.FileKinds.{is_of_change}
+use Rattle.model.specs.Packs.{IsMember, IsStored, most_changes}
 use Rattle.model.specs.SpoolFiles.{change_file}
 use Rattle.model.specs.declared.change.Change.{Change}
-use Rattle.model.specs.declared.change.Change.TheVariants.{Group, Article}
+use Rattle.model.specs.declared.change.Change.TheVariants.{Group, Article, Expire}
 use Rattle.model.specs.declared.change.Filing.{Filing}
 use Rattle.model.specs.declared.change.NewGroup.{NewGroup}
 use Rattle.model.proofs.HoldsOne.{same_change}
 use Rattle.model.proofs.Joined.{bytes_same}
 use Rattle.model.proofs.Growing.{here_stays}
-use Rattle.fs_layout.proofs.Tables.{length-table}
-use Rattle.index.specs.View.{IndexView}
+use Rattle.spool_index.specs.View.{IndexView}
+use Rattle.spool_index.specs.Viewed.{place_of}
+use Rattle.spool_index.specs.declared.places.ChangePlace.{ChangePlace}
+use Rattle.spool_index.specs.declared.places.ChangePlace.TheVariants.{Alone, Packed}
 use Rattle.spool_reading.specs.StoredChanges.{IsFileOf}
-use Rattle.spool_reading.specs.Sorted.{AreSorted, free}
+use Rattle.spool_reading.specs.Sorted.{AreSorted}
 use Rattle.spool_reading.proofs.Saying.{may_in_time}
 use Rattle.spool_reading.proofs.Slots.{its_slot}
-use Rattle.spool_opening.specs.Replayed.{AllGoOn, AreReplayedTo, IsReplayed}
+use Rattle.spool_opening.specs.Replayed.{AllGoOn, AreReplayedTo, IsItsFile, IsReplayed, MayStandAt}
 use Rattle.spool_opening.specs.Stored.{AreRead, IsFileAt, IsNext, Numbers, Overview, Which, name_for}
 use Rattle.spool_opening.proofs.Filed.{filed_here}
 use Rattle.spool_opening.proofs.Fronts.{is_front, its_file, next_is, next_there, piece_stands}
@@ -40,23 +44,32 @@ pub record IsNextFile (host : Octets) (R S : Spool) (name content : Octets) : Ty
   pub next : IsNext host R S change
   pub is : IsFileOf (length R + 1) change name content
 
-pub next_file : (host : Octets) (inodes : ℕ) (blocks : List Octets) (R S : Spool) (slots : List ℕ) (named : List (Octets × ℕ)) (at : ℕ)
-    (name content : Octets) → inodes ≤ 4194304 → Holds host inodes blocks S → AreRead host inodes blocks R
-    → AreSorted (table inodes blocks) (length (table inodes blocks)) slots named → length R < length S → at ≡ get_or slots (length R) 0
-    → get_or (table inodes blocks) at None ≡ Some (record { name = name; content = content }) → IsNextFile host R S name content
-next_file host inodes blocks R S slots named at name content few held read sorted low place there =
+-- what is read of a place that has one file
+abbrev pub IsReadAt : List (Option File) → ChangePlace → Octets → Octets → Type 0
+IsReadAt inodes at name content = (f : File) → IsAt inodes (place_of at) f → f ≡ record { name = name; content = content }
+
+pub next_file : (host : Octets) (inodes : ℕ) (blocks : List Octets) (R S : Spool) (slots : List (Option ChangePlace))
+    (named : List (Octets × ℕ)) (packed : ℕ) (at : ChangePlace) (name content : Octets) → inodes ≤ most_inodes → Holds host inodes blocks S
+    → AreRead host inodes blocks R → AreSorted (table inodes blocks) slots named packed → length R < length S
+    → get_or slots (length R) None ≡ Some at → IsReadAt (table inodes blocks) at name content → IsNextFile host R S name content
+next_file host inodes blocks R S slots named packed at name content few held read sorted low taken is_read =
     let front = is_front host inodes blocks S R few held read in
     let next = next_is host inodes blocks R S few held front low in
-    let slot = its_slot host inodes blocks S (length R) next.change slots named few held sorted
+    let slot = its_slot host inodes blocks S (length R) next.change slots named packed few held sorted
     (next_there host inodes blocks R S few held front low) in
-    let same : Some (change_file (record { serial = length R + 1; change = next.change }))
-    ≡ Some (record { name = name; content = content }) = sym slot ∙ ap (λ (k : ℕ). get_or (table inodes blocks) k None) (sym place)
-    ∙ there in
-    let file : change_file (record { serial = length R + 1; change = next.change }) ≡ record { name = name; content = content } = cc in
+    let places : Some slot.0 ≡ Some at = sym slot.1 ∙ taken in
+    let one : slot.0 ≡ at = cc in
+    let there : IsAt (table inodes blocks) (place_of at) (change_file (record { serial = length R + 1; change = next.change })) =
+    subst (λ (p : ChangePlace). IsAt (table inodes blocks) (place_of p)
+    (change_file (record { serial = length R + 1; change = next.change }))) one slot.2 in
     record {
       change = next.change;
       next = record { may = next.may; front = next.front };
-      is = record { room = next.room; in_time = may_in_time host R next.change next.may; file = file };
+      is = record {
+        room = next.room;
+        in_time = may_in_time host R next.change next.may;
+        file = is_read (change_file (record { serial = length R + 1; change = next.change })) there;
+      };
     }
 
 -- what was read from it is that change
@@ -87,14 +100,14 @@ group_here host R S created next =
     ∙ ap (λ (b : Bool). is_some (cond b (Some its) None)) (bytes_same name) in
     ap (λ (T : Spool). is_here T name) (sym whole) ∙ here_stays (R ++ c ∷ []) (drop (length R + 1) S) name here
 
-pub group_named_there : (host : Octets) (inodes : ℕ) (blocks : List Octets) (R S : Spool) (slots : List ℕ) (named : List (Octets × ℕ))
-    (w : Which) (created : NewGroup) (file : Octets)
-    → AreSorted (table inodes blocks) (length (table inodes blocks)) slots named
+pub group_named_there : (host : Octets) (inodes : ℕ) (blocks : List Octets) (R S : Spool) (slots : List (Option ChangePlace))
+    (named : List (Octets × ℕ)) (packed : ℕ) (w : Which) (created : NewGroup) (file : Octets)
+    → AreSorted (table inodes blocks) slots named packed
     → Holds host inodes blocks S → IsNext host R S (Group created) → file ≡ name_for w created.name
     → None ≡ value_of named file → ⊥
-group_named_there host inodes blocks R S slots named w created file sorted held next is none =
+group_named_there host inodes blocks R S slots named packed w created file sorted held next is none =
     let its = its_file host inodes blocks S w created.name held (group_here host R S created next) in
-    no_piece (table inodes blocks) slots named (name_for w created.name) [] 0 sorted (λ content. other w created.name content)
+    no_piece (table inodes blocks) slots named packed (name_for w created.name) [] 0 sorted (λ content. other w created.name content)
     (ap (value_of named) (sym is) ∙ sym none) (record { place = its.0; content = _; there = its.1; piece_is = refl })
 
 -- ---- an article
@@ -122,24 +135,44 @@ one_replayed host inodes blocks x p R c count is replayed =
 
 -- ---- what the code has
 
--- the inode of a slot that is taken
-pub taken_below : (inodes : ℕ) (blocks : List Octets) (slots : List ℕ) (named : List (Octets × ℕ)) (n at : ℕ)
-    → AreSorted (table inodes blocks) (length (table inodes blocks)) slots named → n < length slots → get_or slots n 0 ≢ free
-    → at ≡ get_or slots n 0 → at < inodes
-taken_below inodes blocks slots named n at sorted low taken is =
-    omega (arith, (sorted.taken n low taken).below, is, length-table inodes blocks)
+-- a place that a slot has
+pub taken_there : (inodes : List (Option File)) (slots : List (Option ChangePlace)) (named : List (Octets × ℕ)) (packed n : ℕ)
+    (at : ChangePlace) → AreSorted inodes slots named packed → get_or slots n None ≡ Some at
+    → (f : File) × IsAt inodes (place_of at) f
+taken_there inodes slots named packed n at sorted taken = let its = sorted.taken n at taken in (its.file, its.there)
 
--- the file that stands there
-pub taken_there : (inodes : ℕ) (blocks : List Octets) (slots : List ℕ) (named : List (Octets × ℕ)) (n at : ℕ)
-    → AreSorted (table inodes blocks) (length (table inodes blocks)) slots named → n < length slots → get_or slots n 0 ≢ free
-    → at ≡ get_or slots n 0
-    → (f : File) × (get_or (table inodes blocks) at None ≡ Some f)
-taken_there inodes blocks slots named n at sorted low taken is = let its = sorted.taken n low taken in
-    (its.file, ap (λ (k : ℕ). get_or (table inodes blocks) k None) is ∙ its.there)
+-- the file that was read there
+pub its_file_at : (inodes : ℕ) (blocks : List Octets) (slots : List (Option ChangePlace)) (named : List (Octets × ℕ)) (packed n serial : ℕ)
+    (at : ChangePlace) (c : Change) (name content : Octets) → AreSorted (table inodes blocks) slots named packed
+    → get_or slots n None ≡ Some at → IsReadAt (table inodes blocks) at name content → IsFileOf serial c name content
+    → IsItsFile inodes blocks at serial c
+its_file_at inodes blocks slots named packed n serial at c name content sorted taken is_read is =
+    let its = sorted.taken n at taken in
+    let same = is_read its.file its.there in
+    record {
+      name = name;
+      content = content;
+      is = is;
+      stored = subst (IsStored (files_in (table inodes blocks))) same its.stored;
+      there = subst (IsAt (table inodes blocks) (place_of at)) same its.there;
+    }
 
-pub slots_few : (inodes : ℕ) (blocks : List Octets) (slots : List ℕ) (named : List (Octets × ℕ)) (n m : ℕ) → inodes ≤ 4194304
-    → AreSorted (table inodes blocks) (length (table inodes blocks)) slots named → m ≡ n → n < length slots → m < 4194304
-slots_few inodes blocks slots named n m few sorted is low = omega (arith, sorted.slot_count, length-table inodes blocks)
+-- a file in the pack is that of an article or of an expiry
+pub may_stand : (inodes : List (Option File)) (slots : List (Option ChangePlace)) (named : List (Octets × ℕ)) (packed n serial : ℕ)
+    (at : ChangePlace) (c : Change) (name content : Octets) → AreSorted inodes slots named packed → get_or slots n None ≡ Some at
+    → IsReadAt inodes at name content → IsFileOf serial c name content → MayStandAt at c
+may_stand inodes slots named packed n serial (Alone inode) c name content sorted taken is_read is = tt
+may_stand inodes slots named packed n serial (Packed inode from size) (Article f) name content sorted taken is_read is = tt
+may_stand inodes slots named packed n serial (Packed inode from size) (Expire e) name content sorted taken is_read is = tt
+may_stand inodes slots named packed n serial (Packed inode from size) (Group g) name content sorted taken is_read is =
+    let its = sorted.taken n (Packed inode from size) taken in
+    let same : its.file ≡ change_file (record { serial = serial; change = Group g }) = is_read its.file its.there ∙ sym is.file in
+    let member : IsMember (change_file (record { serial = serial; change = Group g })) = subst IsMember same its.may in
+    true≢false (sym member.kind)
+
+pub slots_few : (inodes : List (Option File)) (slots : List (Option ChangePlace)) (named : List (Octets × ℕ)) (packed n m : ℕ)
+    → AreSorted inodes slots named packed → m ≡ n → n < length slots → m < most_changes
+slots_few inodes slots named packed n m sorted is low = omega (arith, sorted.few)
 
 -- the octets that were read are those of a file
 pub same_file : (n m : ℕ) (c : Change) (name name' content content' : Octets) → n ≡ m → name ≡ name' → content ≡ content'

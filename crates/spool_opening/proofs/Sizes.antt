@@ -1,21 +1,21 @@
 -- The lines of an article in its groups, one after the other.
-use Rattle.std.proofs.Common.{◌≡◌, ◌<◌, ◌≤◌, ℕ, zero, suc, ◌+◌, ◌^◌, true, List, [], ◌∷◌, ◌++◌, length, get_or, refl, sym, ◌∙◌, ap, subst}
-use Rattle.std.proofs.Common.{arith, Option, Some, None, inl, inr, length-append}
+use Rattle.std.proofs.Common.{◌≡◌, ◌<◌, ◌≤◌, ℕ, ◌+◌, ◌^◌, true, List, length, refl, sym, ◌∙◌, ap, subst}
+use Rattle.std.proofs.Common.{arith, Option, Some, None, inl, inr}
 use Rattle.std.specs.Prelude.{option_map, is_some}
 use Rattle.std.proofs.lemmas.Bool.{cases_lt}
-use Rattle.std.proofs.lemmas.List.{get_or_read}
 use Rattle.model.specs.Stream.{Octets}
 use Rattle.model.specs.Article.{overview_line}
 use Rattle.model.specs.Files.{File}
 use Rattle.model.specs.Indexed.{GroupIndex, group_index}
 use Rattle.model.specs.Spool.{Spool, NewsGroup, filed_in, group_named, is_here}
 use Rattle.model.specs.FileCalls.{next_line}
+use Rattle.model.specs.Packs.{most_changes}
 use Rattle.model.specs.SpoolFiles.{overview_file}
 use Rattle.model.proofs.HoldsOne.{high_few}
-use Rattle.index_groups.specs.Filing.{end_of}
-use Rattle.index.specs.View.{IndexView}
-use Rattle.index.proofs.LookUps.{group_is}
-use Rattle.index.proofs.Growing.{overview_size}
+use Rattle.spool_groups.specs.Filing.{end_of}
+use Rattle.spool_index.specs.View.{IndexView}
+use Rattle.spool_index.proofs.LookUps.{group_is}
+use Rattle.spool_index.proofs.Growing.{overview_size}
 use Rattle.spool_opening.specs.Replayed.{IsBounded}
 use Rattle.spool_opening.specs.Stored.{HasPiece, Which, file_for, name_for, piece_for}
 use Rattle.spool_opening.specs.Going.{GoesOn}
@@ -33,7 +33,7 @@ here_is S name i is = sym (mapped (group_index S) (group_named S name)) ∙ ap (
 -- ---- the bounds that the index keeps
 
 pub few_filed : (x : IndexView) (name : Octets) (i : GroupIndex) → (bounds : IsBounded x)
-    → Some i ≡ option_map (group_index bounds.changes) (group_named bounds.changes name) → length i.filed ≤ 4194304
+    → Some i ≡ option_map (group_index bounds.changes) (group_named bounds.changes name) → length i.filed ≤ most_changes
 few_filed x name i bounds is =
     let its = group_is bounds.changes name i is in
     omega (

@@ -1,35 +1,34 @@
 -- All changes, and the files beside theirs.
-use Rattle.std.proofs.Common.{◌≡◌, ◌≤◌, ℕ, suc, ◌+◌, ◌*◌, Bool, true, false, List, [], ◌∷◌, ◌++◌, length, get_or, refl, sym, ◌∙◌, ap, subst}
-use Rattle.std.proofs.Common.{arith, Option, Some, None}
-use Rattle.std.specs.Prelude.{◌↔◌, MatchOption, filter_map, nat_eq, option_map}
+use Rattle.std.proofs.Common.{◌≡◌, ◌≢◌, ◌≤◌, ℕ, ◌+◌, ◌*◌, Bool, true, false, List, [], ◌∷◌, ◌++◌, length, get_or, refl, sym, ◌∙◌, ap, subst}
+use Rattle.std.proofs.Common.{arith, min, Option, Some, None}
+use Rattle.std.specs.Prelude.{◌↔◌, MatchOption, nat_eq, option_map}
 use Rattle.std.proofs.lemmas.Bool.{eq-eqb, eqb-true, true≢false}
 use Rattle.std.proofs.lemmas.List.{take_all}
 use Rattle.model.specs.Stream.{Octets}
-use Rattle.model.specs.Files.{File, HasRoom, IsFileSystem, files_in, free_inodes, table}
+use Rattle.model.specs.Files.{File, most_inodes, table}
 use Rattle.model.specs.Indexed.{FilePlaces, GroupIndex, group_index}
 use Rattle.model.specs.Layout.{Holds}
-use Rattle.model.specs.Spool.{Spool, entries, entries_from, group_made, group_named, groups, is_here}
+use Rattle.model.specs.Spool.{Spool, entries, group_named, groups, is_here}
 use Rattle.model.specs.FileKinds.{is_of_change}
+use Rattle.model.specs.Packs.{pack_name}
 use Rattle.model.specs.SpoolFiles.{numbers_file, numbers_name, overview_file, overview_name}
-use Rattle.model.specs.declared.change.Change.TheVariants.{Group, Article, Expire}
-use Rattle.model.proofs.Counting.{free_is_beside}
-use Rattle.model.proofs.HoldsOne.{there_few}
 use Rattle.model.proofs.Indexing.{numbers_size}
-use Rattle.fs_layout.proofs.Tables.{length-table}
-use Rattle.index_groups.specs.Filing.{end_of}
-use Rattle.index.specs.View.{IndexView, Indexes}
-use Rattle.index.proofs.LookUps.{group_is}
-use Rattle.index.proofs.Growing.{overview_size}
-use Rattle.places.specs.Places.{AreNamed}
-use Rattle.records.specs.Kinds.{front_of}
-use Rattle.records.specs.declared.names.FileKind.{FileKind}
-use Rattle.records.specs.declared.names.FileKind.TheVariants as kind
+use Rattle.spool_groups.specs.Filing.{end_of}
+use Rattle.spool_index.specs.View.{IndexView, Indexes}
+use Rattle.spool_index.proofs.LookUps.{group_is}
+use Rattle.spool_index.proofs.Growing.{overview_size}
+use Rattle.spool_index.specs.Places.{AreNamed}
+use Rattle.spool_records.specs.Kinds.{front_of}
+use Rattle.spool_records.specs.declared.names.FileKind.{FileKind}
+use Rattle.spool_records.specs.declared.names.FileKind.TheVariants as kind
+use Rattle.spool_index.specs.declared.places.ChangePlace.{ChangePlace}
 use Rattle.spool_reading.specs.Sorted.{AreFirst, AreSorted}
 use Rattle.spool_reading.proofs.Groups.{high_is}
 use Rattle.spool_reading.proofs.Slots.{first_once, slots_as_many}
 use Rattle.spool_opening.specs.Ended.{IsNameOf, IsWholeAt}
+use Rattle.spool_opening.specs.Laws.{AllIsRead}
 use Rattle.spool_opening.specs.Replayed.{AreReplayedTo}
-use Rattle.spool_opening.specs.Stored.{AreRead, Numbers, Overview, Which, file_for, name_for}
+use Rattle.spool_opening.specs.Stored.{Numbers, Overview, Which, file_for, name_for}
 use Rattle.spool_opening.proofs.Fronts.{is_front}
 use Rattle.spool_opening.proofs.Growing.{none_is_read}
 use Rattle.spool_opening.proofs.Sizes.{here_is}
@@ -44,25 +43,22 @@ none_replayed host inodes blocks x p is none = record {
   replayed = record {
     read = none_is_read host inodes blocks;
     indexed = is;
-    placed = subst (AreNamed (table inodes blocks) []) (sym none) (record { changes_are = refl; numbers_are = refl; overviews_are = refl });
+    placed = subst (AreNamed (table inodes blocks) []) (sym none) (record { changes_are = tt; numbers_are = refl; overviews_are = refl });
   };
   count_is = refl;
 }
 
 -- a spool that the blocks hold has as many
-pub as_many : (host : Octets) (inodes : ℕ) (blocks : List Octets) (S : Spool) (slots : List ℕ) (named : List (Octets × ℕ)) (count : ℕ)
-    → inodes ≤ 4194304 → Holds host inodes blocks S → AreSorted (table inodes blocks) (length (table inodes blocks)) slots named
-    → AreFirst count slots → length S ≡ count
-as_many host inodes blocks S slots named count few held sorted first =
-    first_once (length S) count slots (slots_as_many host inodes blocks S slots named few held sorted) first
+pub as_many : (host : Octets) (inodes : ℕ) (blocks : List Octets) (S : Spool) (slots : List (Option ChangePlace))
+    (named : List (Octets × ℕ)) (packed count : ℕ) → inodes ≤ most_inodes → Holds host inodes blocks S
+    → AreSorted (table inodes blocks) slots named packed → AreFirst count slots → length S ≡ count
+as_many host inodes blocks S slots named packed count few held sorted first =
+    first_once (length S) count slots (slots_as_many host inodes blocks S slots named packed few held sorted) first
 
 -- so it is these
-pub read_all : (host : Octets) (inodes : ℕ) (blocks : List Octets) (R S : Spool) (slots : List ℕ) (named : List (Octets × ℕ))
-    → inodes ≤ 4194304 → Holds host inodes blocks S → AreRead host inodes blocks R
-    → AreSorted (table inodes blocks) (length (table inodes blocks)) slots named
-    → AreFirst (length R) slots → S ≡ R
-read_all host inodes blocks R S slots named few held read sorted first =
-    let count = as_many host inodes blocks S slots named (length R) few held sorted first in
+pub read_all : AllIsRead
+read_all host inodes blocks R S slots named packed few held read sorted first =
+    let count = as_many host inodes blocks S slots named packed (length R) few held sorted first in
     sym (is_front host inodes blocks S R few held read ∙ take_all (length R) S (omega (arith, count)))
 
 -- ---- sizes by the index
@@ -135,42 +131,44 @@ one_size S name n m one two = by_which one.which two.which one.is two.is one.siz
 -- ---- one file
 
 pub whole_none : (inodes : List (Option File)) (S : Spool) (at : ℕ) → get_or inodes at None ≡ None → IsWholeAt inodes S at
-whole_none inodes S at none f there not = absurd (cc)
+whole_none inodes S at none f there not other = absurd (cc)
 
 pub whole_change : (inodes : List (Option File)) (S : Spool) (at : ℕ) (f : File) → get_or inodes at None ≡ Some f → is_of_change f ≡ true
     → IsWholeAt inodes S at
-whole_change inodes S at f there of g there' not = absurd (let same : Some f ≡ Some g = sym there ∙ there' in let one : f ≡ g = cc in
+whole_change inodes S at f there of g there' not other =
+    absurd (let same : Some f ≡ Some g = sym there ∙ there' in let one : f ≡ g = cc in
     true≢false (sym of ∙ ap is_of_change one ∙ not))
+
+pub whole_pack : (inodes : List (Option File)) (S : Spool) (at : ℕ) (f : File) → get_or inodes at None ≡ Some f → f.name ≡ pack_name
+    → IsWholeAt inodes S at
+whole_pack inodes S at f there is g there' not other =
+    absurd (let same : Some f ≡ Some g = sym there ∙ there' in let one : f ≡ g = cc in other (ap (λ (h : File). h.name) (sym one) ∙ is))
 
 pub whole_named : (inodes : List (Option File)) (S : Spool) (at : ℕ) (f : File) (name : Octets) (n size : ℕ)
     → get_or inodes at None ≡ Some f → f.name ≡ name → size ≡ length f.content → IsNameOf S name n → size ≡ n → IsWholeAt inodes S at
-whole_named inodes S at f name n size there named long is same g there' not =
+whole_named inodes S at f name n size there named long is same g there' not other =
     let files : Some f ≡ Some g = sym there ∙ there' in
     let one : f ≡ g = cc in
     subst (λ (h : File). IsNameOf S h.name (length h.content)) one
     (subst (λ (p : Octets × ℕ). IsNameOf S p.0 p.1) (λ i. (sym named i, (sym same ∙ long) i)) is)
 
 pub named_whole : (inodes : List (Option File)) (S : Spool) (at : ℕ) (f : File) (name : Octets) → get_or inodes at None ≡ Some f
-    → f.name ≡ name → is_of_change f ≡ false → IsWholeAt inodes S at → IsNameOf S name (length f.content)
-named_whole inodes S at f name there named not whole = subst (λ (o : Octets). IsNameOf S o (length f.content)) named (whole f there not)
+    → f.name ≡ name → is_of_change f ≡ false → name ≢ pack_name → IsWholeAt inodes S at → IsNameOf S name (length f.content)
+named_whole inodes S at f name there named not other whole =
+    subst (λ (o : Octets). IsNameOf S o (length f.content)) named (whole f there not (λ is. other (sym named ∙ is)))
 
 -- ---- how many
-
-pub used_and_free : (inodes : ℕ) (blocks : List Octets) → HasRoom inodes blocks → IsFileSystem inodes blocks
-    → free_inodes inodes blocks + length (files_in (table inodes blocks)) ≡ inodes
-used_and_free inodes blocks room rule =
-    let beside = (free_is_beside inodes blocks (files_in (table inodes blocks)) room (record { rule = rule; contents = refl })).inodes_are
-    in
-    omega (arith, beside, there_few (table inodes blocks), length-table inodes blocks)
 
 pub change_by_name : (f : File) (name : Octets) (b : Bool) → f.name ≡ name
     → ((content : Octets) → is_of_change (record { name = name; content = content }) ≡ b) → is_of_change f ≡ b
 change_by_name f name b named is = ap (λ (o : Octets). is_of_change (record { name = o; content = f.content })) named ∙ is f.content
 
 -- as many are used as the changes have files
-pub count_used : (free count group_count inodes files changes made : ℕ) → free + files ≡ inodes → count ≡ changes → group_count ≡ made
-    → (nat_eq (free + count + 2 * group_count) inodes ≡ true) ↔ (files ≡ changes + 2 * made)
-count_used free count group_count inodes files changes made used count_is groups_are = (
-  λ yes. omega (arith, used, count_is, groups_are, eqb-true (free + count + 2 * group_count) inodes yes),
-  λ same. eq-eqb (free + count + 2 * group_count) inodes (omega (arith, used, count_is, groups_are, same)),
+pub count_used : (free pack count group_count inodes packed files changes made : ℕ) → free + files ≡ inodes → pack ≡ min packed 1
+    → count ≡ changes → group_count ≡ made
+    → (nat_eq (free + pack + count + 2 * group_count) (inodes + packed) ≡ true)
+    ↔ (files + packed ≡ min packed 1 + (changes + 2 * made))
+count_used free pack count group_count inodes packed files changes made used pack_is count_is groups_are = (
+  λ yes. omega (arith, used, pack_is, count_is, groups_are, eqb-true (free + pack + count + 2 * group_count) (inodes + packed) yes),
+  λ same. eq-eqb (free + pack + count + 2 * group_count) (inodes + packed) (omega (arith, used, pack_is, count_is, groups_are, same)),
 )

@@ -5,7 +5,7 @@ use Rattle.model.specs.Article.{overview_line}
 use Rattle.model.specs.Files.{File}
 use Rattle.model.specs.Indexed.{GroupIndex}
 use Rattle.model.specs.SpoolFiles.{number_record, numbers_name, overview_name}
-use Rattle.index_groups.specs.Filing.{end_of}
+use Rattle.spool_groups.specs.Filing.{end_of}
 use Rattle.spool_opening.specs.Stored.{HasPiece}
 
 -- the numbers and the overview of a group continue with this article

@@ -1,12 +1,12 @@
 -- What was found of a spool in the files of blocks.
 use Rattle.std.specs.Prelude.{◌≡◌, Option, ℕ, ◌+◌, take, drop, length, slice_get, List, [], ◌∷◌, ◌++◌, Some, IsTrue}
-use Rattle.std.specs.List.{Contains}
 use Rattle.model.specs.Stream.{Octets}
 use Rattle.model.specs.Files.{File, files_in, table}
 use Rattle.model.specs.Lawful.{IsLawful, MayFollow}
 use Rattle.model.specs.Spool.{Spool, first, is_here}
 use Rattle.model.specs.FileCalls.{next_line, next_record}
 use Rattle.model.specs.FileKinds.{HasRoomInFile}
+use Rattle.model.specs.Packs.{IsStored}
 use Rattle.model.specs.SpoolFiles.{change_file, numbers_file, numbers_name, overview_file}
 use Rattle.model.specs.SpoolFiles.{overview_name}
 use Rattle.model.specs.declared.change.Change.{Change}
@@ -47,12 +47,12 @@ pub record HasPiece (inodes : List (Option File)) (name : Octets) (after : ℕ) 
 
 -- ---- the changes
 
--- these changes are lawful, each has its file in the blocks, and the numbers and the overview of each group begin as
--- these changes say
+-- these changes are lawful, each has its file in the blocks, by itself or in the pack, and the numbers and the overview of each group begin
+-- as these changes say
 pub record AreRead (host : Octets) (inodes : ℕ) (blocks : List Octets) (R : Spool) : Type 0 where
   pub lawful : IsLawful host R
   pub changes : (n : ℕ) (c : Change) → slice_get R n ≡ Some c
-      → HasRoomInFile (n + 1) c × Contains (files_in (table inodes blocks)) (change_file (record { serial = n + 1; change = c }))
+      → HasRoomInFile (n + 1) c × IsStored (files_in (table inodes blocks)) (change_file (record { serial = n + 1; change = c }))
   pub fronts : (w : Which) (g : Octets) → IsTrue (is_here R g) → HasFront (table inodes blocks) (name_for w g) (file_for w R g)
 
 -- the next change of a spool that begins with these
@@ -60,7 +60,7 @@ pub record NextIs (host : Octets) (inodes : ℕ) (blocks : List Octets) (R S : S
   pub change : Change
   pub may : MayFollow host R change
   pub room : HasRoomInFile (length R + 1) change
-  pub there : Contains (files_in (table inodes blocks)) (change_file (record { serial = length R + 1; change = change }))
+  pub there : IsStored (files_in (table inodes blocks)) (change_file (record { serial = length R + 1; change = change }))
   pub front : R ++ change ∷ [] ≡ first S (length R + 1)
 
 -- this is the next change of a spool that begins with these

@@ -1,6 +1,6 @@
 //! Replays all changes of a spool.
 
-ghost use Rattle.std.specs.Prelude.{◌≡◌, length, IfErr, IfOk};
+ghost use Rattle.std.specs.Prelude.{◌≡◌, IfErr, IfOk};
 ghost use Rattle.model.specs.Files.{HasRoom, IsFileSystem, table};
 ghost use Rattle.model.specs.Layout.{Holds};
 ghost use Rattle.model.specs.Spool.{Spool};
@@ -9,9 +9,8 @@ ghost use Rattle.spool_reading.specs.Sorted.{AreFirst, AreSorted};
 
 use crate::next::replay_next;
 use crate::replay::Replay;
-use blocks::Blocks;
-use index::Index;
-use places::Places;
+use fs_blocks::Blocks;
+use spool_index::{Index, Places};
 use spool_reading::{Files, ReadSpoolError};
 use std::alloc::Global;
 
@@ -27,8 +26,7 @@ pub fn replay_all<B: Blocks>(
 ) -> Result<Replay, ReadSpoolError>
     requires room { HasRoom inodes (B.blocks blocks.now) }
     requires rule { IsFileSystem inodes (B.blocks blocks.now) }
-    requires sorted { AreSorted (table inodes (B.blocks blocks.now)) (length (table inodes (B.blocks blocks.now)))
-        files.now.slots.items files.now.named }
+    requires sorted { AreSorted (table inodes (B.blocks blocks.now)) files.now.slots.items files.now.named files.now.packed }
     requires first { AreFirst count files.now.slots.items }
     ensures ok { IfOk result (λ replay. AreReplayedTo host.now inodes (B.blocks blocks.now) replay.index replay.places count) }
     ensures damaged { IfErr result (λ e. e ≡ ReadSpoolError.Damaged → (S : Spool) → Holds host.now inodes (B.blocks blocks.now) S → ⊥) }

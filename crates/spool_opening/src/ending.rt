@@ -1,23 +1,26 @@
 //! Checks that the files are those of the changes that were replayed, and no others.
 
-ghost use Rattle.std.specs.Prelude.{◌≡◌, ◌<◌, ◌+◌, ◌*◌, ◌↔◌, ℕ, List, true, length, IfOk, IsTrue, MatchOption};
-ghost use Rattle.model.specs.Files.{HasRoom, IsFileSystem, files_in, table};
+ghost use Rattle.std.specs.Prelude.{◌≡◌, ◌<◌, ◌↔◌, ℕ, List, true, length, IfOk, IsTrue, MatchOption};
+ghost use Rattle.model.specs.Files.{HasRoom, IsFileSystem, table};
 ghost use Rattle.model.specs.Spool as spool;
-ghost use Rattle.model.specs.Spool.{Spool, groups};
+ghost use Rattle.model.specs.Spool.{Spool};
 ghost use Rattle.model.specs.FileKinds.{is_of_change};
 ghost use Rattle.model.specs.SpoolFiles.{numbers_file, overview_file};
-ghost use Rattle.index.specs.View.{Indexes};
-ghost use Rattle.spool_opening.specs.Ended.{IsNameOf, IsWholeAt};
+ghost use Rattle.spool_index.specs.View.{Indexes};
+ghost use Rattle.spool_opening.specs.Ended.{AreAsMany, IsNameOf, IsWholeAt};
 ghost use Rattle.spool_opening.specs.Replayed.{IsBounded};
 
-use crate::lines::NUMBER_SIZE;
-use admission::find_group;
-use blocks::Blocks;
+use crate::continued_lines::NUMBER_SIZE;
+use fs_blocks::Blocks;
 use fs_layout::inodes::free_inode_count;
-use index::Index;
-use records::{FileKind, kind_of};
+use spool_admission::find_group;
+use spool_index::Index;
 use spool_reading::{file_name_at, file_size_at};
+use spool_records::{FileKind, kind_of};
 use std::alloc::{AllocError, Global};
+
+/// The name of the pack.
+const PACK_NAME: &[u8] = b"p";
 
 /// Whether a file of this name belongs to a change.
 fn names_change(name: &[u8]) -> bool
@@ -70,8 +73,8 @@ fn size_by_name(index: &Index, name: &[u8]) -> Option<u64>
     }
 }
 
-/// Whether the file of an inode, if it has one, belongs to a change, or is the numbers or the overview of an existing
-/// group. The latter must have as many octets as the articles filed in the group give. Refused only for want of memory.
+/// Whether the file of an inode, if it has one, belongs to a change, is the pack, or is the numbers or the overview of an
+/// existing group. The latter must have as many octets as the articles filed in the group give.
 fn is_whole<B: Blocks>(
     alloc: Global,
     blocks: &B,
@@ -93,13 +96,16 @@ fn is_whole<B: Blocks>(
     if names_change(octets) {
         return Ok(true);
     }
+    if octets == PACK_NAME {
+        return Ok(true);
+    }
     let Some(size) = size_by_name(index, octets) else {
         return Ok(false);
     };
     Ok(file_size_at(blocks, inodes, at) == size)
 }
 
-/// Whether each file belongs to a change, or to an existing group and has its size. Refused only for want of memory.
+/// Whether each file belongs to a change, is the pack, or belongs to an existing group and has its size.
 pub fn are_whole<B: Blocks>(
     alloc: Global,
     blocks: &B,
@@ -120,15 +126,17 @@ pub fn are_whole<B: Blocks>(
     Ok(true)
 }
 
-/// Whether there are as many files as the changes have: one for each change, and two more for each group.
-pub fn are_as_many<B: Blocks>(blocks: &B, inodes: u32, index: &Index) -> bool
+/// Whether there are as many files as the changes have, with `packed` of them in the pack: one for each change, and two
+/// more for each group.
+pub fn are_as_many<B: Blocks>(blocks: &B, inodes: u32, packed: u32, index: &Index) -> bool
     requires room { HasRoom inodes (B.blocks blocks.now) }
     requires rule { IsFileSystem inodes (B.blocks blocks.now) }
     requires bounded { IsBounded index.now }
-    ensures { (S : Spool) → Indexes S index.now
-        → (IsTrue result ↔ (length (files_in (table inodes (B.blocks blocks.now))) ≡ length S + 2 * length (groups S))) }
+    ensures { (S : Spool) → Indexes S index.now → (IsTrue result ↔ AreAsMany (table inodes (B.blocks blocks.now)) packed S) }
 {
     let free = free_inode_count(blocks, inodes) as u64;
     let group_count = index.groups().len() as u64;
-    free + index.len() + 2 * group_count == inodes as u64
+    // the pack has an inode itself
+    let pack_inodes = u64::from(packed.min(1));
+    free + pack_inodes + index.len() + 2 * group_count == inodes as u64 + packed as u64
 }

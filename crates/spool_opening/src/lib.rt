@@ -4,20 +4,20 @@
 #![tactic(auto)]
 
 mod all;
+mod continued_lines;
 mod ending;
 mod laws;
-mod lines;
 mod next;
-mod opening;
 mod replay;
+mod spool_at_opening;
 
 pub use all::replay_all;
+pub use continued_lines::{goes_on, line_sizes};
 pub use ending::{are_as_many, are_whole};
 pub use laws::{
     changes_are_read_in_order, changes_that_were_read_are_held,
     numbers_and_overviews_are_the_spools, one_change_more_is_read,
 };
-pub use lines::{goes_on, line_sizes};
 pub use next::replay_next;
-pub use opening::open;
 pub use replay::{Replay, replay_article, replay_expiry, replay_group};
+pub use spool_at_opening::open;

@@ -1,20 +1,21 @@
 //! Reads the next change of a spool from its file and replays it.
 
-ghost use Rattle.std.specs.Prelude.{◌≡◌, ◌≢◌, ◌<◌, ◌+◌, ◌++◌, ◌∷◌, [], ℕ, List, length, slice_index, IfErr, OnOk};
+ghost use Rattle.std.specs.Prelude.{◌≡◌, ◌≢◌, ◌<◌, ◌+◌, ◌++◌, ◌∷◌, [], ℕ, List, None, length, slice_index_or, IfErr, OnOk};
 ghost use Rattle.model.specs.Files.{HasRoom, IsFileSystem, table};
 ghost use Rattle.model.specs.Layout.{Holds};
 ghost use Rattle.model.specs.Spool.{Spool};
 ghost use Rattle.model.specs.declared.change.Change.{Change};
-ghost use Rattle.spool_opening.specs.Replayed.{AreReplayed, AreReplayedTo, CanReplay, IsItsFile, IsReplayed};
+ghost use Rattle.spool_opening.specs.Replayed.{AreReplayed, AreReplayedTo, CanReplay, IsItsFile, IsReplayed, MayStandAt};
 ghost use Rattle.spool_opening.specs.Stored.{IsNext};
 ghost use Rattle.spool_reading.specs.StoredChanges.{change_of};
-ghost use Rattle.spool_reading.specs.Sorted.{AreSorted, free};
+ghost use Rattle.spool_reading.specs.Sorted.{AreSorted};
 
 use crate::replay::{Replay, replay_article, replay_expiry, replay_group};
-use blocks::Blocks;
+use fs_blocks::Blocks;
 use model::{Moment, Status};
-use records::{FileKind, file_name};
-use spool_reading::{Files, ReadSpoolError, StoredChange, file_at, read_change};
+use spool_index::ChangePlace;
+use spool_reading::{Files, ReadSpoolError, StoredChange, file_in, read_change};
+use spool_records::{FileKind, file_name};
 use std::alloc::Global;
 
 /// Replays a group, whose numbers and overview are found by their names. `Damaged` only if it is not the next change of
@@ -31,14 +32,14 @@ fn replay_named(
 ) -> Result<(), ReadSpoolError>
     requires { AreReplayed replay.old.index replay.old.places }
     ensures ok { OnOk result ((host : List ℕ) (inodes : ℕ) (blocks : List (List ℕ)) (R : Spool)
-        → AreSorted (table inodes blocks) (length (table inodes blocks)) files.now.slots.items files.now.named
+        → AreSorted (table inodes blocks) files.now.slots.items files.now.named files.now.packed
         → IsReplayed host inodes blocks replay.old.index replay.old.places R
-        → IsItsFile inodes blocks at (length R + 1)
+        → IsItsFile inodes blocks (ChangePlace.Alone at) (length R + 1)
         (Change.Group (record { name = name.now; status = status; description = description.now; moment = moment }))
         → IsReplayed host inodes blocks replay.new.index replay.new.places
         (R ++ Change.Group (record { name = name.now; status = status; description = description.now; moment = moment }) ∷ [])) }
     ensures damaged { IfErr result (λ e. e ≡ ReadSpoolError.Damaged → (host : List ℕ) (inodes : ℕ) (blocks : List (List ℕ)) (R S : Spool)
-        → AreSorted (table inodes blocks) (length (table inodes blocks)) files.now.slots.items files.now.named
+        → AreSorted (table inodes blocks) files.now.slots.items files.now.named files.now.packed
         → IsReplayed host inodes blocks replay.old.index replay.old.places R → Holds host inodes blocks S
         → IsNext host R S
         (Change.Group (record { name = name.now; status = status; description = description.now; moment = moment })) → ⊥) }
@@ -54,7 +55,7 @@ fn replay_named(
     replay_group(replay, at, first, second, name, status, description, moment)
 }
 
-/// Replays the contents of an inode's file. `Damaged` only if they are not the next change of a spool that the blocks
+/// Replays the contents of the file at a place. `Damaged` only if they are not the next change of a spool that the blocks
 /// hold.
 fn replay_said<B: Blocks>(
     alloc: Global,
@@ -63,16 +64,16 @@ fn replay_said<B: Blocks>(
     host: &[u8],
     files: &Files,
     replay: &mut Replay,
-    at: u32,
+    place: ChangePlace,
     said: StoredChange<'_>,
 ) -> Result<(), ReadSpoolError>
     requires room { HasRoom inodes (B.blocks blocks.now) }
     requires rule { IsFileSystem inodes (B.blocks blocks.now) }
-    requires sorted { AreSorted (table inodes (B.blocks blocks.now)) (length (table inodes (B.blocks blocks.now)))
-        files.now.slots.items files.now.named }
+    requires sorted { AreSorted (table inodes (B.blocks blocks.now)) files.now.slots.items files.now.named files.now.packed }
     requires replayed { CanReplay host.now inodes (B.blocks blocks.now) replay.old.index replay.old.places }
+    requires may { MayStandAt place (change_of said) }
     ensures ok { OnOk result ((R : Spool) → IsReplayed host.now inodes (B.blocks blocks.now) replay.old.index replay.old.places R
-        → IsItsFile inodes (B.blocks blocks.now) at (length R + 1) (change_of said.entry)
+        → IsItsFile inodes (B.blocks blocks.now) place (length R + 1) (change_of said.entry)
         → IsReplayed host.now inodes (B.blocks blocks.now) replay.new.index replay.new.places (R ++ change_of said.entry ∷ [])) }
     ensures damaged { IfErr result (λ e. e ≡ ReadSpoolError.Damaged → (R S : Spool)
         → IsReplayed host.now inodes (B.blocks blocks.now) replay.old.index replay.old.places R
@@ -84,11 +85,16 @@ fn replay_said<B: Blocks>(
             status,
             description,
             moment,
-        } => replay_named(alloc, files, replay, at, name, status, description, moment),
+        } => {
+            let ChangePlace::Alone(at) = place else {
+                unreachable!()
+            };
+            replay_named(alloc, files, replay, at, name, status, description, moment)
+        }
         StoredChange::Article { text, envelope } => replay_article(
-            alloc, blocks, inodes, host, files, replay, at, text, envelope,
+            alloc, blocks, inodes, host, files, replay, place, text, envelope,
         ),
-        StoredChange::Expiry { group, number } => replay_expiry(replay, at, group, number),
+        StoredChange::Expiry { group, number } => replay_expiry(replay, place, group, number),
     }
 }
 
@@ -105,20 +111,20 @@ pub fn replay_next<B: Blocks>(
 ) -> Result<(), ReadSpoolError>
     requires room { HasRoom inodes (B.blocks blocks.now) }
     requires rule { IsFileSystem inodes (B.blocks blocks.now) }
-    requires sorted { AreSorted (table inodes (B.blocks blocks.now)) (length (table inodes (B.blocks blocks.now)))
-        files.now.slots.items files.now.named }
+    requires sorted { AreSorted (table inodes (B.blocks blocks.now)) files.now.slots.items files.now.named files.now.packed }
     requires below { done < length files.now.slots.items }
-    requires taken { slice_index files.now.slots.items done ≢ free }
+    requires taken { slice_index_or files.now.slots.items done None ≢ None }
     requires replayed { AreReplayedTo host.now inodes (B.blocks blocks.now) replay.old.index replay.old.places done }
     ensures ok { OnOk result (AreReplayedTo host.now inodes (B.blocks blocks.now) replay.new.index replay.new.places (done + 1)) }
     ensures damaged { IfErr result (λ e. e ≡ ReadSpoolError.Damaged → (S : Spool) → Holds host.now inodes (B.blocks blocks.now) S
         → done < length S → ⊥) }
 {
-    let at = files.slots[done];
-    let file = file_at(alloc, blocks, inodes, at)?;
+    let slot = files.slots[done];
+    let Some(place) = slot else { unreachable!() };
+    let file = file_in(alloc, blocks, inodes, place)?;
     let serial = done as u64 + 1;
     let Some(said) = read_change(alloc, &file.name, &file.content, serial)? else {
         return Err(ReadSpoolError::Damaged);
     };
-    replay_said(alloc, blocks, inodes, host, files, replay, at, said)
+    replay_said(alloc, blocks, inodes, host, files, replay, place, said)
 }

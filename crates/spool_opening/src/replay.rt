@@ -5,22 +5,21 @@ ghost use Rattle.model.specs.Article.{Carried, cause, groups_of};
 ghost use Rattle.model.specs.Lawful.{MayExpire, MayFile, MayMake};
 ghost use Rattle.model.specs.Spool.{Spool, is_here};
 ghost use Rattle.model.specs.declared.change.Change.{Change};
-ghost use Rattle.index.specs.View.{Indexes};
+ghost use Rattle.spool_index.specs.View.{Indexes};
 ghost use Rattle.model.specs.Files.{HasRoom, IsFileSystem, table};
 ghost use Rattle.model.specs.SpoolFiles.{numbers_name, overview_name};
 ghost use Rattle.spool_opening.specs.Replayed.{AllGoOn, AreReplayed, CanReplay, IsItsFile, IsReplayed};
 ghost use Rattle.spool_reading.specs.Sorted.{AreSorted};
 ghost use Rattle.spool_opening.specs.Stored.{IsFileAt};
 
-use crate::lines::line_sizes;
-use admission::{groups_here, id_of, may_expire, may_file, may_make};
-use article::{Article, Origin, ReadError};
-use blocks::Blocks;
-use index::Index;
+use crate::continued_lines::line_sizes;
+use fs_blocks::Blocks;
 use model::{Envelope, Moment, Status, Text};
-use places::Places;
+use spool_admission::{groups_here, id_of, may_expire, may_file, may_make};
+use spool_index::{ChangePlace, Index, Places};
 use spool_reading::{Files, ReadSpoolError};
 use std::alloc::Global;
+use text_article::{Article, Origin, ReadError};
 
 /// The index of the changes that were replayed, and the places of their files.
 #[derive(Drop)]
@@ -29,16 +28,16 @@ pub struct Replay {
     pub places: Places,
 }
 
-/// Replays an expiry, whose file has this inode. `Damaged` exactly if it may not follow the changes before it.
+/// Replays an expiry, whose file is at this place. `Damaged` exactly if it may not follow the changes before it.
 pub fn replay_expiry(
     replay: &mut Replay,
-    at: u32,
+    place: ChangePlace,
     group: &[u8],
     number: u32,
 ) -> Result<(), ReadSpoolError>
     ensures ok { OnOk result ((host : List ℕ) (inodes : ℕ) (blocks : List (List ℕ)) (R : Spool)
         → IsReplayed host inodes blocks replay.old.index replay.old.places R
-        → IsItsFile inodes blocks at (length R + 1) (Change.Expire (record { group = group.now; number = number }))
+        → IsItsFile inodes blocks place (length R + 1) (Change.Expire (record { group = group.now; number = number }))
         → IsReplayed host inodes blocks replay.new.index replay.new.places
         (R ++ Change.Expire (record { group = group.now; number = number }) ∷ [])) }
     ensures damaged { IfErr result (λ e. e ≡ ReadSpoolError.Damaged → (S : Spool) → Indexes S replay.old.index
@@ -48,7 +47,7 @@ pub fn replay_expiry(
         return Err(ReadSpoolError::Damaged);
     }
     replay.index.push_expiry(group, number as u64)?;
-    replay.places.push_change(at)?;
+    replay.places.push_change(place)?;
     Ok(())
 }
 
@@ -66,7 +65,7 @@ pub fn replay_group(
     requires { AreReplayed replay.old.index replay.old.places }
     ensures ok { OnOk result ((host : List ℕ) (inodes : ℕ) (blocks : List (List ℕ)) (R : Spool)
         → IsReplayed host inodes blocks replay.old.index replay.old.places R
-        → IsItsFile inodes blocks at (length R + 1)
+        → IsItsFile inodes blocks (ChangePlace.Alone at) (length R + 1)
         (Change.Group (record { name = name.now; status = status; description = description.now; moment = moment }))
         → ((content : List ℕ) × IsFileAt (table inodes blocks) numbers (numbers_name name.now) content)
         → ((content : List ℕ) × IsFileAt (table inodes blocks) overview (overview_name name.now) content)
@@ -84,7 +83,7 @@ pub fn replay_group(
 }
 
 /// The groups of a carried article that exist. `Damaged` exactly if the article may not follow the changes of this index
-/// with this serial and envelope. Otherwise refused only for want of memory.
+/// with this serial and envelope.
 fn filed_here(
     alloc: Global,
     index: &Index,
@@ -116,7 +115,7 @@ fn filed_here(
     Ok(here)
 }
 
-/// Replays an article, whose file has this inode. `Damaged` exactly if it may not follow the changes before it, or if
+/// Replays an article, whose file is at this place. `Damaged` exactly if it may not follow the changes before it, or if
 /// the numbers and the overview of one of its groups do not continue with it.
 pub fn replay_article<B: Blocks>(
     alloc: Global,
@@ -125,17 +124,16 @@ pub fn replay_article<B: Blocks>(
     host: &[u8],
     files: &Files,
     replay: &mut Replay,
-    at: u32,
+    place: ChangePlace,
     text: &[u8],
     envelope: Envelope,
 ) -> Result<(), ReadSpoolError>
     requires room { HasRoom inodes (B.blocks blocks.now) }
     requires rule { IsFileSystem inodes (B.blocks blocks.now) }
-    requires sorted { AreSorted (table inodes (B.blocks blocks.now)) (length (table inodes (B.blocks blocks.now)))
-        files.now.slots.items files.now.named }
+    requires sorted { AreSorted (table inodes (B.blocks blocks.now)) files.now.slots.items files.now.named files.now.packed }
     requires replayed { CanReplay host.now inodes (B.blocks blocks.now) replay.old.index replay.old.places }
     ensures ok { OnOk result ((R : Spool) → IsReplayed host.now inodes (B.blocks blocks.now) replay.old.index replay.old.places R
-        → IsItsFile inodes (B.blocks blocks.now) at (length R + 1)
+        → IsItsFile inodes (B.blocks blocks.now) place (length R + 1)
         (Change.Article (record { text = text.now; envelope = envelope }))
         → IsReplayed host.now inodes (B.blocks blocks.now) replay.new.index replay.new.places
         (R ++ Change.Article (record { text = text.now; envelope = envelope }) ∷ [])) }
@@ -169,6 +167,6 @@ pub fn replay_article<B: Blocks>(
     let size = text.len() as u64;
     let lengths = sizes.as_slice();
     replay.index.push_article(id, size, envelope, lengths)?;
-    replay.places.push_change(at)?;
+    replay.places.push_change(place)?;
     Ok(())
 }

@@ -1,7 +1,11 @@
 pub mod Contents
+pub mod Ending
 pub mod Finding
 pub mod Groups
+pub mod Members
 pub mod Passing
 pub mod Saying
+pub mod Serials
 pub mod Sizes
 pub mod Slots
+pub mod Steps

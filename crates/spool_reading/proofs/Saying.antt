@@ -21,11 +21,11 @@ use Rattle.model.specs.declared.values.Status.{Status}
 use Rattle.model.proofs.HoldsOne.{no_change, same_change}
 use Rattle.model.proofs.Asking.{text_fits}
 use Rattle.model.proofs.Strings.{little_split}
-use Rattle.records.specs.Kinds.{front_of}
-use Rattle.records.specs.declared.names.FileKind.{FileKind}
-use Rattle.records.specs.declared.names.FileKind.TheVariants as kind
+use Rattle.spool_records.specs.Kinds.{front_of}
+use Rattle.spool_records.specs.declared.names.FileKind.{FileKind}
+use Rattle.spool_records.specs.declared.names.FileKind.TheVariants as kind
 use Rattle.spool_reading.specs.StoredChanges.{IsFileOf, IsInTime}
-use Rattle.spool_reading.proofs.Slots.{one_serial, serial_first}
+use Rattle.spool_reading.proofs.Serials.{one_serial, serial_first}
 
 -- ---- moments
 

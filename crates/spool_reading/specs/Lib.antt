@@ -1,3 +1,4 @@
 pub mod StoredChanges
 pub mod Sorted
+pub mod Sorting
 pub mod Laws

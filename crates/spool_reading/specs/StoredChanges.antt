@@ -7,8 +7,8 @@ use Rattle.model.specs.Spool.{IsEnvelope}
 use Rattle.model.specs.SpoolFiles.{change_file}
 use Rattle.model.specs.declared.change.Change.{Change}
 use Rattle.model.specs.declared.change.Change.TheVariants as change
-use Rattle.spool_reading.specs.declared.reading.StoredChange.{StoredChange}
-use Rattle.spool_reading.specs.declared.reading.StoredChange.TheVariants as said
+use Rattle.spool_reading.specs.declared.change_contents.StoredChange.{StoredChange}
+use Rattle.spool_reading.specs.declared.change_contents.StoredChange.TheVariants as said
 
 -- the change that the contents describe
 abbrev pub change_of : StoredChange → Change

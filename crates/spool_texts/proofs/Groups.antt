@@ -10,8 +10,8 @@ use Rattle.model.specs.Spool.{Spool, NewsArticle, NewsGroup, filed_in, groups}
 use Rattle.model.specs.SpoolFiles.{overview_file, overview_name}
 use Rattle.model.proofs.Joined.{both_at}
 use Rattle.fs_layout.proofs.Tables.{named_from_there}
-use Rattle.index_groups.specs.Naming.{heads}
-use Rattle.index.specs.View.{IndexView, Indexes}
+use Rattle.spool_groups.specs.Naming.{heads}
+use Rattle.spool_index.specs.View.{IndexView, Indexes}
 use Rattle.spool_texts.specs.Texts.{LinesRise}
 use Rattle.spool_texts.proofs.Lines.{group_ends, rising}
 use Rattle.spool_texts.proofs.Standing.{placed_at}

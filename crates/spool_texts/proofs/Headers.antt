@@ -11,9 +11,9 @@ use Rattle.model.specs.Article.{body, has_empty_line, header, header_lines}
 use Rattle.model.specs.declared.message.Mode.TheVariants as mode
 use Rattle.model.proofs.LineLaws.{lines-empty, lines-line, lines-rest}
 use Rattle.model.proofs.StreamLaws.{end_cases}
-use Rattle.header_fields.specs.Header.{IsHeader}
-use Rattle.header_fields.proofs.HeaderLaws.{body-end, body-line, empty_line-end, empty_line-line, header-line, header_lines-end}
-use Rattle.header_fields.proofs.HeaderLaws.{header_lines-line}
+use Rattle.text_fields.specs.Header.{IsHeader}
+use Rattle.text_fields.proofs.HeaderLaws.{body-end, body-line, empty_line-end, empty_line-line, header-line, header_lines-end}
+use Rattle.text_fields.proofs.HeaderLaws.{header_lines-line}
 use Rattle.spool_texts.specs.Texts.{HasHeader}
 
 -- a front in which the header of the text ends

@@ -7,3 +7,4 @@ pub mod Runs
 pub mod LineSizes
 pub mod Making
 pub mod Staying
+pub mod Copied

@@ -1,28 +1,6 @@
 -- How long the lines of an overview are, one by one and together.
-use Rattle.std.proofs.Common.{
-  ◌≡◌,
-  ◌<◌,
-  ◌≤◌,
-  ◌^◌,
-  inl,
-  inr,
-  ℕ,
-  zero,
-  suc,
-  ◌+◌,
-  ◌-◌,
-  ◌*◌,
-  List,
-  [],
-  ◌∷◌,
-  ◌++◌,
-  length,
-  get_or,
-  refl,
-  sym,
-  ◌∙◌,
-}
-use Rattle.std.proofs.Common.{ap, subst, arith, append_assoc, take, drop}
+use Rattle.std.proofs.Common.{◌≡◌, ◌<◌, ◌≤◌, inl, inr, ℕ, zero, suc, ◌+◌, ◌-◌, ◌*◌, List, [], ◌∷◌, ◌++◌, length, get_or, sym, ◌∙◌}
+use Rattle.std.proofs.Common.{ap, subst, arith, append_assoc, drop}
 use Rattle.std.specs.Prelude.{filter_map, flat_map, min, None}
 use Rattle.std.specs.List.{All, enumerate_from, list_any}
 use Rattle.std.proofs.lemmas.List.{length-append, length-drop, length-map, length-take}
@@ -40,7 +18,7 @@ use Rattle.model.proofs.HoldsOne.{high_few}
 use Rattle.model.proofs.LineSizes.{line_short}
 use Rattle.spool_texts.specs.Parts.{IsStored, LinesFit}
 use Rattle.spool_texts.specs.Texts.{LinesRise, line_at, lines_from}
-use Rattle.spool_texts.proofs.Lines.{group_ends, rising, stands}
+use Rattle.spool_texts.proofs.Lines.{group_ends, stands}
 
 -- ---- how long lines are
 

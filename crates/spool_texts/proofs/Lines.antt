@@ -9,7 +9,7 @@ use Rattle.model.specs.Article.{overview_line}
 use Rattle.model.specs.Indexed.{ends_from, line_start}
 use Rattle.model.specs.Spool.{Spool, NewsArticle, filed_in}
 use Rattle.model.specs.SpoolFiles.{overview_file, overview_lines}
-use Rattle.lookups.specs.Held.{overviews_between}
+use Rattle.session_lookups.specs.Held.{overviews_between}
 use Rattle.model.proofs.Indexing.{lines_stand}
 use Rattle.spool_texts.specs.Texts.{LinesRise, line_at, lines_from}
 

@@ -22,20 +22,19 @@ use Rattle.std.proofs.Common.{
   arith,
   append_assoc,
 }
-use Rattle.std.specs.Prelude.{slice_get}
 use Rattle.std.proofs.Math.Path.{transport}
 use Rattle.std.proofs.lemmas.Bool.{cases_lt}
 use Rattle.std.proofs.lemmas.List.{length-append, length-map}
 use Rattle.std.proofs.lemmas.Option.{slice_get_read, slice_get_within}
 use Rattle.model.specs.Files.{IsFileSystem, content_of, entry}
-use Rattle.lookups.specs.Held.{overviews_between}
+use Rattle.session_lookups.specs.Held.{overviews_between}
 use Rattle.model.specs.Indexed.{ArePlaces, FilePlaces, GroupIndex, group_index, line_start}
 use Rattle.model.specs.Spool.{Spool, filed_in, groups}
 use Rattle.model.specs.SpoolFiles.{overview_file}
 use Rattle.model.specs.Stream.{Octets, dot_line}
-use Rattle.index_groups.specs.Shown.{shown}
-use Rattle.index_groups.specs.declared.group.Group.{Group}
-use Rattle.outbox.specs.declared.lines.Lines.{Lines}
+use Rattle.spool_groups.specs.Shown.{shown}
+use Rattle.spool_groups.specs.declared.group.Group.{Group}
+use Rattle.kernel_outbox.specs.declared.made_lines.Lines.{Lines}
 use Rattle.spool_texts.specs.Parts.{HasLines, IsStored, LinesFit, lines_in, lines_of}
 use Rattle.spool_texts.specs.Texts.{LinesRise, lines_from}
 use Rattle.spool_texts.proofs.Groups.{HasOverview, IsAt, IsKept, has_overview, is_kept, kept_rise}

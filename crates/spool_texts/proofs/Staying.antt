@@ -6,7 +6,7 @@ use Rattle.std.specs.List.{enumerate_from, list_any}
 use Rattle.std.proofs.lemmas.List.{drop-append-le, take-append-le}
 use Rattle.std.proofs.lemmas.List.Elements.{filter-append, filter_map-append}
 use Rattle.std.proofs.Math.Seq.{drop-append_seam, take-append_seam}
-use Rattle.lookups.specs.Held.{overviews_between}
+use Rattle.session_lookups.specs.Held.{overviews_between}
 use Rattle.model.specs.Article.{overview_line}
 use Rattle.model.specs.Spool.{
   Spool,
@@ -24,7 +24,7 @@ use Rattle.model.specs.Spool.{
 use Rattle.model.specs.Spool.{high, is_name}
 use Rattle.model.specs.Stream.{Octets, dot_line, line}
 use Rattle.model.proofs.Fronts.{entries_split}
-use Rattle.outbox.specs.declared.lines.Lines.{Lines}
+use Rattle.kernel_outbox.specs.declared.made_lines.Lines.{Lines}
 use Rattle.spool_texts.specs.Parts.{HasLines, lines_in, lines_of}
 
 -- the changes so far, and those after them

@@ -1,13 +1,14 @@
 -- Lines of an overview that are made as they are handed out.
-use Rattle.std.specs.Prelude.{◌≡◌, ℕ, ◌+◌, ◌-◌, ◌<◌, ◌≤◌, ◌^◌, List, [], ◌++◌, length, slice_get, slice_index}
+use Rattle.std.specs.Prelude.{◌≡◌, ℕ, ◌+◌, ◌-◌, ◌<◌, ◌≤◌, List, [], ◌++◌, length, slice_get, slice_index}
 use Rattle.std.specs.Prelude.{Option, Some, None, IsSome}
-use Rattle.lookups.specs.Held.{overviews_between}
+use Rattle.session_lookups.specs.Held.{overviews_between}
 use Rattle.model.specs.Indexed.{ArePlaces, FilePlaces, line_start}
 use Rattle.model.specs.Lawful.{IsLawful}
+use Rattle.model.specs.Packs.{most_changes}
 use Rattle.model.specs.Spool.{Spool, NewsGroup, group_named, groups, high}
 use Rattle.model.specs.Stream.{Octets, dot_line}
-use Rattle.index.specs.View.{IndexView, Indexes}
-use Rattle.outbox.specs.declared.lines.Lines.{Lines}
+use Rattle.spool_index.specs.View.{IndexView, Indexes}
+use Rattle.kernel_outbox.specs.declared.made_lines.Lines.{Lines}
 
 -- what lines stand for in a group: the overviews of its articles from one number on, and the line that ends a block
 abbrev pub lines_in : Spool → Option NewsGroup → Lines → Octets
@@ -27,11 +28,11 @@ pub record HasLines (S : Spool) (lines : Lines) : Type 0 where
   pub high : lines.end ≤ high S group.name + 1
   pub octets : lines.octets ≡ length (lines_of S lines)
 
--- changes of a volume are lawful, and fewer than its inodes
+-- changes of a volume are lawful, and few
 pub record IsStored (S : Spool) : Type 0 where
   pub host : Octets
   pub lawful : IsLawful host S
-  pub few : length S < 10 ^ 7
+  pub few : length S ≤ most_changes
 
 -- the index is that of some changes, in which the group exists and has had these numbers
 pub record HasRange (index : IndexView) (group : Octets) (from to : ℕ) : Type 0 where

@@ -1,14 +1,14 @@
 -- What is required of blocks that texts are read from.
 use Rattle.std.specs.Prelude.{◌≡◌, ℕ, zero, suc, ◌+◌, ◌-◌, ◌^◌, ◌<◌, ◌≤◌, List, [], ◌++◌, length, take, drop, slice_index, IsSome}
 use Rattle.model.specs.Article.{header_lines}
-use Rattle.model.specs.Files.{IsFile, content_of, entry}
+use Rattle.model.specs.Files.{File, IsFile, content_of, entry}
 use Rattle.model.specs.Stream.{Octets, line}
 use Rattle.model.specs.Indexed.{ArePlaces, FilePlaces, line_start}
 use Rattle.model.specs.Spool.{Spool}
-use Rattle.lookups.specs.Held.{article_with, text_of}
-use Rattle.header_fields.specs.Header.{IsHeader}
-use Rattle.index.specs.View.{IndexView, Indexes}
-use Rattle.spool_texts.specs.declared.finding.TextPlace.{TextPlace}
+use Rattle.session_lookups.specs.Held.{article_with, text_of}
+use Rattle.text_fields.specs.Header.{IsHeader}
+use Rattle.spool_index.specs.View.{IndexView, Indexes}
+use Rattle.spool_texts.specs.declared.text_places.TextPlace.{TextPlace}
 
 -- index and places are those of some changes, and this serial is that of an article among them
 pub record HasArticle (inodes : ℕ) (blocks : List Octets) (index : IndexView) (places : FilePlaces) (serial : ℕ) : Type 0 where
@@ -18,6 +18,15 @@ pub record HasArticle (inodes : ℕ) (blocks : List Octets) (index : IndexView) 
   pub there : IsSome (article_with changes serial)
 
 -- ---- a text in its file
+
+-- the octets of this file stand in the file of the inode, and end there
+pub record EndsAt (inodes : ℕ) (blocks : List Octets) (inode end : ℕ) (f : File) : Type 0 where
+  pub below : inode < inodes
+  pub file : IsFile (entry inodes blocks inode)
+  pub before : Octets
+  pub after : Octets
+  pub content_is : content_of blocks (entry inodes blocks inode) ≡ before ++ (f.content ++ after)
+  pub end_is : end ≡ length before + length f.content
 
 abbrev pub octets_in : ℕ → List Octets → TextPlace → Octets
 octets_in inodes blocks p = take p.size (drop p.from (content_of blocks (entry inodes blocks p.inode)))

@@ -6,17 +6,16 @@ ghost use Rattle.model.specs.Files.{HasRoom, IsFileSystem};
 ghost use Rattle.model.specs.Indexed.{ArePlaces};
 ghost use Rattle.model.specs.Spool.{Spool};
 ghost use Rattle.model.specs.Stream.{line};
-ghost use Rattle.lookups.specs.Held.{text_of};
-ghost use Rattle.index.specs.View.{Indexes};
+ghost use Rattle.session_lookups.specs.Held.{text_of};
+ghost use Rattle.spool_index.specs.View.{Indexes};
 ghost use Rattle.spool_texts.specs.Texts.{HasArticle};
 
-use crate::finding::place_of;
-use blocks::Blocks;
+use crate::text_places::place_of;
+use fs_blocks::Blocks;
 use fs_inodes::read_entry;
-use index::Index;
-use overview::push_line;
-use places::Places;
+use spool_index::{Index, Places};
 use std::alloc::{AllocError, Global};
+use text_overview::push_line;
 
 /// Appends the overview line of an article with this number and CRLF (RFC 3977, section 8.3). Refused only for want of
 /// memory; then the reply may hold any octets, and the caller discards it.

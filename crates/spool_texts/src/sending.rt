@@ -4,10 +4,10 @@ ghost use Rattle.std.specs.Prelude.{◌≡◌, ◌++◌, ◌<◌, take, drop, On
 ghost use Rattle.model.specs.Files.{HasRoom, IsFile, IsFileSystem, content_of, entry};
 ghost use Rattle.model.specs.Stream.{stuffed};
 
-use blocks::Blocks;
+use fs_blocks::Blocks;
 use fs_inodes::piece;
 use fs_layout::inodes::size_of;
-use replies::{Stuffing, push_end};
+use session_replies::{Stuffing, push_end};
 use std::alloc::AllocError;
 
 /// The number of octets of the line that ends a block of lines (RFC 3977, section 3.1.1).

@@ -29,14 +29,15 @@ type Octets = (&'static str, u64, u64, u64, u64, Wanted);
 /// The octets of a segment.
 const SEGMENT: u64 = 514 * 4096;
 
-/// All eight segments are closed, and each of them had a batch.
+/// All eight segments are closed by the second epoch, each of them had a batch, and each gate is the first epoch.
 const CLOSED: &[Octets] = &[
     ("up to the segments", 0, 0, 20, 1, Wanted::NotAVolume),
     ("inodes and host", 0, 20, 17, 1, Wanted::Any),
     ("zeros of the label", 0, 37, 111, 1, Wanted::NotAVolume),
-    ("the format", 0, 148, 1, 1, Wanted::Whole),
-    ("zeros after the format", 0, 149, 94, 42, Wanted::NotAVolume),
-    ("gates", 1, 0, 8, SEGMENT, Wanted::Any),
+    ("the formats", 0, 148, 2, 1, Wanted::Whole),
+    ("the epoch", 0, 150, 1, 1, Wanted::Whole),
+    ("zeros after the epoch", 0, 151, 94, 42, Wanted::NotAVolume),
+    ("gates", 1, 0, 8, SEGMENT, Wanted::Whole),
     ("the rest of gates", 1, 1, 8, SEGMENT + 500, Wanted::Whole),
     ("descriptors", 2, 0, 8, SEGMENT + 3, Wanted::Whole),
     ("images", 3, 0, 8, SEGMENT + 500, Wanted::Whole),
@@ -47,6 +48,7 @@ const CLOSED: &[Octets] = &[
 
 /// The first four segments are open, with the batches of a group and three articles, and the others never had a batch.
 const OPEN: &[Octets] = &[
+    ("the epoch", 0, 150, 1, 1, Wanted::Whole),
     ("open gates", 1, 0, 4, SEGMENT, Wanted::Any),
     ("closed gates", 2057, 0, 4, SEGMENT, Wanted::NotAVolume),
     ("the rest of gates", 1, 1, 8, SEGMENT + 500, Wanted::Whole),

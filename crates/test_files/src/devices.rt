@@ -3,10 +3,10 @@
 use crate::formatting::{BLOCKS, format_on, found_on};
 use crate::said::{DONE, NO_MEMORY, NOT_ASKED, Said, UNREADABLE};
 use disk::{Disk, DiskCall, Faults};
-use memdisk::MemDisk;
-use new_volume::{FORMAT_1, FORMAT_2, device_octets};
+use disk_memory::MemDisk;
 use std::alloc::Global;
 use std::mem::replace;
+use volume_new::{FORMAT_1, FORMAT_2, FORMAT_3, device_octets};
 
 /// Octets of a block.
 const BLOCK: u64 = 4096;
@@ -32,10 +32,10 @@ pub fn new_device(alloc: Global, blocks: u64) -> Option<Device> {
     Some(Device { disk: Some(disk) })
 }
 
-/// A device with an empty volume of format 2; `None` if memory is refused.
+/// A device with an empty volume of format 3; `None` if memory is refused.
 pub fn new_volume(alloc: Global) -> Option<Device> {
     let disk = MemDisk::new(alloc, device_octets(BLOCKS)).ok()?;
-    match format_on(alloc, disk, FORMAT_2) {
+    match format_on(alloc, disk, FORMAT_3) {
         (disk, Said::Word("done")) => Some(Device { disk: Some(disk) }),
         _ => None,
     }
@@ -70,11 +70,12 @@ fn answer_disk(
     numbers: &[u64],
 ) -> (Option<MemDisk>, Said) {
     match (word, numbers) {
-        ("damage", []) => (None, found(findings::damage(alloc, disk))),
-        ("no-volume", []) => (None, found(findings::no_volume(alloc, disk))),
+        ("damage", []) => (None, found(volume_findings::damage(alloc, disk))),
+        ("no-volume", []) => (None, found(volume_findings::no_volume(alloc, disk))),
         ("open", []) => (None, found_on(alloc, disk)),
         ("format", [1]) => with(format_on(alloc, disk, FORMAT_1)),
         ("format", [2]) => with(format_on(alloc, disk, FORMAT_2)),
+        ("format", [3]) => with(format_on(alloc, disk, FORMAT_3)),
         _ => {
             let said = asked(alloc, &mut disk, word, numbers);
             (Some(disk), said)

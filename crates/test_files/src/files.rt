@@ -5,13 +5,13 @@ ghost use Rattle.model.specs.Files.{HasRoom, IsFileSystem};
 ghost use Rattle.fs.specs.Calls.{IsName};
 
 use crate::said::{DONE, FileSum, NOT_ASKED, Said, UNREADABLE, same, sum_of};
-use blocks::{BLOCK_SIZE, Blocks};
 use fs::{
     FsError, append, check, create, free_block_count, free_inode_count, make_empty, names, read_at,
     size, truncate, unlink, write_at,
 };
+use fs_blocks::{BLOCK_SIZE, Blocks};
+use journal_volume::{BATCH_BLOCKS, BatchBuf, Volume};
 use std::alloc::Global;
-use volume::{BATCH_BLOCKS, BatchBuf, Volume};
 
 /// The inodes of each volume.
 const INODES: u32 = 64;
@@ -37,7 +37,7 @@ pub struct Files {
 
 /// A volume of this many blocks and this format, without files; `None` if memory is refused.
 pub fn new_files(alloc: Global, blocks: u64, format: u64) -> Option<Files> {
-    if blocks < 1024 || 65_536 < blocks || 2 < format {
+    if blocks < 1024 || 65_536 < blocks || 3 < format {
         return None;
     }
     let volume = empty_of(alloc, blocks as u32).ok()?;

@@ -1,13 +1,13 @@
 //! New volumes, and what an opening finds.
 
 use crate::said::{DONE, NOT_ASKED, Said};
-use blocks::BLOCK_SIZE;
 use disk::Disk;
+use disk_memory::MemDisk;
+use fs_blocks::BLOCK_SIZE;
 use journal::Journal;
-use memdisk::MemDisk;
-use names::is_host;
-use new_volume::{VolumePlan, are_sizes, device_octets, format};
 use std::alloc::Global;
+use text_names::is_host;
+use volume_new::{VolumePlan, are_sizes, device_octets, format};
 
 /// The blocks of a new volume.
 pub const BLOCKS: u64 = 1024;
@@ -21,7 +21,7 @@ fn plan(format: u32) -> Option<VolumePlan<'static>> {
     if !is_host(host) || host.len() > 64 || !are_sizes(BLOCKS, INODES) {
         return None;
     }
-    if format < 1 || format > 2 {
+    if format < 1 || format > 3 {
         return None;
     }
     Some(VolumePlan {

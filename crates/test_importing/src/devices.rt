@@ -4,11 +4,11 @@
 use crate::volumes::{articles, device, opened};
 use crate::watching::Log;
 use disk::{DiskCall, Faults};
-use importing::{ImportError, import};
-use memdisk::{MemDisk, Pick};
+use disk_memory::{MemDisk, Pick};
 use std::alloc::Global;
 use std::rt::HostRuntime;
 use std::test::Fail;
+use volume_importing::{ImportError, import};
 
 /// Imports the batch. Answers the device, and whether it failed.
 fn imported(alloc: Global, disk: MemDisk, octets: &[u8]) -> Result<(MemDisk, bool), Fail> {

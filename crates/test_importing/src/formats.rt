@@ -1,15 +1,15 @@
-//! Volumes of both formats: a store makes its volume one of format 2.
+//! Volumes of each format: a store makes its volume one of format 3.
 
 use crate::volumes::{formatted, opened};
 use disk::Disk;
-use memdisk::MemDisk;
-use new_volume::{FORMAT_1, FORMAT_2};
+use disk_memory::MemDisk;
 use std::alloc::Global;
 use std::rt::HostRuntime;
 use std::test::Fail;
+use volume_new::{FORMAT_1, FORMAT_2, FORMAT_3};
 
-/// The place of the gate of the format.
-const GATE: u64 = 148;
+/// The place of the gate of format 3.
+const GATE: u64 = 149;
 
 /// The gate of a device.
 fn gate(disk: &mut MemDisk) -> Result<u8, Fail> {
@@ -20,14 +20,14 @@ fn gate(disk: &mut MemDisk) -> Result<u8, Fail> {
     Ok(octet[0])
 }
 
-/// The writes and syncs that open a store on a new volume of this format. Afterwards it is one of format 2.
+/// The writes and syncs that open a store on a new volume of this format. Afterwards it is one of format 3.
 fn calls_to_open(alloc: Global, format: u32) -> Result<(u64, u64), Fail> {
     let mut disk = formatted(alloc, 1024, 64, format).ok_or("no volume")?;
-    let is_second = gate(&mut disk)? == 2;
+    let is_third = gate(&mut disk)? == 3;
     let (writes, syncs) = disk.counts();
     let mut disk = opened(alloc, disk)?.into_disk();
     let (all_writes, all_syncs) = disk.counts();
-    if is_second != (format == FORMAT_2) || gate(&mut disk)? != 2 {
+    if is_third != (format == FORMAT_3) || gate(&mut disk)? != 3 {
         return Err("another format")?;
     }
     Ok((
@@ -38,10 +38,9 @@ fn calls_to_open(alloc: Global, format: u32) -> Result<(u64, u64), Fail> {
 
 #[test]
 fn an_upgrade_takes_a_write_and_a_sync(rt: HostRuntime) -> Result<(), Fail> {
-    let (writes, syncs) = calls_to_open(rt.alloc(), FORMAT_2)?;
-    assert_eq!(rt;
-        calls_to_open(rt.alloc(), FORMAT_1)?,
-        (writes.wrapping_add(1), syncs.wrapping_add(1))
-    );
+    let (writes, syncs) = calls_to_open(rt.alloc(), FORMAT_3)?;
+    let upgraded = (writes.wrapping_add(1), syncs.wrapping_add(1));
+    assert_eq!(rt; calls_to_open(rt.alloc(), FORMAT_1)?, upgraded);
+    assert_eq!(rt; calls_to_open(rt.alloc(), FORMAT_2)?, upgraded);
     Ok(())
 }

@@ -193,7 +193,7 @@ fn a_full_volume_ends_an_import(rt: HostRuntime) -> Result<(), Fail> {
     let found = said(alloc, &mut store, &octets)?;
     assert_eq!(rt;
         found.as_str(),
-        "filed 58\nhere 0\nno group 0\nrefused 0\nE6 Full: article 59 at octet 8052: no inode is free\n"
+        "filed 58\nhere 0\nno group 0\nrefused 0\nE6 Full: article 59 at octet 8052: too few inodes are free\n"
     );
     Ok(())
 }

@@ -1,19 +1,19 @@
 //! Devices with a volume that has two groups, and batches for them.
 
-use flusher::{TurnSeat, flush_turn};
-use locked_kernel::Locked;
-use mark::Mark;
-use memdisk::MemDisk;
+use disk_memory::MemDisk;
+use journal_volume::BatchBuf;
+use kernel::{OpenError, Opened};
+use kernel_locked::Locked;
+use kernel_shared::{Kern, NoHooks, SESSIONS};
 use model::{Moment, Status};
-use names::{Description, GroupName, GroupRequest, is_host};
-use new_volume::{FORMAT_1, FORMAT_2, VolumePlan, are_sizes, device_octets};
-use opening::{OpenError, Opened};
-use rnews::entry;
-use shared_kernel::{Kern, NoGate, SESSIONS};
+use server_flusher::{TurnSeat, flush_turn};
+use server_mark::Mark;
 use std::alloc::{AllocError, Global};
 use std::sync::Wait;
 use test_support_rows::Octets;
-use volume::BatchBuf;
+use text_names::{Description, GroupName, GroupRequest, is_host};
+use text_rnews::entry;
+use volume_new::{FORMAT_1, FORMAT_3, VolumePlan, are_sizes, device_octets};
 use volume_store::Store;
 
 const HOST: &[u8] = b"news.example";
@@ -28,7 +28,7 @@ const MOMENT: u64 = 1_000_000_000;
 
 /// The plan of the volume. The sizes are not constants here, because a proof would count with them.
 fn plan(blocks: u64, inodes: u64, format: u32) -> Option<VolumePlan<'static>> {
-    if !is_host(HOST) || !are_sizes(blocks, inodes) || format < FORMAT_1 || FORMAT_2 < format {
+    if !is_host(HOST) || !are_sizes(blocks, inodes) || format < FORMAT_1 || FORMAT_3 < format {
         return None;
     }
     Some(VolumePlan {
@@ -45,13 +45,13 @@ pub(crate) fn formatted(alloc: Global, blocks: u64, inodes: u64, format: u32) ->
     let Ok(disk) = MemDisk::new(alloc, device_octets(plan.blocks)) else {
         return None;
     };
-    new_volume::format(alloc, disk, &plan).ok()
+    volume_new::format(alloc, disk, &plan).ok()
 }
 
 /// A device whose volume has the groups, in closed segments: an opening writes nothing.
 pub(crate) fn device<R: Wait>(rt: &R, alloc: Global, blocks: u64, inodes: u64) -> Option<MemDisk> {
-    let disk = with_groups(rt, alloc, formatted(alloc, blocks, inodes, FORMAT_2)?)?;
-    match opening::open(alloc, disk, SESSIONS) {
+    let disk = with_groups(rt, alloc, formatted(alloc, blocks, inodes, FORMAT_3)?)?;
+    match kernel::open(alloc, disk, SESSIONS) {
         Ok(Opened { journal, kernel: _ }) => Some(journal.into_disk()),
         Err(_) => None,
     }
@@ -74,7 +74,7 @@ fn with_groups<R: Wait>(rt: &R, alloc: Global, disk: MemDisk) -> Option<MemDisk>
             mut journal,
             kernel,
         },
-    ) = opening::open(alloc, disk, SESSIONS)
+    ) = kernel::open(alloc, disk, SESSIONS)
     else {
         return None;
     };
@@ -95,7 +95,7 @@ fn with_groups<R: Wait>(rt: &R, alloc: Global, disk: MemDisk) -> Option<MemDisk>
         &mark,
         &mut seat,
         &mut batch,
-        &NoGate,
+        &NoHooks,
     )
     .ok()?;
     Some(journal.into_disk())

@@ -1,11 +1,11 @@
 //! A watcher that writes down what it is told.
 
 use disk::Disk;
-use importing::{ImportCounts, ImportError, Place, Report, Watcher, import};
 use model::Moment;
 use std::alloc::Global;
 use std::io::{self, ErrorKind, Read};
 use std::test::Fail;
+use volume_importing::{ImportCounts, ImportError, Place, Report, Watcher, import};
 use volume_store::Store;
 
 /// The moment of all texts.

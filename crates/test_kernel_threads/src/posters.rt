@@ -4,8 +4,8 @@ ghost use Rattle.std.specs.Prelude.{IsTrue};
 ghost use Rattle.kernel.specs.Kernel.{FitsMode};
 
 use kernel::{BatchBuf, Kernel};
+use kernel_shared::ExecError;
 use model::{Mark, Message, Mode, Moment, Text};
-use shared_kernel::ExecError;
 use std::alloc::{AllocError, Global};
 use std::sync::{Mutex, Wait};
 use std::thread;
@@ -126,8 +126,8 @@ impl<'a> Poster<'a> {
         let Some(moment) = post_moment() else {
             return Err(ExecError::NoSession);
         };
-        let (_next, mark) = kernel.exec(alloc, self.session, message, moment)?;
-        Ok(mark)
+        let outcome = kernel.exec(alloc, self.session, message, moment)?;
+        Ok(outcome.mark)
     }
 
     /// Takes a batch, and releases the lock before it reports the batch as committed. While the other poster's batch is

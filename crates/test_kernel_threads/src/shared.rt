@@ -2,17 +2,17 @@
 
 use crate::posters::{ARTICLES, Poster, post_moment};
 use crate::tally::{has_each_id, has_each_number};
+use disk_memory::MemDisk;
 use journal::Journal;
 use kernel::{BatchBuf, Kernel};
-use lookups::LookUps;
-use memdisk::MemDisk;
+use kernel_shared::SESSIONS;
 use model::Status;
-use names::{Description, GroupName, GroupRequest, is_host};
-use new_volume::{FORMAT_2, VolumePlan, are_sizes, device_octets, format};
-use shared_kernel::SESSIONS;
+use session_lookups::LookUps;
 use std::alloc::Global;
 use std::sync::{Mutex, Wait};
 use std::thread::{Threads, join};
+use text_names::{Description, GroupName, GroupRequest, is_host};
+use volume_new::{FORMAT_3, VolumePlan, are_sizes, device_octets, format};
 
 const HOST: &[u8] = b"news.example";
 
@@ -42,7 +42,7 @@ fn plan(blocks: u64, inodes: u64) -> Option<VolumePlan<'static>> {
         host: HOST,
         blocks,
         inodes,
-        format: FORMAT_2,
+        format: FORMAT_3,
     })
 }
 

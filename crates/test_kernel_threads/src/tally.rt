@@ -2,7 +2,7 @@
 
 use crate::posters::{ARTICLES, message_id};
 use kernel::Spool;
-use lookups::LookUps;
+use session_lookups::LookUps;
 use std::alloc::Global;
 
 /// All articles of both posters. The group is the change before them.

@@ -5,14 +5,14 @@ ghost use Rattle.model.specs.Files.{HasRoom, IsFileSystem};
 ghost use Rattle.fs.specs.Calls.{IsName};
 
 use crate::sparse::Sparse;
-use blocks::{BLOCK_SIZE, Blocks};
 use fs::{append, check, create, read_at};
+use fs_blocks::{BLOCK_SIZE, Blocks};
 use journal::{Journal, Progress};
-use names::is_host;
-use new_volume::{FORMAT_2, VolumePlan, are_sizes, device_octets, format};
+use journal_layout::{are_below, are_distinct};
+use journal_volume::{BATCH_BLOCKS, BatchBuf, Volume};
 use std::alloc::Global;
-use volume::{BATCH_BLOCKS, BatchBuf, Volume};
-use volume_format::{are_below, are_distinct};
+use text_names::is_host;
+use volume_new::{FORMAT_3, VolumePlan, are_sizes, device_octets, format};
 
 const HOST: &[u8] = b"news.example";
 
@@ -42,7 +42,7 @@ fn plan(blocks: u64) -> Option<VolumePlan<'static>> {
         host: HOST,
         blocks,
         inodes: INODES as u64,
-        format: FORMAT_2,
+        format: FORMAT_3,
     })
 }
 
@@ -61,7 +61,7 @@ pub(crate) fn opened(alloc: Global, disk: Sparse) -> Option<Open> {
     let Ok(mut journal) = Journal::open(alloc, disk) else {
         return None;
     };
-    match volume_loading::open(alloc, &mut journal) {
+    match journal_loading::open(alloc, &mut journal) {
         Ok(volume) => Some(Open { journal, volume }),
         Err(_) => None,
     }
@@ -88,7 +88,7 @@ fn is_sound(alloc: Global, volume: &Volume) -> bool
     if !has_room(volume) {
         return false;
     }
-    check(alloc, volume, INODES, FORMAT_2).is_ok()
+    check(alloc, volume, INODES, FORMAT_3).is_ok()
 }
 
 fn is_name(name: &[u8]) -> bool
@@ -108,7 +108,7 @@ fn grow(alloc: Global, volume: &mut Volume, name: &[u8], octets: &[u8]) -> Optio
     if !is_name(name) || !is_sound(alloc, volume) {
         return None;
     }
-    append(volume, INODES, FORMAT_2, name, octets).ok()
+    append(volume, INODES, FORMAT_3, name, octets).ok()
 }
 
 /// Makes a file of these octets, which no batch has yet.

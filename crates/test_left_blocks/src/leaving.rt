@@ -1,8 +1,8 @@
 //! What becomes of a block that a session's thread leaves. The steps of that thread and of the one that flushes are taken
 //! in chosen orders, by one thread.
 
-use releasing::Limits;
-use shared_kernel::{Gate, Kern, NoGate};
+use kernel_shared::{Hooks, Kern, NoHooks};
+use server_releasing::Limits;
 use std::alloc::Global;
 use std::io::Read;
 use std::net::{Net, TcpListener, TcpStream};
@@ -59,7 +59,7 @@ pub(crate) fn leave<R: Net<Listener = TcpListener, Stream = TcpStream> + Wait + 
         stop: &stop,
     };
     let (stage, mut caller) = Stage::new(rt, alloc, &store.kernel, Limits::standard())?;
-    let shared = stage.shared(rt, &kern, &NoGate);
+    let shared = stage.shared(rt, &kern, &NoHooks);
     let session = Session {
         shared: &shared,
         stage: &stage,
@@ -95,7 +95,9 @@ pub(crate) fn leave<R: Net<Listener = TcpListener, Stream = TcpStream> + Wait + 
 
 /// The flusher's next turn: it files what is left, and commits what changed. Whether something was filed, and something
 /// committed.
-fn turn<R: Wait + Clock, K: Kern, G: Gate>(session: &Session<'_, R, K, G>) -> Option<(bool, bool)> {
+fn turn<R: Wait + Clock, K: Kern, H: Hooks>(
+    session: &Session<'_, R, K, H>,
+) -> Option<(bool, bool)> {
     let is_filed = session.files();
     let mut batch = session.batch.lock(session.rt());
     let Some(ticket) = session.takes(&mut *batch) else {
@@ -106,8 +108,8 @@ fn turn<R: Wait + Clock, K: Kern, G: Gate>(session: &Session<'_, R, K, G>) -> Op
     Some((is_filed, true))
 }
 
-fn is_filed<R: Wait + Clock, K: Kern, G: Gate>(
-    session: &Session<'_, R, K, G>,
+fn is_filed<R: Wait + Clock, K: Kern, H: Hooks>(
+    session: &Session<'_, R, K, H>,
     caller: &mut Caller,
     fate: Fate,
     number: u64,
@@ -130,8 +132,8 @@ fn is_filed<R: Wait + Clock, K: Kern, G: Gate>(
     Some(is_left && is_read && was_filed && caller.reads(DATED))
 }
 
-fn is_taken_back<R: Wait + Clock, K: Kern, G: Gate>(
-    session: &Session<'_, R, K, G>,
+fn is_taken_back<R: Wait + Clock, K: Kern, H: Hooks>(
+    session: &Session<'_, R, K, H>,
     caller: &mut Caller,
     number: u64,
 ) -> Option<bool> {
@@ -142,8 +144,8 @@ fn is_taken_back<R: Wait + Clock, K: Kern, G: Gate>(
     Some(is_left && is_once && caller.reads(REPLIES[1]) && caller.reads(DATED))
 }
 
-fn is_put_off<R: Wait + Clock, K: Kern, G: Gate>(
-    session: &Session<'_, R, K, G>,
+fn is_put_off<R: Wait + Clock, K: Kern, H: Hooks>(
+    session: &Session<'_, R, K, H>,
     caller: &mut Caller,
     stop: &Stop,
     fate: Fate,
@@ -162,8 +164,8 @@ fn is_put_off<R: Wait + Clock, K: Kern, G: Gate>(
 }
 
 /// Whether a block is not left, with nothing changed.
-fn is_kept<R: Wait + Clock, K: Kern, G: Gate>(
-    session: &Session<'_, R, K, G>,
+fn is_kept<R: Wait + Clock, K: Kern, H: Hooks>(
+    session: &Session<'_, R, K, H>,
     fate: Fate,
     number: u64,
 ) -> Option<bool> {
@@ -189,8 +191,8 @@ fn is_kept<R: Wait + Clock, K: Kern, G: Gate>(
 }
 
 /// Whether the caller learns at once that its article is not taken.
-fn is_refused<R: Wait + Clock, K: Kern, G: Gate>(
-    session: &Session<'_, R, K, G>,
+fn is_refused<R: Wait + Clock, K: Kern, H: Hooks>(
+    session: &Session<'_, R, K, H>,
     caller: &mut Caller,
     fate: Fate,
     number: u64,

@@ -1,6 +1,6 @@
 //! Logs that are read late, or never.
 
-use logging::{
+use server_logging::{
     Cause, EndedSession, Ending, Log, LogEvent, OpeningStep, SessionCounts, TakenPost, UsedPart,
     Verbosity,
 };

@@ -4,7 +4,7 @@ use crate::logs::{
     lines_of, never_read, once_of_a_full_log, once_of_an_idle_log, posts_told, read_late,
     written_in_part,
 };
-use logging::Verbosity;
+use server_logging::Verbosity;
 
 #[test]
 fn a_log_tells_of_lost_lines(rt: HostRuntime) {

@@ -1,17 +1,24 @@
--- Worked examples of the two formats: the gate's octet, the blocks that files own, and pointers.
+-- Worked examples of the formats: the octets of the gates, the blocks that files own, and pointers.
 use Rattle.std.specs.Prelude.{◌≡◌, ◌-◌, ◌+◌, ◌==◌, if◌then◌else◌, [], ◌∷◌, ◌++◌, replicate}
 use Rattle.model.specs.Files.{FileEntry, first_data, indirect_pointer, pointer, largest_file, largest_file_one}
 use Rattle.model.specs.Room.{blocks_for}
 use Rattle.model.specs.Stream.{Octets}
 use Rattle.model.specs.Volume.{format_in}
 
--- octet 148 is the gate: 2 is format 2, every other value is format 1
+-- Octet 149 is the gate of format 3, and says so by 3 alone, whatever octet 148 is. If it is any other value, octet 148 decides: 2 is
+-- format 2, every other value is format 1. A superblock has octets after them, which are no gates.
 abbrev pub Gates : Type 0
 Gates =
     (format_in (replicate 148 1 ++ 2 ∷ []) ≡ 2)
     × (format_in (replicate 148 2 ++ 0 ∷ []) ≡ 1)
     × (format_in (replicate 148 2 ++ 1 ∷ []) ≡ 1)
     × (format_in (replicate 148 2 ++ 77 ∷ []) ≡ 1)
+    × (format_in (replicate 148 2 ++ 3 ∷ 2 ∷ 3 ∷ []) ≡ 1)
+    × (format_in (replicate 148 3 ++ 2 ∷ 0 ∷ 3 ∷ []) ≡ 2)
+    × (format_in (replicate 148 0 ++ 2 ∷ 77 ∷ []) ≡ 2)
+    × (format_in (replicate 148 0 ++ 2 ∷ 3 ∷ []) ≡ 3)
+    × (format_in (replicate 148 0 ++ 0 ∷ 3 ∷ []) ≡ 3)
+    × (format_in (replicate 148 0 ++ 77 ∷ 3 ∷ []) ≡ 3)
 
 -- with 4,096 blocks and 64 inodes, a file of the largest size of format 1 leaves 3,057 blocks free; with one more octet it leaves 3,054
 abbrev pub Rows : Type 0

@@ -1,17 +1,17 @@
 //! A kernel that counts the groups and the expiries that it is asked for, and makes none.
 
-use expiring::{AgedArticles, AgedGroup, GonePart};
-use model::{Message, Mode, Moment, Text};
-use names::{GroupName, GroupRequest, Wildmat};
-use outbox::ReadyBuf;
-use shared_kernel::{
+use journal_volume::BatchBuf;
+use kernel_expiring::{AgedArticles, AgedGroup, GonePart};
+use kernel_outbox::ReadyBuf;
+use kernel_shared::{
     AdminError, ExecError, ExecOutcome, ExpireError, JoinError, Kern, KernelCounts, Obstacle,
     Receipt, Stale, Ticket,
 };
+use model::{Message, Mode, Moment, Text};
 use std::alloc::Global;
 use std::sync::Wait;
 use std::sync::atomic::{AtomicBool, AtomicU64, Ordering};
-use volume::BatchBuf;
+use text_names::{GroupName, GroupRequest, Wildmat};
 
 /// A group of the kernel: up to which number its articles are old, and how many these are.
 struct OldGroup {

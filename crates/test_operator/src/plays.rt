@@ -4,17 +4,17 @@ ghost use Rattle.std.specs.Prelude.{◌≡◌};
 
 use crate::kernels::Counting;
 use crate::streams::{Answers, Lines};
-use counting::Counts;
-use mark::{FlushSeat, Mark, Seat};
-use operator::{Operator, OperatorService};
-use releasing::Writers;
-use shared_kernel::{Asking, Bells, Kern};
+use disk_file::Counts;
+use kernel_shared::{Asking, Bells, Kern};
+use server_mark::{FlushSeat, Mark, Seat};
+use server_operator::{Operator, OperatorService};
+use server_releasing::Writers;
 use std::alloc::Global;
 use std::sync::atomic::{AtomicU64, Ordering};
 use std::sync::{Arc, Mutex, Wait};
 use std::thread::{self, Threads, join};
 use std::time::{Clock, Duration};
-use usage::{Tally, VolumeFacts};
+use volume_usage::{Tally, VolumeFacts};
 
 /// A play waits for this many milliseconds, and then fails.
 const WAIT_MILLIS: u64 = 20_000;

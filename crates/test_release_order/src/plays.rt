@@ -1,7 +1,8 @@
 //! Plays of two threads, the session's and the one that commits and releases, in chosen orders and in any order.
 
-use releasing::Limits;
-use shared_kernel::{Gate, Kern};
+use journal_volume::BatchBuf;
+use kernel_shared::{Hooks, Kern};
+use server_releasing::Limits;
 use std::alloc::Global;
 use std::net::{Net, TcpListener, TcpStream};
 use std::sync::Wait;
@@ -9,10 +10,9 @@ use std::sync::atomic::Ordering;
 use std::thread::{Threads, join};
 use std::time::Clock;
 use test_support_releasing::{
-    Caller, GREETING, PAUSE_MILLIS, Point, REPLIES, Session, Side, Stage, Stop, StopGate, Store,
+    Caller, GREETING, PAUSE_MILLIS, Point, REPLIES, Session, Side, Stage, Stop, StopHooks, Store,
     fill, pause, wait_for,
 };
-use volume::BatchBuf;
 
 /// The most times that a session waits for a release.
 const WAITS: u32 = 100;
@@ -44,8 +44,8 @@ pub(crate) struct Order {
 }
 
 /// The session's thread.
-fn serve<R: Wait + Clock, K: Kern, G: Gate>(
-    session: &Session<'_, R, K, G>,
+fn serve<R: Wait + Clock, K: Kern, H: Hooks>(
+    session: &Session<'_, R, K, H>,
     stop: &Stop,
     order: Order,
 ) -> Option<()> {
@@ -78,8 +78,8 @@ fn serve<R: Wait + Clock, K: Kern, G: Gate>(
 }
 
 /// Waits until nothing is held.
-fn finish<R: Wait + Clock, K: Kern, G: Gate>(
-    session: &Session<'_, R, K, G>,
+fn finish<R: Wait + Clock, K: Kern, H: Hooks>(
+    session: &Session<'_, R, K, H>,
     stop: &Stop,
 ) -> Option<()> {
     for _ in 0..WAITS {
@@ -94,8 +94,8 @@ fn finish<R: Wait + Clock, K: Kern, G: Gate>(
 }
 
 /// Has the next message answered, while the other thread is stopped in a release.
-fn ask_for_date<R: Wait + Clock, K: Kern, G: Gate>(
-    session: &Session<'_, R, K, G>,
+fn ask_for_date<R: Wait + Clock, K: Kern, H: Hooks>(
+    session: &Session<'_, R, K, H>,
     stop: &Stop,
 ) -> Option<()> {
     stop.arm();
@@ -108,8 +108,8 @@ fn ask_for_date<R: Wait + Clock, K: Kern, G: Gate>(
 }
 
 /// The steps of the other thread: it commits and releases, or ends the server.
-fn commit<R: Wait + Clock, K: Kern, G: Gate>(
-    session: &Session<'_, R, K, G>,
+fn commit<R: Wait + Clock, K: Kern, H: Hooks>(
+    session: &Session<'_, R, K, H>,
     stop: &Stop,
     order: Order,
 ) -> Option<()> {
@@ -133,8 +133,8 @@ fn commit<R: Wait + Clock, K: Kern, G: Gate>(
 }
 
 /// Then it reads the caller's replies, and the caller sends nothing more. The session's thread must end before the server.
-fn commit_and_read<R: Wait + Clock, K: Kern, G: Gate>(
-    session: &Session<'_, R, K, G>,
+fn commit_and_read<R: Wait + Clock, K: Kern, H: Hooks>(
+    session: &Session<'_, R, K, H>,
     caller: Caller,
     stop: &Stop,
     order: Order,
@@ -159,14 +159,14 @@ pub(crate) fn play<
         inner: &store.kernel,
         stop: &stop,
     };
-    let gate = StopGate { rt, stop: &stop };
+    let hooks = StopHooks { rt, stop: &stop };
     let Some((stage, caller)) = Stage::new(rt, alloc, &store.kernel, Limits::standard()) else {
         return false;
     };
     let Some(writer) = stage.writer() else {
         return false;
     };
-    let shared = stage.shared(rt, &kern, &gate);
+    let shared = stage.shared(rt, &kern, &hooks);
     let session = Session {
         shared: &shared,
         stage: &stage,
@@ -178,8 +178,8 @@ pub(crate) fn play<
 }
 
 /// The threads of a play. The third one finishes what the releaser could not write.
-fn run<'a, R: Threads + Wait + Clock + Sync, K: Kern + Sync, G: Gate + Sync>(
-    session: &'a Session<'a, R, K, G>,
+fn run<'a, R: Threads + Wait + Clock + Sync, K: Kern + Sync, H: Hooks + Sync>(
+    session: &'a Session<'a, R, K, H>,
     caller: Caller,
     stop: &'a Stop,
     order: Order,

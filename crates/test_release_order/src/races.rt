@@ -1,14 +1,14 @@
 //! Many articles, each of which is committed and released while its session's thread continues without a stop.
 
-use releasing::Limits;
-use shared_kernel::{Gate, Kern, NoGate, Ticket};
+use journal_volume::BatchBuf;
+use kernel_shared::{Hooks, Kern, NoHooks, Ticket};
+use server_releasing::Limits;
 use std::alloc::Global;
 use std::net::{Net, TcpListener, TcpStream};
 use std::sync::Wait;
 use std::thread::{self, Threads, join};
 use std::time::Clock;
 use test_support_releasing::{Caller, GREETING, REPLIES, Session, Stage, make_store};
-use volume::BatchBuf;
 
 /// The number of articles.
 const ROUNDS: u64 = 200;
@@ -25,7 +25,7 @@ pub(crate) fn race<
 >(rt: &R, alloc: Global) -> Option<()> {
     let store = make_store(rt, alloc)?;
     let (stage, caller) = Stage::new(rt, alloc, &store.kernel, Limits::standard())?;
-    let shared = stage.shared(rt, &store.kernel, &NoGate);
+    let shared = stage.shared(rt, &store.kernel, &NoHooks);
     let session = Session {
         shared: &shared,
         stage: &stage,
@@ -37,8 +37,8 @@ pub(crate) fn race<
 }
 
 /// The two threads of the race.
-fn run<'a, R: Threads + Wait + Clock + Sync, K: Kern + Sync, G: Gate + Sync>(
-    session: &'a Session<'a, R, K, G>,
+fn run<'a, R: Threads + Wait + Clock + Sync, K: Kern + Sync, H: Hooks + Sync>(
+    session: &'a Session<'a, R, K, H>,
     caller: Caller,
 ) -> Option<()> {
     let (posted, committed) = join(
@@ -51,8 +51,8 @@ fn run<'a, R: Threads + Wait + Clock + Sync, K: Kern + Sync, G: Gate + Sync>(
 }
 
 /// The session's thread. It reads its caller's replies before the caller sends the next article.
-fn post_all<R: Wait + Clock, K: Kern, G: Gate>(
-    session: &Session<'_, R, K, G>,
+fn post_all<R: Wait + Clock, K: Kern, H: Hooks>(
+    session: &Session<'_, R, K, H>,
     caller: Caller,
 ) -> Option<()> {
     let mut caller = caller;
@@ -86,7 +86,7 @@ fn post_all<R: Wait + Clock, K: Kern, G: Gate>(
 }
 
 /// The other thread.
-fn commit_all<R: Wait + Clock, K: Kern, G: Gate>(session: &Session<'_, R, K, G>) -> Option<()> {
+fn commit_all<R: Wait + Clock, K: Kern, H: Hooks>(session: &Session<'_, R, K, H>) -> Option<()> {
     let mut batch = BatchBuf::new(session.shared.alloc).ok()?;
     for round in 0..ROUNDS {
         let ticket = next_ticket(session, &mut batch)?;
@@ -100,8 +100,8 @@ fn commit_all<R: Wait + Clock, K: Kern, G: Gate>(session: &Session<'_, R, K, G>)
 }
 
 /// Takes the changed blocks as soon as there are any.
-fn next_ticket<R: Wait + Clock, K: Kern, G: Gate>(
-    session: &Session<'_, R, K, G>,
+fn next_ticket<R: Wait + Clock, K: Kern, H: Hooks>(
+    session: &Session<'_, R, K, H>,
     batch: &mut BatchBuf,
 ) -> Option<Ticket> {
     for _ in 0..TURNS {

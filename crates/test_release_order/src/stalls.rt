@@ -1,9 +1,9 @@
 //! Callers that take none, or few, of their replies' octets.
 
+use kernel_outbox::ReadyBuf;
+use kernel_shared::{Hooks, Kern, NoHooks};
 use model::{Message, Text};
-use outbox::ReadyBuf;
-use releasing::{Limits, Shared};
-use shared_kernel::{Gate, Kern, NoGate};
+use server_releasing::{Limits, Shared};
 use std::alloc::Global;
 use std::net::{Net, TcpListener, TcpStream};
 use std::sync::Wait;
@@ -52,7 +52,7 @@ pub(crate) fn lets_go<R: Net<Listener = TcpListener, Stream = TcpStream> + Wait 
 ) -> Option<bool> {
     let store = make_store(rt, alloc)?;
     let (stage, caller) = Stage::new(rt, alloc, &store.kernel, limits(STALL_MILLIS))?;
-    let shared = stage.shared(rt, &store.kernel, &NoGate);
+    let shared = stage.shared(rt, &store.kernel, &NoHooks);
     let session = Session {
         shared: &shared,
         stage: &stage,
@@ -83,7 +83,7 @@ pub(crate) fn keeps<
     let stop = Stop::new(Point::Nowhere);
     let store = make_store(rt, alloc)?;
     let (stage, caller) = Stage::new(rt, alloc, &store.kernel, limits(SLOW_MILLIS))?;
-    let shared = stage.shared(rt, &store.kernel, &NoGate);
+    let shared = stage.shared(rt, &store.kernel, &NoHooks);
     let session = Session {
         shared: &shared,
         stage: &stage,
@@ -95,8 +95,8 @@ pub(crate) fn keeps<
 }
 
 /// The two threads of such a play.
-fn run<'a, R: Threads + Wait + Clock + Sync, K: Kern + Sync, G: Gate + Sync>(
-    session: &'a Session<'a, R, K, G>,
+fn run<'a, R: Threads + Wait + Clock + Sync, K: Kern + Sync, H: Hooks + Sync>(
+    session: &'a Session<'a, R, K, H>,
     caller: Caller,
     stop: &'a Stop,
 ) -> Option<bool> {
@@ -110,8 +110,8 @@ fn run<'a, R: Threads + Wait + Clock + Sync, K: Kern + Sync, G: Gate + Sync>(
 }
 
 /// Asks for the same again and again once the socket is full, and answers how many octets the caller has to take.
-fn send_much<R: Wait + Clock, K: Kern, G: Gate>(
-    session: &Session<'_, R, K, G>,
+fn send_much<R: Wait + Clock, K: Kern, H: Hooks>(
+    session: &Session<'_, R, K, H>,
     stop: &Stop,
 ) -> Option<u64> {
     session.writer().release(session.shared);
@@ -132,7 +132,7 @@ fn send_much<R: Wait + Clock, K: Kern, G: Gate>(
 }
 
 /// The number of octets in the reply to that.
-fn reply_octets<R: Wait + Clock, K: Kern, G: Gate>(session: &Session<'_, R, K, G>) -> Option<u64> {
+fn reply_octets<R: Wait + Clock, K: Kern, H: Hooks>(session: &Session<'_, R, K, H>) -> Option<u64> {
     let Shared {
         rt,
         alloc,

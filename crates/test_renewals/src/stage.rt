@@ -2,14 +2,14 @@
 
 use crate::errors::RowError;
 use crate::volumes::{Wanted, made, opened};
-use lookups::LookUps;
-use memdisk::MemDisk;
+use disk_memory::MemDisk;
 use model::{Change, Filing};
-use renewing::{RenewalCounts, Watcher, renew, shortage_for};
+use session_lookups::LookUps;
 use spool::Spool;
 use std::alloc::{AllocError, Global};
 use std::marker::Model;
 use test_support_spool::{Call, Stored, make};
+use volume_renewing::{RenewalCounts, Watcher, renew, shortage_for};
 use volume_store::Store;
 
 /// A spool in memory, and the new volume if there is one, sealed: the proof of a caller learns nothing about them.
@@ -129,15 +129,9 @@ fn renewed(alloc: Global, old: &Spool, new: &mut Store<MemDisk>) -> Result<Strin
     }
 }
 
-fn shortage(
-    alloc: Global,
-    new: &mut Store<MemDisk>,
-    change: &Change,
-) -> Result<String, AllocError> {
-    match shortage_for(new, change) {
-        Ok(shortage) => format!(in alloc; "{shortage}"),
-        Err(error) => format!(in alloc; "{error}"),
-    }
+fn shortage(alloc: Global, new: &Store<MemDisk>, change: &Change) -> Result<String, AllocError> {
+    let shortage = shortage_for(new, change);
+    format!(in alloc; "{shortage}")
 }
 
 /// The change with a serial, if there is one.

@@ -2,10 +2,10 @@
 
 use crate::errors::RowError;
 use disk::{DiskCall, Faults};
-use memdisk::MemDisk;
-use names::is_host;
-use new_volume::{FORMAT_2, VolumePlan, are_sizes, device_octets, format};
+use disk_memory::MemDisk;
 use std::alloc::Global;
+use text_names::is_host;
+use volume_new::{FORMAT_3, VolumePlan, are_sizes, device_octets, format};
 use volume_store::Store;
 
 /// A volume that a row asks for.
@@ -28,7 +28,7 @@ fn plan<'a>(wanted: &Wanted<'a>) -> Option<VolumePlan<'a>> {
         host,
         blocks: wanted.blocks,
         inodes: wanted.inodes,
-        format: FORMAT_2,
+        format: FORMAT_3,
     })
 }
 

@@ -1,8 +1,10 @@
 //! How each refusal is printed: of a world, of the kernel, and of the program when it ends.
 
-use printing::{Failure, NOT_UNDERSTOOD, REFUSED};
-use shared_kernel::Stale;
+use journal::JournalError;
+use kernel_shared::Stale;
+use program_printing::{Failure, NOT_UNDERSTOOD, REFUSED};
 use std::test::Fail;
+use volume_renewing::RenewalError;
 use world::{OpenError, StepError};
 
 #[test]
@@ -37,6 +39,23 @@ fn refusals_of_an_opening(rt: HostRuntime) -> Result<(), Fail> {
         (OpenError::Memory, "E2 Memory"),
         (OpenError::NotAVolume, "E3 NotAVolume"),
         (OpenError::Damaged, "E5 Damaged"),
+    ] {
+        assert_eq!(rt; error.to_string(rt.alloc())?.as_str(), text);
+    }
+    Ok(())
+}
+
+#[test]
+fn refusals_of_a_renewal(rt: HostRuntime) -> Result<(), Fail> {
+    for (error, text) in [
+        (RenewalError::Device(JournalError::Fault), "E1 Fault"),
+        (RenewalError::Memory, "E2 Memory"),
+        (RenewalError::Device(JournalError::Halted), "E4 Halted"),
+        (RenewalError::Full(3), "E6 Full: change 3"),
+        (
+            RenewalError::NotNew,
+            "the new volume isn't an empty one of the same host",
+        ),
     ] {
         assert_eq!(rt; error.to_string(rt.alloc())?.as_str(), text);
     }

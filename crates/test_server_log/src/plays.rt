@@ -2,11 +2,11 @@
 
 use crate::scenes::{Scene, Visit};
 use disk::DiskCall;
-use logging::{Log, Verbosity};
-use mark::Mark;
+use kernel_shared::{ExecError, NoHooks};
 use model::Message;
 use server::{Limits, ServeError};
-use shared_kernel::{ExecError, NoGate};
+use server_logging::{Log, Verbosity};
+use server_mark::Mark;
 use std::alloc::{AllocError, Global};
 use std::fs::File;
 use std::net::{Net, TcpListener, TcpStream};
@@ -133,7 +133,7 @@ fn run<
     let setting = Setting {
         listeners,
         log: &log,
-        gate: &NoGate,
+        hooks: &NoHooks,
         blocks: FEW_BLOCKS,
         limits: limits(scene),
     };

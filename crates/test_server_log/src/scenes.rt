@@ -1,6 +1,6 @@
 //! What callers do, and what the log reports of them.
 
-use shared_kernel::SESSIONS;
+use kernel_shared::SESSIONS;
 use std::alloc::Global;
 use std::net::{Net, SocketAddr, TcpListener, TcpStream};
 use std::sync::Wait;

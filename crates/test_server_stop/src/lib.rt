@@ -6,7 +6,7 @@ mod callers;
 #[cfg(test)]
 mod disks;
 #[cfg(test)]
-mod gates;
+mod hooks;
 #[cfg(test)]
 mod plays;
 #[cfg(test)]

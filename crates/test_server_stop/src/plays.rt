@@ -2,13 +2,13 @@
 
 use crate::callers::{LEAST, Visit};
 use crate::disks::Lent;
-use crate::gates::Holding;
+use crate::hooks::Holding;
 use crate::props::{Callers, Props};
 use disk::DiskCall;
-use locked_kernel::Locked;
-use mark::Mark;
-use memdisk::{MemDisk, Pick};
+use disk_memory::{MemDisk, Pick};
+use kernel_locked::Locked;
 use server::Limits;
+use server_mark::Mark;
 use std::alloc::Global;
 use std::fs::File;
 use std::net::{Net, TcpListener, TcpStream};
@@ -82,7 +82,7 @@ fn serve<
     };
     let answers = props.answers.writer(rt).ok()?;
     let log = silent_log(rt, alloc).ok()?;
-    let gate = Holding {
+    let hooks = Holding {
         rt,
         props,
         callers: play.callers,
@@ -90,7 +90,7 @@ fn serve<
     let setting = Setting {
         listeners: from_ref(listener),
         log: &log,
-        gate: &gate,
+        hooks: &hooks,
         blocks: BLOCKS,
         limits: Limits::standard(),
     };

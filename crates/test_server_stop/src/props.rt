@@ -1,6 +1,6 @@
 //! What a play shares with its server.
 
-use memdisk::MemDisk;
+use disk_memory::MemDisk;
 use std::alloc::{AllocError, Global};
 use std::sync::atomic::{AtomicBool, AtomicU64};
 use std::sync::{Arc, Mutex};

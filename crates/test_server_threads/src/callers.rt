@@ -1,6 +1,6 @@
 //! What the callers of a play do.
 
-use crate::gates::{Flags, Holds};
+use crate::hooks::{Flags, Holds};
 use std::alloc::Global;
 use std::net::{Net, SocketAddr, TcpListener, TcpStream};
 use std::sync::atomic::Ordering;

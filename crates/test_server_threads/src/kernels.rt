@@ -2,8 +2,8 @@
 
 ghost use Rattle.std.specs.Prelude.{◌≡◌};
 
-use crate::gates::Flags;
-use mark::{Mark, Seat};
+use crate::hooks::Flags;
+use server_mark::{Mark, Seat};
 use std::sync::atomic::Ordering;
 use std::sync::{Mutex, Wait};
 use test_support_server::Hooks;

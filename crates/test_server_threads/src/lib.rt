@@ -4,7 +4,7 @@
 #[cfg(test)]
 mod callers;
 #[cfg(test)]
-mod gates;
+mod hooks;
 #[cfg(test)]
 mod kernels;
 #[cfg(test)]

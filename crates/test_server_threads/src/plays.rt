@@ -4,16 +4,17 @@ ghost use Rattle.std.specs.Prelude.{◌≡◌, IfSome};
 ghost use Rattle.journal.specs.Journal.{IsIdle};
 
 use crate::callers::call;
-use crate::gates::{Flags, Holds, TestGate};
+use crate::hooks::{Flags, Holds, TestHooks};
 use crate::kernels::{Watch, Watching};
 use disk::DiskCall;
-use flusher::commit_batch;
+use disk_memory::MemDisk;
 use journal::Journal;
-use locked_kernel::Locked;
-use mark::{FlushSeat, Mark, Seat};
-use memdisk::MemDisk;
+use journal_volume::BatchBuf;
+use kernel_locked::Locked;
+use kernel_shared::{Kern, Receipt, Stale, Ticket};
 use server::{Limits, ServeError};
-use shared_kernel::{Kern, Receipt, Stale, Ticket};
+use server_flusher::commit_batch;
+use server_mark::{FlushSeat, Mark, Seat};
 use std::alloc::Global;
 use std::fs::File;
 use std::io::{self, Write};
@@ -27,14 +28,13 @@ use std::time::Clock;
 use test_support_server::{
     BLOCKS, Hooked, Setting, Stage, add_group, listen, new_device, open, silent_log,
 };
-use volume::BatchBuf;
 
 /// The outcome of a play.
 #[derive(Clone, Copy, Debug, PartialEq, Eq)]
 pub(crate) struct Outcome {
     /// The callers read what they had to.
     pub(crate) is_read: bool,
-    /// A gate reached its limit, or the mark was raised too early.
+    /// A hook reached its limit, or the mark was raised too early.
     pub(crate) has_failed: bool,
     /// How the server ended.
     pub(crate) ended: ServeError,
@@ -93,7 +93,7 @@ fn make_stage<'a, R: Wait>(
     Stage::new(journal, kern, mark, flush_seat, seat).with_groups(rt, alloc)
 }
 
-/// A server that is about to serve, and what its gate sees. The gate is made where the server runs.
+/// A server that is about to serve, and what its hooks see. They are made where the server runs.
 #[derive(Drop)]
 struct Scene<'a> {
     stage: Watched<'a>,
@@ -101,7 +101,7 @@ struct Scene<'a> {
     flags: &'a Flags,
 }
 
-/// A server that is about to serve, with a seat for its gate.
+/// A server that is about to serve, with a seat for its hooks.
 fn make_scene<'a, R: Wait>(
     rt: &R,
     alloc: Global,
@@ -163,7 +163,7 @@ fn serve<
         watch,
         flags,
     } = scene;
-    let gate = TestGate::new(flags, holds, watch);
+    let hooks = TestHooks::new(flags, holds, watch);
     let log = silent_log(rt, alloc)?;
     let answers = Answers {
         rt: *rt,
@@ -173,7 +173,7 @@ fn serve<
     let setting = Setting {
         listeners: from_ref(listener),
         log: &log,
-        gate: &gate,
+        hooks: &hooks,
         blocks: BLOCKS,
         limits: Limits::standard(),
     };

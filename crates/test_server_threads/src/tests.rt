@@ -1,9 +1,9 @@
 //! Tests of a running server and its callers.
 
-use crate::gates::{Holds, gather_until, note_until_quiet};
+use crate::hooks::{Holds, gather_until, note_until_quiet};
 use crate::plays::{Outcome, play, raises_after_commit, tell};
+use kernel_shared::{Arrivals, Stale};
 use server::ServeError;
-use shared_kernel::{Arrivals, Stale};
 use std::sync::atomic::AtomicBool;
 use std::thread::{Parker, join};
 

@@ -14,13 +14,15 @@
 //! | 6 | a.0000000003, its text from octet 25 | 6 |
 //! | 7 | a.0000000004, its text from octet 29 | 9 |
 //! | 8 | a.0000000005, its text from octet 25 | 12 |
-//! | 9 | x.0000000006 | 13 |
+//! | 9 | p, the pack | 13 |
 //!
-//! The overview lines in block 8 begin at 0, 72 and 147.
+//! The overview lines in block 8 begin at 0, 72 and 147. The pack holds one file, x.0000000006, in 33 octets: the length
+//! of its name at 0, the name from 1, the length of its content at 13, the content from 17. That has the expiry's serial
+//! at 17, its number at 25, the length of its group's name at 29, and the name from 30.
 
 use model::Status;
 use spool_reading::ReadSpoolError;
-use std::alloc::Global;
+use std::alloc::{AllocError, Global};
 use std::test::Fail;
 use test_support_spool::{Answer, Call, Filed, Octet, Sent, Stored, make};
 
@@ -29,6 +31,8 @@ const BITMAP: u32 = 0;
 const INODES: u32 = 2;
 
 const SLOTS: u32 = 3;
+
+const PACK: u32 = 13;
 
 /// The changes that are filed, and taken as a batch.
 const CHANGES: &[(Call<'static>, Answer)] = &[
@@ -110,7 +114,11 @@ const ROWS: &[Row] = &[
         &[(SLOTS, 4032, 1), (SLOTS, 4033, b'a')],
         false,
     ),
-    ("no slot for an inode", &[(SLOTS, 576, 0)], false),
+    (
+        "no slot for an inode",
+        &[(SLOTS, 576, 0), (SLOTS, 577, 0)],
+        false,
+    ),
     ("a name twice", &[(SLOTS, 197, b'a')], false),
     // what lies past a file's size means nothing
     ("an octet behind a record", &[(4, 21, 9)], true),
@@ -122,11 +130,8 @@ const ROWS: &[Row] = &[
     ("an octet of a free block", &[(14, 0, 9)], true),
     // names of files
     ("a file of no kind", &[(SLOTS, 577, b'z')], false),
-    (
-        "an expiry named as an article",
-        &[(SLOTS, 577, b'a')],
-        false,
-    ),
+    ("an expiry named as an article", &[(PACK, 1, b'a')], false),
+    ("an expiry named as a group", &[(PACK, 1, b'g')], false),
     (
         "an article named as an expiry",
         &[(SLOTS, 385, b'x')],
@@ -138,11 +143,8 @@ const ROWS: &[Row] = &[
         false,
     ),
     ("an article under a letter", &[(SLOTS, 396, b'c')], false),
-    (
-        "an expiry under another serial",
-        &[(SLOTS, 588, b'7')],
-        false,
-    ),
+    ("an expiry under another serial", &[(PACK, 12, b'7')], false),
+    ("an expiry under a letter", &[(PACK, 12, b'c')], false),
     (
         "a group's record under another name",
         &[(SLOTS, 5, b'z')],
@@ -224,23 +226,199 @@ const ROWS: &[Row] = &[
     ("another length of a line", &[(7, 12, 71)], false),
     ("fewer numbers", &[(INODES, 68, 32)], false),
     // expiries
-    ("another expiry", &[(13, 8, 2)], true),
-    ("an expiry of all", &[(13, 8, 3)], true),
-    ("an expiry of another group", &[(13, 15, b'b')], true),
+    ("another expiry", &[(PACK, 25, 2)], true),
+    ("an expiry of all", &[(PACK, 25, 3)], true),
+    ("an expiry of another group", &[(PACK, 32, b'b')], true),
     (
         "an expiry of a group that isn't here",
-        &[(13, 15, b'z')],
+        &[(PACK, 32, b'z')],
         false,
     ),
-    ("an expiry up to no number", &[(13, 8, 0)], false),
-    ("an expiry above the highest number", &[(13, 8, 4)], false),
-    ("an expiry above all numbers", &[(13, 11, 1)], false),
-    ("another serial of an expiry", &[(13, 0, 7)], false),
+    ("an expiry up to no number", &[(PACK, 25, 0)], false),
+    (
+        "an expiry above the highest number",
+        &[(PACK, 25, 4)],
+        false,
+    ),
+    ("an expiry above all numbers", &[(PACK, 28, 1)], false),
+    ("another serial of an expiry", &[(PACK, 17, 7)], false),
+    (
+        "a longer name of an expiry's group",
+        &[(PACK, 29, 4)],
+        false,
+    ),
+    (
+        "a shorter name of an expiry's group",
+        &[(PACK, 29, 2)],
+        false,
+    ),
+    // lengths in the pack
+    ("a longer name in the pack", &[(PACK, 0, 13)], false),
+    ("a shorter name in the pack", &[(PACK, 0, 11)], false),
+    ("no name in the pack", &[(PACK, 0, 0)], false),
+    ("a longer content in the pack", &[(PACK, 13, 17)], false),
+    ("a shorter content in the pack", &[(PACK, 13, 15)], false),
+    ("no content in the pack", &[(PACK, 13, 0)], false),
+    (
+        "a content that is longer than the volume",
+        &[(PACK, 16, 1)],
+        false,
+    ),
+    (
+        "a pack that ends within its file",
+        &[(INODES, 580, 32)],
+        false,
+    ),
+    (
+        "a pack with an octet after its file",
+        &[(INODES, 580, 34)],
+        false,
+    ),
+    (
+        "a pack with no file",
+        &[(BITMAP, 1, 0x1f), (INODES, 580, 0), (INODES, 588, 0)],
+        false,
+    ),
+    ("an octet behind the pack", &[(PACK, 33, 12)], true),
+];
+
+/// Octets that are written one after the other: their block, the place of the first, and the octets.
+type Piece = (u32, usize, &'static [u8]);
+
+/// The pieces that are written, and whether a spool is then opened.
+type PieceRow = (&'static str, &'static [Piece], bool);
+
+/// Other files in the pack. The second file there begins at 33. Its inode has the size of the pack at 580.
+const PACKS: &[PieceRow] = &[
+    (
+        "no pack, and no expiry",
+        &[
+            (BITMAP, 1, b"\x1f"),
+            (INODES, 576, &[0; 64]),
+            (SLOTS, 576, &[0; 64]),
+        ],
+        true,
+    ),
+    (
+        "an expiry with an inode of its own",
+        &[
+            (SLOTS, 576, b"\x0cx.0000000006"),
+            (INODES, 580, b"\x10"),
+            (PACK, 0, b"\x06\0\0\0\0\0\0\0\x01\0\0\0\x03x.a"),
+        ],
+        true,
+    ),
+    (
+        "a second expiry in the pack",
+        &[
+            (INODES, 580, b"\x42"),
+            (PACK, 33, b"\x0cx.0000000007\x10"),
+            (PACK, 50, b"\x07\0\0\0\0\0\0\0\x01\0\0\0\x03x.b"),
+        ],
+        true,
+    ),
+    (
+        "a later expiry before an earlier one",
+        &[
+            (INODES, 580, b"\x42"),
+            (PACK, 12, b"7"),
+            (PACK, 17, b"\x07"),
+            (PACK, 33, b"\x0cx.0000000006\x10"),
+            (PACK, 50, b"\x06\0\0\0\0\0\0\0\x01\0\0\0\x03x.b"),
+        ],
+        true,
+    ),
+    (
+        "an expiry twice in the pack",
+        &[
+            (INODES, 580, b"\x42"),
+            (PACK, 33, b"\x0cx.0000000006\x10"),
+            (PACK, 50, b"\x06\0\0\0\0\0\0\0\x01\0\0\0\x03x.a"),
+        ],
+        false,
+    ),
+    (
+        "a second expiry that leaves a serial out",
+        &[
+            (INODES, 580, b"\x42"),
+            (PACK, 33, b"\x0cx.0000000008\x10"),
+            (PACK, 50, b"\x08\0\0\0\0\0\0\0\x01\0\0\0\x03x.b"),
+        ],
+        false,
+    ),
+    (
+        "an article in the pack, and no inode of it",
+        &[
+            (BITMAP, 1, b"\x2f"),
+            (INODES, 512, &[0; 64]),
+            (SLOTS, 512, &[0; 64]),
+            (INODES, 580, b"\xdd"),
+            (PACK, 33, b"\x0ca.0000000005\xab"),
+            (
+                PACK,
+                50,
+                b"\x05\0\0\0\0\0\0\0\0\xca\x9a\x3b\0\0\0\0\x92\0\0\0\x01\x03x.a",
+            ),
+            (
+                PACK,
+                75,
+                b"Path: p!not-for-mail\r\nDate: Sun, 09 Sep 2001 01:46:40 +0000\r\n",
+            ),
+            (
+                PACK,
+                136,
+                b"Message-ID: <2@a.example>\r\nFrom: a@example.org\r\n",
+            ),
+            (PACK, 184, b"Newsgroups: x.a\r\nSubject: one\r\n\r\nhi\r\n"),
+        ],
+        true,
+    ),
+    (
+        "an article in the pack, and an inode of it",
+        &[
+            (INODES, 580, b"\xdd"),
+            (PACK, 33, b"\x0ca.0000000005\xab"),
+            (
+                PACK,
+                50,
+                b"\x05\0\0\0\0\0\0\0\0\xca\x9a\x3b\0\0\0\0\x92\0\0\0\x01\x03x.a",
+            ),
+            (
+                PACK,
+                75,
+                b"Path: p!not-for-mail\r\nDate: Sun, 09 Sep 2001 01:46:40 +0000\r\n",
+            ),
+            (
+                PACK,
+                136,
+                b"Message-ID: <2@a.example>\r\nFrom: a@example.org\r\n",
+            ),
+            (PACK, 184, b"Newsgroups: x.a\r\nSubject: one\r\n\r\nhi\r\n"),
+        ],
+        false,
+    ),
+    (
+        "a group's record in the pack, and no inode of it",
+        &[
+            (BITMAP, 0, b"\xdf"),
+            (INODES, 192, &[0; 64]),
+            (SLOTS, 192, &[0; 64]),
+            (INODES, 580, b"\x3c"),
+            (PACK, 33, b"\x05g.x.b\x11"),
+            (PACK, 43, b"\x02\0\0\0\0\0\0\0\0\xca\x9a\x3b\0\0\0\0y"),
+        ],
+        false,
+    ),
 ];
 
 /// The rows, as a function, so that no proof of a test reads them.
 fn rows() -> &'static [Row] {
     ROWS
+}
+
+/// The rows of packs, as a function for the same reason.
+fn packs() -> &'static [PieceRow] {
+    PACKS
 }
 
 /// The changes, as a function for the same reason.
@@ -259,16 +437,43 @@ pub(crate) fn changed(alloc: Global) -> Result<Stored, Fail> {
     Ok(stored)
 }
 
+/// The octets of these pieces.
+fn octets_of(alloc: Global, pieces: &[Piece]) -> Result<Vec<Octet>, AllocError> {
+    let mut octets = Vec::new(alloc);
+    for (block, first, piece) in pieces {
+        for (k, octet) in piece.iter().enumerate() {
+            octets.push((*block, first.saturating_add(k), *octet))?;
+        }
+    }
+    Ok(octets)
+}
+
+/// The refusal that a row wants.
+fn wanted(is_opened: bool) -> Option<ReadSpoolError> {
+    if is_opened {
+        None
+    } else {
+        Some(ReadSpoolError::Damaged)
+    }
+}
+
 #[test]
 fn damage_is_told(rt: HostRuntime) -> Result<(), Fail> {
     let stored = changed(rt.alloc())?;
     for (shows, octets, is_opened) in rows() {
-        let want = if *is_opened {
-            None
-        } else {
-            Some(ReadSpoolError::Damaged)
-        };
+        let want = wanted(*is_opened);
         assert_eq!(rt; stored.refusal(rt.alloc(), octets), want, "{shows}");
+    }
+    Ok(())
+}
+
+#[test]
+fn damage_of_a_pack_is_told(rt: HostRuntime) -> Result<(), Fail> {
+    let stored = changed(rt.alloc())?;
+    for (shows, pieces, is_opened) in packs() {
+        let octets = octets_of(rt.alloc(), pieces)?;
+        let want = wanted(*is_opened);
+        assert_eq!(rt; stored.refusal(rt.alloc(), &octets), want, "{shows}");
     }
     Ok(())
 }

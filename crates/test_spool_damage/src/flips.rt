@@ -46,8 +46,9 @@ const ROWS: &[Row] = &[
     ("behind o.x.b", 11, 75, 20, 209, Wanted::Opened),
     ("a.0000000005", 12, 0, 171, 1, Wanted::Either),
     ("behind a.0000000005", 12, 171, 20, 197, Wanted::Opened),
-    ("x.0000000006", 13, 0, 16, 1, Wanted::Either),
-    ("behind x.0000000006", 13, 16, 20, 211, Wanted::Opened),
+    ("names and lengths in p", 13, 0, 17, 1, Wanted::Damaged),
+    ("x.0000000006 in p", 13, 17, 16, 1, Wanted::Either),
+    ("behind p", 13, 33, 20, 211, Wanted::Opened),
     ("the first free block", 14, 0, 20, 213, Wanted::Opened),
     ("the last block", 1023, 0, 20, 213, Wanted::Opened),
 ];

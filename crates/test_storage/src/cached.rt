@@ -2,9 +2,9 @@
 
 use crate::said::{DONE, MIXED, NO_MEMORY, NOT_ASKED, Said, UNREADABLE, fill_of, of_octets};
 use crate::words::{block_number, octet, octets};
-use blocks::{BLOCK_SIZE, Blocks};
+use fs_blocks::{BLOCK_SIZE, Blocks};
+use journal_volume::{BATCH_BLOCKS, BatchBuf, Volume};
 use std::alloc::{AllocError, Global};
-use volume::{BATCH_BLOCKS, BatchBuf, Volume};
 
 /// The most blocks that a script makes.
 const MOST_BLOCKS: u64 = 65_536;

@@ -3,9 +3,9 @@
 use crate::said::{DONE, NO_MEMORY, NOT_ASKED, Said, UNREADABLE, of_device};
 use crate::words::{octet, picks};
 use disk::{Disk, DiskCall, Faults};
-use gates::write_gates_back;
-use memdisk::MemDisk;
-use octet_numbers::zeros;
+use disk_memory::MemDisk;
+use disk_numbers::zeros;
+use journal_gates::write_gates_back;
 use std::alloc::Global;
 
 /// Octets of a block.

@@ -7,10 +7,10 @@ use crate::said::{
 };
 use crate::words::{block_numbers, octet};
 use disk::DiskCall;
+use disk_memory::MemDisk;
 use journal::{Journal, Progress};
-use memdisk::MemDisk;
+use journal_layout::{are_below, are_distinct};
 use std::alloc::{AllocError, Global};
-use volume_format::{are_below, are_distinct};
 
 /// Octets of a block.
 const BLOCK: usize = 4096;
@@ -28,7 +28,7 @@ const SIX: &[u32] = &[5, 700, 21, 0, 23, 24];
 /// - `block N..`: the octets that fill these blocks
 /// - `first N`: the first octet of a block
 /// - `format`: the number of the format
-/// - `upgrade`: makes a volume of format 1 one of format 2
+/// - `upgrade`: makes a volume of format 1 or 2 one of format 3
 /// - `fail N` and its like, as of a device
 pub fn call_journal(
     alloc: Global,
@@ -99,7 +99,7 @@ fn steps(journal: &mut Journal<MemDisk>, count: u64) -> Said {
 }
 
 fn upgrade(journal: &mut Journal<MemDisk>) -> Said {
-    if !journal.is_idle() || journal.format_number() != 1 {
+    if !journal.is_idle() || journal.format_number() == 3 {
         return NOT_ASKED;
     }
     of_journal(journal.upgrade())

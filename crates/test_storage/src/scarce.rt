@@ -1,7 +1,7 @@
 //! A device in memory that can be made to refuse a write for want of memory.
 
 use disk::{Disk, DiskError};
-use memdisk::MemDisk;
+use disk_memory::MemDisk;
 
 /// A device in memory, and which write from now on is refused, counted from 1; 0 for none.
 #[derive(Drop)]
@@ -12,7 +12,7 @@ pub struct Scarce {
 
 impl Disk for Scarce {
     ghost use Rattle.std.specs.Prelude.{false, true};
-    ghost use Rattle.memdisk.specs.MemDisk.{counts_content, memory_device};
+    ghost use Rattle.disk_memory.specs.MemDisk.{counts_content, memory_device};
 
     ghost device = { λ s. memory_device s.disk };
 

@@ -9,16 +9,16 @@ use crate::journals::call_journal;
 use crate::said::{DONE, NO_MEMORY, NOT_ASKED, Said, UNREADABLE, of_device, refused};
 use crate::scarce::Scarce;
 use crate::words::pick;
-use gates::write_gates_back;
+use disk_cache::WCache;
+use disk_memory::{MemDisk, Pick};
 use journal::Journal;
-use memdisk::{MemDisk, Pick};
+use journal_gates::write_gates_back;
+use journal_layout::format_with;
+use journal_loading::LoadError;
+use journal_volume::Volume;
 use std::alloc::Global;
 use std::marker::Model;
 use std::mem::replace;
-use volume::Volume;
-use volume_format::format_with;
-use volume_loading::LoadError;
-use wcache::WCache;
 
 /// The logical blocks of a volume.
 const BLOCKS: u64 = 1024;
@@ -27,7 +27,7 @@ const BLOCKS: u64 = 1024;
 const BLOCK: usize = 4096;
 
 /// The format of a volume.
-const FORMAT: u32 = 2;
+const FORMAT: u32 = 3;
 
 /// What there is.
 #[derive(Drop)]
@@ -278,7 +278,7 @@ fn loaded(alloc: Global, mut journal: Journal<MemDisk>) -> (State, Said) {
     if !journal.is_idle() {
         return (State::Open(journal), NOT_ASKED);
     }
-    match volume_loading::open(alloc, &mut journal) {
+    match journal_loading::open(alloc, &mut journal) {
         Ok(volume) => (State::Blocks(volume), DONE),
         Err(error) => (State::Open(journal), Said::Word(not_loaded(error))),
     }

@@ -1,6 +1,6 @@
 //! What the numbers of a line stand for.
 
-use memdisk::Pick;
+use disk_memory::Pick;
 use std::alloc::Global;
 
 /// What a crash leaves of an octet is a number, too: the octet itself, or one of two greater numbers.

@@ -47,7 +47,7 @@ pub fn batches() -> &'static [Part] {
 
 const SETTLING: &[Part] = &[Part::Settle];
 
-/// The images of all batches are carried home after them, and the gates are closed.
+/// The images of all batches are carried home after them, and the segments are closed.
 pub fn settling() -> &'static [Part] {
     SETTLING
 }

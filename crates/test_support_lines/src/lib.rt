@@ -3,7 +3,7 @@
 
 ghost use Rattle.std.specs.Prelude.{◌≡◌, ◌+◌, ◌≤◌, ◌<◌, ◌++◌, length, replicate, vec_len, vec_capacity};
 
-use outbox::{Lines, Queue, RELEASE_OCTETS, ReadyBuf, Source};
+use kernel_outbox::{Lines, Queue, RELEASE_OCTETS, ReadyBuf, Source};
 
 /// The octet that lines are made of.
 const OCTET: u8 = b'l';

@@ -10,4 +10,4 @@ mod stops;
 pub use callers::{Caller, fill};
 pub use sides::Side;
 pub use stages::{GREETING, REPLIES, Session, Stage, Store, make_store, moment};
-pub use stops::{PAUSE_MILLIS, Point, Stop, StopGate, pause, wait_for};
+pub use stops::{PAUSE_MILLIS, Point, Stop, StopHooks, pause, wait_for};

@@ -1,18 +1,18 @@
 //! A kernel under its lock, before and after whose calls a thread stops.
 
 use crate::stops::{Point, Stop};
-use expiring::{AgedGroup, GonePart};
-use locked_kernel::Locked;
-use model::{Message, Mode, Moment, Text};
-use names::{GroupName, GroupRequest, Wildmat};
-use outbox::ReadyBuf;
-use shared_kernel::{
+use journal_volume::BatchBuf;
+use kernel_expiring::{AgedGroup, GonePart};
+use kernel_locked::Locked;
+use kernel_outbox::ReadyBuf;
+use kernel_shared::{
     AdminError, ExecError, ExecOutcome, ExpireError, JoinError, Kern, KernelCounts, Obstacle,
     Receipt, Stale, Ticket,
 };
+use model::{Message, Mode, Moment, Text};
 use std::alloc::Global;
 use std::sync::Wait;
-use volume::BatchBuf;
+use text_names::{GroupName, GroupRequest, Wildmat};
 
 /// The kernel of a play.
 #[derive(Drop)]

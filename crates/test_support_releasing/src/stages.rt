@@ -3,23 +3,25 @@
 ghost use Rattle.std.specs.Prelude.{◌≡◌, IfSome};
 
 use crate::callers::Caller;
-use flusher::commit_batch;
+use disk_memory::MemDisk;
 use journal::Journal;
+use journal_volume::BatchBuf;
 use kernel::Kernel;
-use locked_kernel::Locked;
-use memdisk::MemDisk;
-use metrics::LongestTime;
+use kernel_locked::Locked;
+use kernel_shared::{Asked, Asking, Bells, Closing, Hooks, Kern, Receipt, SESSIONS, Ticket};
 use model::{Message, Moment, Status, Text};
-use names::{Description, GroupName, GroupRequest, is_host};
-use new_volume::{FORMAT_2, VolumePlan, are_sizes, device_octets, format};
-use releasing::{Limits, ReplyWriter, Shared, TakenBack, Untold, Writers, give_short_writes};
-use roster::Guest;
-use shared_kernel::{Asked, Asking, Bells, Closing, Gate, Kern, Receipt, SESSIONS, Ticket};
+use server_flusher::commit_batch;
+use server_metrics::LongestTime;
+use server_releasing::{
+    Limits, ReplyWriter, Shared, TakenBack, Untold, Writers, give_short_writes,
+};
+use server_roster::Guest;
 use std::alloc::{AllocError, Global};
 use std::net::{Net, TcpListener, TcpStream};
 use std::sync::{Arc, Mutex, Wait};
 use std::time::Clock;
-use volume::BatchBuf;
+use text_names::{Description, GroupName, GroupRequest, is_host};
+use volume_new::{FORMAT_3, VolumePlan, are_sizes, device_octets, format};
 
 /// The host of the volumes.
 const HOST: &[u8] = b"news.example";
@@ -89,17 +91,17 @@ impl Stage {
         self.writers.get(0)
     }
 
-    pub fn shared<'a, R, K, G>(
+    pub fn shared<'a, R, K, H>(
         &'a self,
         rt: &'a R,
         kern: &'a K,
-        gate: &'a G,
-    ) -> Shared<'a, R, K, G> {
+        hooks: &'a H,
+    ) -> Shared<'a, R, K, H> {
         Shared {
             rt,
             alloc: self.alloc,
             kern,
-            gate,
+            hooks,
             bells: &self.bells,
             writers: &self.writers,
             closing: &self.closing,
@@ -143,7 +145,7 @@ fn new_kernel(alloc: Global, blocks: u64, inodes: u64) -> Option<(Kernel, Journa
         host: HOST,
         blocks,
         inodes,
-        format: FORMAT_2,
+        format: FORMAT_3,
     };
     let disk = MemDisk::new(alloc, device_octets(plan.blocks)).ok()?;
     let Ok(disk) = format(alloc, disk, &plan) else {
@@ -198,15 +200,15 @@ fn written<R: Wait>(
 }
 
 /// The server's side of a play.
-pub struct Session<'a, R, K, G> {
-    pub shared: &'a Shared<'a, R, K, G>,
+pub struct Session<'a, R, K, H> {
+    pub shared: &'a Shared<'a, R, K, H>,
     pub stage: &'a Stage,
     pub writer: &'a ReplyWriter,
     pub journal: &'a Mutex<Journal<MemDisk>>,
     pub batch: &'a Mutex<BatchBuf>,
 }
 
-impl<'a, R, K, G> Drop for Session<'a, R, K, G> {
+impl<'a, R, K, H> Drop for Session<'a, R, K, H> {
     fn drop(self) {
         let Session {
             shared: _,
@@ -218,7 +220,7 @@ impl<'a, R, K, G> Drop for Session<'a, R, K, G> {
     }
 }
 
-impl<'a, R: Wait + Clock, K: Kern, G: Gate> Session<'a, R, K, G> {
+impl<'a, R: Wait + Clock, K: Kern, H: Hooks> Session<'a, R, K, H> {
     pub fn rt(&self) -> &R {
         self.shared.rt
     }

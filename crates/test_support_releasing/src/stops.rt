@@ -1,6 +1,6 @@
 //! Where a thread stops to wait for another.
 
-use shared_kernel::Gate;
+use kernel_shared::Hooks;
 use std::sync::Wait;
 use std::sync::atomic::{AtomicBool, Ordering};
 use std::thread::Parker;
@@ -102,19 +102,19 @@ impl Stop {
     }
 }
 
-/// A gate with that stop.
-pub struct StopGate<'a, R> {
+/// Hooks with that stop.
+pub struct StopHooks<'a, R> {
     pub rt: &'a R,
     pub stop: &'a Stop,
 }
 
-impl<'a, R> Drop for StopGate<'a, R> {
+impl<'a, R> Drop for StopHooks<'a, R> {
     fn drop(self) {
-        let StopGate { rt: _, stop: _ } = self;
+        let StopHooks { rt: _, stop: _ } = self;
     }
 }
 
-impl<'a, R: Wait> Gate for StopGate<'a, R> {
+impl<'a, R: Wait> Hooks for StopHooks<'a, R> {
     fn before_flush(&self) {}
 
     fn after_flush(&self) {}

@@ -1,18 +1,18 @@
 //! A kernel two of whose calls a test can refuse.
 
-use expiring::{AgedGroup, GonePart};
+use journal_volume::BatchBuf;
 use kernel::Kernel;
-use locked_kernel::Locked;
-use model::{Message, Mode, Moment, Text};
-use names::{GroupName, GroupRequest, Wildmat};
-use outbox::ReadyBuf;
-use shared_kernel::{
+use kernel_expiring::{AgedGroup, GonePart};
+use kernel_locked::Locked;
+use kernel_outbox::ReadyBuf;
+use kernel_shared::{
     AdminError, ExecError, ExecOutcome, ExpireError, JoinError, Kern, KernelCounts, Obstacle,
     Receipt, Stale, Ticket,
 };
+use model::{Message, Mode, Moment, Text};
 use std::alloc::Global;
 use std::sync::Wait;
-use volume::BatchBuf;
+use text_names::{GroupName, GroupRequest, Wildmat};
 
 /// What a test has a kernel refuse.
 pub trait Hooks {

@@ -4,15 +4,15 @@ ghost use Rattle.std.specs.Prelude.{◌≡◌};
 ghost use Rattle.journal.specs.Journal.{IsIdle};
 
 use crate::volumes::{HOST, INODES, add_group};
-use counting::Counts;
 use disk::{Disk, DiskCall, Faults};
-use flusher::{TurnSeat, flush_turn};
+use disk_file::Counts;
 use journal::Journal;
-use logging::{Log, Verbosity, beginning_of_1970};
-use mark::{FlushSeat, Mark, Seat};
-use new_volume::FORMAT_2;
+use journal_volume::BatchBuf;
+use kernel_shared::{Hooks, Kern, KernelCounts, NoHooks, SESSIONS};
 use server::{Limits, MetricsFile, ServeError, Server, serve};
-use shared_kernel::{Gate, Kern, KernelCounts, NoGate, SESSIONS};
+use server_flusher::{TurnSeat, flush_turn};
+use server_logging::{Log, Verbosity, beginning_of_1970};
+use server_mark::{FlushSeat, Mark, Seat};
 use std::alloc::{AllocError, Global};
 use std::fs::File;
 use std::io::{self, BufRead, Write};
@@ -21,8 +21,8 @@ use std::rt::Files;
 use std::sync::{Arc, Wait};
 use std::thread::Threads;
 use std::time::Clock;
-use usage::{BitmapMarks, Tally, VolumeFacts};
-use volume::BatchBuf;
+use volume_new::FORMAT_3;
+use volume_usage::{BitmapMarks, Tally, VolumeFacts};
 
 /// A server that is about to serve a volume.
 #[derive(Drop)]
@@ -38,21 +38,21 @@ pub struct Stage<'a, D: Disk, K> {
 }
 
 /// How a volume is served.
-pub struct Setting<'a, G> {
+pub struct Setting<'a, H> {
     pub listeners: &'a [TcpListener],
     pub log: &'a Log,
-    pub gate: &'a G,
+    pub hooks: &'a H,
     /// The logical blocks that the server takes the volume to have.
     pub blocks: u64,
     pub limits: Limits,
 }
 
-impl<'a, G> Drop for Setting<'a, G> {
+impl<'a, H> Drop for Setting<'a, H> {
     fn drop(self) {
         let Setting {
             listeners: _,
             log: _,
-            gate: _,
+            hooks: _,
             blocks: _,
             limits: _,
         } = self;
@@ -123,7 +123,7 @@ impl<'a, D: Disk + Drop + Send, K: Kern + Sync + Drop> Stage<'a, D, K> {
             mark,
             &mut flush_seat,
             &mut batch,
-            &NoGate,
+            &NoHooks,
         ) else {
             return None;
         };
@@ -147,10 +147,10 @@ impl<'a, D: Disk + Drop + Send, K: Kern + Sync + Drop> Stage<'a, D, K> {
             + Send
             + Sync
             + 'static,
-        G: Gate + Sync,
+        H: Hooks + Sync,
         L: BufRead + Send + Drop + 'static,
         A: Write + Send + Drop + 'static,
-    >(self, rt: &R, alloc: Global, setting: Setting<'_, G>, (lines, answers): (L, A)) -> Served {
+    >(self, rt: &R, alloc: Global, setting: Setting<'_, H>, (lines, answers): (L, A)) -> Served {
         let Stage {
             journal,
             kern,
@@ -176,7 +176,7 @@ impl<'a, D: Disk + Drop + Send, K: Kern + Sync + Drop> Stage<'a, D, K> {
             host: HOST,
             blocks: setting.blocks,
             tally: &tally,
-            gate: setting.gate,
+            hooks: setting.hooks,
             limits: setting.limits,
         };
         let ended = serve_parts(rt, alloc, parts, lines, answers);
@@ -189,7 +189,7 @@ impl<'a, D: Disk + Drop + Send, K: Kern + Sync + Drop> Stage<'a, D, K> {
 
 /// The parts of a server.
 #[derive(Drop)]
-struct Parts<'a, D: Disk, K, G> {
+struct Parts<'a, D: Disk, K, H> {
     listeners: &'a [TcpListener],
     log: &'a Log,
     journal: Journal<D>,
@@ -200,7 +200,7 @@ struct Parts<'a, D: Disk, K, G> {
     host: &'a [u8],
     blocks: u64,
     tally: &'a Tally,
-    gate: &'a G,
+    hooks: &'a H,
     limits: Limits,
     ghost idle: { IsIdle journal },
     ghost flushes: { flush_seat.mark ≡ mark.now },
@@ -220,13 +220,13 @@ fn serve_parts<
         + 'static,
     D: Disk + Drop + Send,
     K: Kern + Sync,
-    G: Gate + Sync,
+    H: Hooks + Sync,
     L: BufRead + Send + Drop + 'static,
     A: Write + Send + Drop + 'static,
 >(
     rt: &R,
     alloc: Global,
-    parts: Parts<'_, D, K, G>,
+    parts: Parts<'_, D, K, H>,
     lines: L,
     answers: A,
 ) -> Result<(), ServeError> {
@@ -241,12 +241,12 @@ fn serve_parts<
         host,
         blocks,
         tally,
-        gate,
+        hooks,
         limits,
     } = parts;
     let facts = VolumeFacts {
         host,
-        format: FORMAT_2,
+        format: FORMAT_3,
         blocks,
         inodes: INODES,
     };
@@ -267,7 +267,7 @@ fn serve_parts<
         marks: BitmapMarks::none(),
         tally,
         newest: beginning_of_1970(),
-        gate,
+        hooks,
         limits,
         metrics: for_nobody(),
     };

@@ -4,15 +4,15 @@ ghost use Rattle.std.specs.Prelude.{IfSome};
 ghost use Rattle.journal.specs.Journal.{IsReady};
 
 use disk::Disk;
+use disk_memory::MemDisk;
 use journal::Journal;
 use kernel::Kernel;
-use memdisk::MemDisk;
+use kernel_shared::{Kern, SESSIONS};
 use model::{Moment, Status};
-use names::{Description, GroupName, GroupRequest, is_host};
-use new_volume::{FORMAT_2, VolumePlan, are_sizes, device_octets, format};
-use shared_kernel::{Kern, SESSIONS};
 use std::alloc::Global;
 use std::sync::Wait;
+use text_names::{Description, GroupName, GroupRequest, is_host};
+use volume_new::{FORMAT_3, VolumePlan, are_sizes, device_octets, format};
 
 /// The host of the volumes, their logical blocks and their inodes.
 pub(crate) const HOST: &[u8] = b"news.example";
@@ -33,7 +33,7 @@ fn plan() -> Option<VolumePlan<'static>> {
         host: HOST,
         blocks: BLOCKS,
         inodes: INODES,
-        format: FORMAT_2,
+        format: FORMAT_3,
     })
 }
 

@@ -2,8 +2,8 @@
 
 use crate::changing::MOMENT;
 use crate::sent::Sent;
-use lookups::LookUps;
 use model::{Change, Names, Status, Text};
+use session_lookups::LookUps;
 use spool::Spool;
 use std::alloc::{AllocError, Global};
 

@@ -3,14 +3,14 @@
 ghost use Rattle.model.specs.Lawful.{MayAwait};
 
 use crate::sent::Sent;
-use lookups::LookUps;
+use kernel_outbox::{Outgoing, Queue, ReadyBuf};
 use model::{Awaits, Mark, Message, Moment, Session, Status, Text};
-use names::{Description, GroupName, GroupRequest, NameError, is_of_host, number_of};
-use outbox::{Outgoing, Queue, ReadyBuf};
 use session::{Received, Served, serve};
+use session_lookups::LookUps;
 use spool::{AddError, ExpireError, Spool};
 use std::alloc::{AllocError, Global};
 use test_support_lines::give;
+use text_names::{Description, GroupName, GroupRequest, NameError, is_of_host, number_of};
 
 /// When everything is made, in seconds since 1970.
 pub const MOMENT: u64 = 1_000_000_000;
@@ -135,7 +135,7 @@ fn said(alloc: Global, served: Served) -> Result<Filed, AllocError> {
 fn code_of(alloc: Global, reply: Outgoing) -> Result<Option<u64>, AllocError> {
     let mut queue = Queue::new(alloc);
     queue.reserve(1)?;
-    // its clauses state that a reply has fewer than 2^63 octets
+    // for the proof: a reply has fewer than 2^63 octets
     let _octets = reply.len();
     queue.push(reply, 0, false);
     let mut ready = ReadyBuf::new(alloc)?;

@@ -1,11 +1,11 @@
 //! Look-ups in a spool. Each call checks its own preconditions, and has no contract.
 
-use lookups::{LookUps, counts_of, find_id};
+use kernel_outbox::{LONGEST_LINE, RELEASE_OCTETS, Source};
 use model::Part;
-use names::is_wildmat;
-use outbox::{LONGEST_LINE, RELEASE_OCTETS, Source};
+use session_lookups::{LookUps, counts_of, find_id};
 use spool::Spool;
 use std::alloc::{AllocError, Global};
+use text_names::is_wildmat;
 
 /// The octets of the line that ends a block.
 const END_OF_BLOCK: usize = 3;

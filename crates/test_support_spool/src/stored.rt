@@ -3,19 +3,19 @@
 ghost use Rattle.std.specs.Prelude.{IsTrue};
 ghost use Rattle.model.specs.Files.{HasRoom};
 
-use blocks::{BLOCK_SIZE, Blocks};
+use fs_blocks::{BLOCK_SIZE, Blocks};
+use journal_volume::{BATCH_BLOCKS, BatchBuf, Volume};
 use model::Text;
-use names::is_host;
 use spool::Spool;
 use spool_reading::ReadSpoolError;
 use std::alloc::{AllocError, Global};
-use volume::{BATCH_BLOCKS, BatchBuf, Volume};
+use text_names::is_host;
 
 /// The inodes of the volumes that are tested.
 pub const INODES: u32 = 64;
 
 /// The format of the volumes that are tested.
-const FORMAT: u32 = 2;
+const FORMAT: u32 = 3;
 
 /// The blocks of the volumes that are tested.
 pub const COUNT: u32 = 1024;

@@ -2,9 +2,9 @@
 
 use crate::errors::SimError;
 use disk::Disk;
-use memdisk::MemDisk;
+use disk_memory::MemDisk;
+use journal_layout::layout::BLOCK;
 use std::alloc::Global;
-use volume_format::layout::BLOCK;
 
 /// Room for a block of each of two devices.
 #[derive(Drop)]

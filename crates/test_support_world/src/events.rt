@@ -2,9 +2,9 @@
 
 use crate::errors::SimError;
 use model::{Change, Mark};
-use script::{Line, ParseError, parse};
+use program_script::{Line, ParseError, parse};
 use std::alloc::{AllocError, Global};
-use world::{Entry, Event, Happened, StepAnswer, StepError};
+use world::{Entry, Event, Happened, Outcome, StepAnswer, StepError};
 
 /// A line of a script, and its answer.
 pub type Row = (&'static str, &'static str);
@@ -39,6 +39,16 @@ fn event_of(line: Line) -> Result<Event, SimError> {
     }
 }
 
+/// What a served message got, in words.
+fn served_text(alloc: Global, outcome: Outcome) -> Result<String, AllocError> {
+    let next = outcome.next;
+    match outcome.mark {
+        Mark::Served => format!(in alloc; "served, {next:?} is next"),
+        Mark::Stopped => format!(in alloc; "stopped, {next:?} is next"),
+        _ => String::from_str(alloc, "full"),
+    }
+}
+
 /// An answer in words.
 pub(crate) fn said(
     alloc: Global,
@@ -48,13 +58,7 @@ pub(crate) fn said(
         Ok(StepAnswer::Done) => String::from_str(alloc, "done"),
         Ok(StepAnswer::Joined(number)) => format!(in alloc; "joined {number}"),
         Ok(StepAnswer::Served(None)) => String::from_str(alloc, "no message"),
-        Ok(StepAnswer::Served(Some((next, Mark::Served)))) => {
-            format!(in alloc; "served, {next:?} is next")
-        }
-        Ok(StepAnswer::Served(Some((next, Mark::Stopped)))) => {
-            format!(in alloc; "stopped, {next:?} is next")
-        }
-        Ok(StepAnswer::Served(Some(_))) => String::from_str(alloc, "full"),
+        Ok(StepAnswer::Served(Some(outcome))) => served_text(alloc, outcome),
         Ok(StepAnswer::Made(serial)) => format!(in alloc; "made {serial}"),
         Ok(StepAnswer::Took(last)) => format!(in alloc; "took {last:?}"),
         Ok(StepAnswer::Progressed(progress)) => format!(in alloc; "{progress:?}"),

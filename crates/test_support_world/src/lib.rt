@@ -8,8 +8,8 @@ mod events;
 mod sealed;
 
 pub use disk::DiskCall;
+pub use disk_memory::Pick;
 pub use errors::SimError;
 pub use events::Row;
-pub use memdisk::Pick;
 pub use sealed::{Device, NotOpened, Sim};
 pub use world::OpenError;

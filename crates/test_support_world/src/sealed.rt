@@ -4,15 +4,15 @@ use crate::copying::Room;
 use crate::errors::SimError;
 use crate::events::{event, said, traced};
 use disk::{Disk, DiskCall, Faults};
-use lookups::LookUps;
-use memdisk::{MemDisk, Pick};
+use disk_memory::{MemDisk, Pick};
+use journal_layout::layout::BLOCK;
+use kernel_shared::SESSIONS;
 use model::Part;
-use names::is_host;
-use new_volume::{FORMAT_2, VolumePlan, are_sizes, device_octets, format};
-use shared_kernel::SESSIONS;
+use session_lookups::LookUps;
 use std::alloc::Global;
 use std::marker::Model;
-use volume_format::layout::BLOCK;
+use text_names::is_host;
+use volume_new::{FORMAT_3, VolumePlan, are_sizes, device_octets, format};
 use world::{Event, OpenError, Refused, StepAnswer, StepError, World};
 
 /// The logical blocks of the device.
@@ -114,7 +114,7 @@ fn plan(blocks: u64) -> Option<VolumePlan<'static>> {
         host: HOST,
         blocks,
         inodes: INODES,
-        format: FORMAT_2,
+        format: FORMAT_3,
     })
 }
 

@@ -1,11 +1,11 @@
 //! Articles: why a text is not one, its parts, what is stored of it, and its overview line.
 
 use crate::moments::moment_at;
-use article::{Article, Origin, ReadError};
-use names::is_host;
-use overview::line;
 use std::alloc::Global;
 use test_support_data::{Answer, Area, Arguments, RowError};
+use text_article::{Article, Origin, ReadError};
+use text_names::is_host;
+use text_overview::line;
 
 /// The host to which texts are posted.
 const HOST: &[u8] = b"news.example";

@@ -1,8 +1,8 @@
 //! Batches of rnews, however they are cut into pieces, and line ends.
 
-use rnews::{BatchError, BatchReader, BatchRefusal, TEXT_LIMIT, entry, with_crlf, with_lf};
 use std::alloc::Global;
 use test_support_data::{Answer, Area, Arguments, RowError};
+use text_rnews::{BatchError, BatchReader, BatchRefusal, TEXT_LIMIT, entry, with_crlf, with_lf};
 
 #[derive(Drop)]
 pub struct Batches;

@@ -1,8 +1,8 @@
 //! The outputs of all sessions, by their numbers.
 
 use crate::released::answer_entries;
-use outbox::ReadyBuf;
-use outboxes::Outbox;
+use kernel_outbox::ReadyBuf;
+use kernel_outboxes::Outbox;
 use std::alloc::{AllocError, Global};
 use test_support_data::{Answer, Area, Arguments, RowError};
 

@@ -1,10 +1,12 @@
 //! Which texts are networks and endpoints, which callers networks hold, who may call, who gets a seat, and for whom a
 //! proxy connects.
 
-use networks::{Guest, Guests, Network, NoSeat, Proxied, may_call, read_endpoint, read_proxy_line};
 use std::alloc::Global;
 use std::net::IpAddr;
 use test_support_data::{Answer, Area, Arguments, RowError};
+use text_networks::{
+    Guest, Guests, Network, NoSeat, Proxied, may_call, read_endpoint, read_proxy_line,
+};
 
 #[derive(Drop)]
 pub struct Callers;

@@ -1,7 +1,7 @@
 //! What command lines are read as.
 
-use grammar::read;
 use model::{Command, Listing, Parsed, Part, Range, Selector, Text, Wanted};
+use session_grammar::read;
 use std::alloc::{AllocError, Global};
 use test_support_data::{Answer, Area, Arguments, RowError};
 

@@ -2,7 +2,7 @@
 
 use crate::moments::moment_at;
 use model::{Envelope, Names, Status, Text};
-use records::{
+use spool_records::{
     ArticleRecord, FileKind, article_record, expiry_record, file_name, group_record, kind_of,
     number_record, read_article, read_expiry, read_group, serial_digits, serial_of,
 };

@@ -2,17 +2,17 @@
 
 ghost use Rattle.std.specs.Prelude.{◌^◌, map};
 ghost use Rattle.std.specs.Bool.{OnTrue};
-ghost use Rattle.index_groups.specs.Filing.{EndBelow};
-ghost use Rattle.index_groups.specs.Shown.{shown};
+ghost use Rattle.spool_groups.specs.Filing.{EndBelow};
+ghost use Rattle.spool_groups.specs.Shown.{shown};
 
 use crate::files::read_names;
 use crate::moments::moment_at;
-use index::{Index, Note};
-use index_groups::Group;
 use model::{Envelope, Names, Status, Text};
-use names::is_wildmat;
+use spool_groups::Group;
+use spool_index::{Index, Note};
 use std::alloc::{AllocError, Global};
 use test_support_data::{Answer, Area, Arguments, RowError};
+use text_names::is_wildmat;
 
 /// When the groups and articles were made for which a row names no moment, in seconds since 1970.
 const MOMENT: u64 = 1_000_000_000;

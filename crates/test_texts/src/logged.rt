@@ -1,7 +1,7 @@
 //! The line of each event of the log.
 
 use crate::moments::moment_at;
-use logging::{
+use server_logging::{
     Cause, EndedSession, Ending, LogEntry, LogEvent, OpeningStep, PostRefusal, RefusedCallers,
     RefusedPost, SessionCounts, SessionRefusal, TakenPost, UsedPart, line,
 };
@@ -147,7 +147,6 @@ fn ending_of(word: &str) -> Result<Ending, RowError> {
         "Stalled" => Ok(Ending::Stalled),
         "Failed" => Ok(Ending::Failed),
         "Http" => Ok(Ending::Http),
-        "Full" => Ok(Ending::Full),
         "Memory" => Ok(Ending::Memory),
         "Stopped" => Ok(Ending::Stopped),
         _ => Err(RowError::Unreadable),
@@ -199,7 +198,6 @@ fn cause_of(word: &str) -> Result<PostRefusal, RowError> {
         "Closed" => Ok(PostRefusal::Closed),
         "OtherId" => Ok(PostRefusal::OtherId),
         "Full" => Ok(PostRefusal::Full),
-        "Reserve" => Ok(PostRefusal::Reserve),
         "Memory" => Ok(PostRefusal::Memory),
         "Stopped" => Ok(PostRefusal::Stopped),
         _ => Err(RowError::Unreadable),

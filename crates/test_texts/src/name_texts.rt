@@ -2,13 +2,13 @@
 
 use crate::moments::moment_at;
 use model::Range;
-use names::{
+use std::alloc::Global;
+use test_support_data::{Answer, Area, Arguments, RowError};
+use text_dates::{SinceError, date_header, date_reply, read_since};
+use text_names::{
     Description, GroupName, MessageId, NameError, Wildmat, is_description, is_group_name, is_host,
     is_message_id, is_of_host, is_wildmat, number_of, range_of,
 };
-use stamp::{SinceError, date_header, date_reply, read_since};
-use std::alloc::Global;
-use test_support_data::{Answer, Area, Arguments, RowError};
 
 /// When dates with a year of two digits are read, in seconds since 1970.
 const NOW: u64 = 1_000_000_000;

@@ -1,7 +1,7 @@
 //! The queues of sessions 1 and 2.
 
 use crate::released::{answer_edges, answer_entries};
-use outbox::{Lines, Outgoing, Queue, ReadyBuf};
+use kernel_outbox::{Lines, Outgoing, Queue, ReadyBuf};
 use std::alloc::{AllocError, Global};
 use test_support_data::{Answer, Area, Arguments, RowError};
 

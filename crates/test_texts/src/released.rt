@@ -1,6 +1,6 @@
 //! What a release hands out.
 
-use outbox::ReadyBuf;
+use kernel_outbox::ReadyBuf;
 use std::alloc::AllocError;
 use test_support_data::Answer;
 

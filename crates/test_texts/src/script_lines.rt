@@ -1,7 +1,7 @@
 //! How the lines of a script are read, and how octets are printed.
 
 use model::Status;
-use script::{Line, ParseError, days, escaped, number, parse};
+use program_script::{Line, ParseError, days, escaped, number, parse};
 use std::alloc::{AllocError, Global};
 use test_support_data::{Answer, Area, Arguments, RowError};
 
@@ -108,6 +108,7 @@ fn word_of(line: &Line) -> &'static str {
         Line::FailAt(_) => "FailAt",
         Line::FailKind(..) => "FailKind",
         Line::Crash(_) => "Crash",
+        Line::Renew => "Renew",
         Line::Spool => "Spool",
     }
 }

@@ -2,9 +2,9 @@
 
 use crate::files::status_of;
 use model::Text;
-use reporting::{Gone, GroupStatus, Share, VolumeStatus, json_text, table_text};
 use std::alloc::Global;
 use test_support_data::{Answer, Area, Arguments, RowError};
+use volume_states::{Gone, GroupStatus, Share, VolumeStatus, json_text, table_text};
 
 /// The state of a volume, once a row has said it.
 #[derive(Drop)]

@@ -2,9 +2,9 @@
 
 ghost use Rattle.std.specs.Prelude.{◌≡◌};
 
-use framing::{Message, Mode, Reader, stuff};
 use std::alloc::{AllocError, Global};
 use test_support_data::{Answer, Area, Arguments, RowError};
+use text_framing::{Message, Mode, Reader, stuff};
 
 /// The most octets that may be held after each arrival.
 const HELD_LIMIT: usize = 4_096;

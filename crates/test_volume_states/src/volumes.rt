@@ -3,14 +3,13 @@
 ghost use Rattle.std.specs.Prelude.{IsTrue};
 ghost use Rattle.model.specs.Files.{HasRoom};
 
-use blocks::{BLOCK_SIZE, Blocks};
-use reporting::VolumeStatus;
+use fs_blocks::{BLOCK_SIZE, Blocks};
+use journal_volume::{BATCH_BLOCKS, BatchBuf, Volume};
 use spool_reading::ReadSpoolError;
 use std::alloc::Global;
 use std::test::Fail;
 use test_support_spool::{Answer, Call, Stored, make};
-use volume::{BATCH_BLOCKS, BatchBuf, Volume};
-use volume_states::volume_status;
+use volume_states::{VolumeStatus, volume_status};
 
 /// The inodes and the blocks of the volumes of `Stored`.
 const INODES: u32 = 64;

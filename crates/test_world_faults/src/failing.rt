@@ -196,32 +196,32 @@ fn first_lost(
     Ok(None)
 }
 
-// the images of eight batches, 46 in all, their descriptors and gates, the images carried home, and the gates closed
+// the images of eight batches, 46 in all, their descriptors and gates, the images carried home, and the epoch
 #[test]
 fn a_fault_at_each_write(rt: HostRuntime) -> Result<(), Fail> {
-    let lost = first_lost(rt.alloc(), Counted::Batches, DiskCall::Write, 116)?;
+    let lost = first_lost(rt.alloc(), Counted::Batches, DiskCall::Write, 109)?;
     assert!(rt; lost.is_none(), "{lost:?}");
     Ok(())
 }
 
-// two for each batch, one for the images at home, one for each gate, and the one of the opening
+// two for each batch, one for the images at home, one for the epoch, and the one of the opening
 #[test]
 fn a_fault_at_each_sync(rt: HostRuntime) -> Result<(), Fail> {
-    let lost = first_lost(rt.alloc(), Counted::Batches, DiskCall::Sync, 26)?;
+    let lost = first_lost(rt.alloc(), Counted::Batches, DiskCall::Sync, 19)?;
     assert!(rt; lost.is_none(), "{lost:?}");
     Ok(())
 }
 
 #[test]
 fn a_fault_at_each_write_of_an_opening(rt: HostRuntime) -> Result<(), Fail> {
-    let lost = first_lost(rt.alloc(), Counted::Opening, DiskCall::Write, 54)?;
+    let lost = first_lost(rt.alloc(), Counted::Opening, DiskCall::Write, 47)?;
     assert!(rt; lost.is_none(), "{lost:?}");
     Ok(())
 }
 
 #[test]
 fn a_fault_at_each_sync_of_an_opening(rt: HostRuntime) -> Result<(), Fail> {
-    let lost = first_lost(rt.alloc(), Counted::Opening, DiskCall::Sync, 10)?;
+    let lost = first_lost(rt.alloc(), Counted::Opening, DiskCall::Sync, 3)?;
     assert!(rt; lost.is_none(), "{lost:?}");
     Ok(())
 }

@@ -67,7 +67,7 @@ fn a_fault_at_each_read_of_an_opening(rt: HostRuntime) -> Result<(), Fail> {
     assert_eq!(rt; (open, closed), (OF_OPEN_SEGMENTS, OF_CLOSED_SEGMENTS));
     assert_eq!(rt;
         (still.wrapping_sub(before), written.wrapping_sub(still)),
-        (0, 54)
+        (0, 47)
     );
     Ok(())
 }

@@ -1,5 +1,6 @@
 //! The script is stopped after each step of its journal, and the device crashes by each pick. For each stop it is
-//! stated which changes are opened.
+//! stated which changes are opened. The checkpoint at the end closes all segments by the other epoch, so each pick is
+//! played on a volume of each epoch.
 
 use std::alloc::Global;
 use std::test::Fail;
@@ -10,8 +11,11 @@ use test_support_batches::{
 /// The step that commits each batch, a sync. In the step before it the batch's gate is opened.
 const COMMITS: [u64; 8] = [8, 19, 29, 39, 49, 59, 69, 79];
 
-/// All steps of the script: 141 device calls, and one step that finds nothing to do, after the first batch.
-const STEPS: u64 = 142;
+/// All steps of the script: 127 device calls, and one step that finds nothing to do, after the first batch.
+const STEPS: u64 = 128;
+
+/// The place of the epoch.
+const EPOCH_AT: u64 = 150;
 
 /// What a crash makes of a gate whose opening is not synced.
 #[derive(Clone, Copy, PartialEq)]
@@ -50,9 +54,10 @@ fn stopped(
     Ok((sim.into_device(), is_held && is_shown))
 }
 
-/// The first step after which the opened changes are not the expected ones.
-fn first_wrong(alloc: Global, pick: Pick, gate: Gate) -> Result<Option<u64>, SimError> {
+/// The first step after which the opened changes are not the expected ones. The new volume has this epoch.
+fn first_wrong(alloc: Global, epoch: u8, pick: Pick, gate: Gate) -> Result<Option<u64>, SimError> {
     let mut fresh = Device::new(alloc)?;
+    fresh.put(EPOCH_AT, epoch)?;
     let mut device = Device::new(alloc)?;
     for steps in 1..=STEPS {
         device.copy_volume(alloc, &mut fresh)?;
@@ -78,20 +83,38 @@ fn all_steps_of_the_script(rt: HostRuntime) -> Result<(), Fail> {
 
 #[test]
 fn a_stop_after_each_step_that_keeps_the_old_octets(rt: HostRuntime) -> Result<(), Fail> {
-    assert_eq!(rt; first_wrong(rt.alloc(), Pick::Old, Gate::Closed)?, None);
+    assert_eq!(rt; first_wrong(rt.alloc(), 1, Pick::Old, Gate::Closed)?, None);
     Ok(())
 }
 
 #[test]
 fn a_stop_after_each_step_that_takes_the_new_octets(rt: HostRuntime) -> Result<(), Fail> {
-    assert_eq!(rt; first_wrong(rt.alloc(), Pick::New, Gate::Open)?, None);
+    assert_eq!(rt; first_wrong(rt.alloc(), 1, Pick::New, Gate::Open)?, None);
+    Ok(())
+}
+
+#[test]
+fn a_stop_after_each_step_that_leaves_zeros(rt: HostRuntime) -> Result<(), Fail> {
+    assert_eq!(rt;
+        first_wrong(rt.alloc(), 1, Pick::Fill(0), Gate::Closed)?,
+        None
+    );
     Ok(())
 }
 
 #[test]
 fn a_stop_after_each_step_that_leaves_ones(rt: HostRuntime) -> Result<(), Fail> {
     assert_eq!(rt;
-        first_wrong(rt.alloc(), Pick::Fill(0x01), Gate::Open)?,
+        first_wrong(rt.alloc(), 1, Pick::Fill(1), Gate::Open)?,
+        None
+    );
+    Ok(())
+}
+
+#[test]
+fn a_stop_after_each_step_that_leaves_twos(rt: HostRuntime) -> Result<(), Fail> {
+    assert_eq!(rt;
+        first_wrong(rt.alloc(), 1, Pick::Fill(2), Gate::Closed)?,
         None
     );
     Ok(())
@@ -100,7 +123,59 @@ fn a_stop_after_each_step_that_leaves_ones(rt: HostRuntime) -> Result<(), Fail> 
 #[test]
 fn a_stop_after_each_step_that_leaves_other_octets(rt: HostRuntime) -> Result<(), Fail> {
     assert_eq!(rt;
-        first_wrong(rt.alloc(), Pick::Fill(0x4d), Gate::Closed)?,
+        first_wrong(rt.alloc(), 1, Pick::Fill(0x4d), Gate::Closed)?,
+        None
+    );
+    Ok(())
+}
+
+#[test]
+fn a_stop_after_each_step_that_keeps_the_old_octets_in_epoch_2(
+    rt: HostRuntime,
+) -> Result<(), Fail> {
+    assert_eq!(rt; first_wrong(rt.alloc(), 2, Pick::Old, Gate::Closed)?, None);
+    Ok(())
+}
+
+#[test]
+fn a_stop_after_each_step_that_takes_the_new_octets_in_epoch_2(
+    rt: HostRuntime,
+) -> Result<(), Fail> {
+    assert_eq!(rt; first_wrong(rt.alloc(), 2, Pick::New, Gate::Open)?, None);
+    Ok(())
+}
+
+#[test]
+fn a_stop_after_each_step_that_leaves_zeros_in_epoch_2(rt: HostRuntime) -> Result<(), Fail> {
+    assert_eq!(rt;
+        first_wrong(rt.alloc(), 2, Pick::Fill(0), Gate::Closed)?,
+        None
+    );
+    Ok(())
+}
+
+#[test]
+fn a_stop_after_each_step_that_leaves_ones_in_epoch_2(rt: HostRuntime) -> Result<(), Fail> {
+    assert_eq!(rt;
+        first_wrong(rt.alloc(), 2, Pick::Fill(1), Gate::Closed)?,
+        None
+    );
+    Ok(())
+}
+
+#[test]
+fn a_stop_after_each_step_that_leaves_twos_in_epoch_2(rt: HostRuntime) -> Result<(), Fail> {
+    assert_eq!(rt;
+        first_wrong(rt.alloc(), 2, Pick::Fill(2), Gate::Open)?,
+        None
+    );
+    Ok(())
+}
+
+#[test]
+fn a_stop_after_each_step_that_leaves_other_octets_in_epoch_2(rt: HostRuntime) -> Result<(), Fail> {
+    assert_eq!(rt;
+        first_wrong(rt.alloc(), 2, Pick::Fill(0x4d), Gate::Closed)?,
         None
     );
     Ok(())

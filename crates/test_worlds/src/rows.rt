@@ -5,7 +5,7 @@ use crate::scripts::{Script, lines_of};
 use crate::stage::Stage;
 use crate::tally::Tally;
 use crate::words::Words;
-use script::escaped;
+use program_script::escaped;
 use std::alloc::{AllocError, Global};
 use test_support_batches::shows;
 

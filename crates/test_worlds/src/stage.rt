@@ -4,7 +4,7 @@ use crate::errors::RowError;
 use crate::playing::{play, play_line};
 use crate::tally::Tally;
 use crate::words::read;
-use script::Line;
+use program_script::Line;
 use std::alloc::Global;
 use std::marker::Model;
 use test_support_world::{Device, NotOpened, Sim};

@@ -1,7 +1,7 @@
 //! The words of a row.
 
 use crate::errors::RowError;
-use script::{Line, ParseError, number, parse};
+use program_script::{Line, ParseError, number, parse};
 use std::alloc::Global;
 
 /// The words that are left of a row.

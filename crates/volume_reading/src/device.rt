@@ -1,8 +1,8 @@
 //! Reads of a device.
 
 use disk::Disk;
+use journal_layout::layout::BLOCK;
 use std::alloc::AllocError;
-use volume_format::layout::BLOCK;
 
 /// The octets of a block.
 pub type Block = [u8; BLOCK];

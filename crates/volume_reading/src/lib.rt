@@ -22,13 +22,13 @@ macro_rules! wrong_unless {
     };
 }
 
-mod batches;
 mod device;
 mod grouped;
+mod open_segments;
 mod reads;
-mod superblock;
+mod superblock_look;
 
 pub use device::{Block, ReadStop};
 pub use grouped::Grouped;
 pub use reads::{DirectoryEntry, Pointers, ReadVolume, Record};
-pub use superblock::ReadSizes;
+pub use superblock_look::ReadSizes;

@@ -1,19 +1,19 @@
 //! Reads of a volume whose superblock and open segments are right.
 
-use crate::batches::{self, Place};
 use crate::device::{Block, ReadStop, read};
-use crate::superblock::{self, ReadSizes};
+use crate::open_segments::{self, Place};
+use crate::superblock_look::{self, ReadSizes};
 use disk::Disk;
+use disk_numbers::{number32, number64};
 use fs_layout::inodes::{
     BLOCK_POINTERS, DIRECT_POINTERS, DOUBLE_AT, FILE_KIND, INDIRECT_AT, MOST_OCTETS, POINTERS_AT,
     SIZE_AT, bitmap_blocks, content_blocks, first_data,
 };
 use fs_layout::records::RECORD_SIZE;
 use fs_layout::slots::NAME_MAX;
-use octet_numbers::{number32, number64};
+use journal_layout::layout::BLOCK;
 use std::alloc::Global;
 use std::fmt::{self, Display, Formatter};
-use volume_format::layout::BLOCK;
 
 /// The octets of an inode or a slot.
 pub type Record = [u8; RECORD_SIZE];
@@ -170,8 +170,8 @@ impl<D: Disk + Drop> ReadVolume<D> {
     /// Looks at the superblock and at the open segments. `Wrong` says what isn't as it must be in a volume, `Unseen`
     /// that a read failed or memory was refused.
     pub fn open(alloc: Global, mut disk: D) -> Result<ReadVolume<D>, ReadStop> {
-        let sizes = superblock::look(alloc, &mut disk)?;
-        let places = batches::look(alloc, &mut disk, sizes)?;
+        let sizes = superblock_look::look(alloc, &mut disk)?;
+        let places = open_segments::look(alloc, &mut disk, sizes)?;
         Ok(ReadVolume {
             alloc,
             sizes,

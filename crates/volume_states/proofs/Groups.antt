@@ -4,8 +4,8 @@ use Rattle.std.proofs.lemmas.List.{length-map}
 use Rattle.model.specs.Indexed.{group_index}
 use Rattle.model.specs.Spool.{NewsArticle, NewsGroup, Spool, contents, count, filed_in, high, low}
 use Rattle.model.specs.SpoolFiles.{overview_file}
-use Rattle.index_groups.specs.Filing.{end_of}
-use Rattle.index.proofs.Growing.{overview_size}
+use Rattle.spool_groups.specs.Filing.{end_of}
+use Rattle.spool_index.proofs.Growing.{overview_size}
 use Rattle.volume_states.specs.State.{group_status, of_index}
 
 pub of_group : (S : Spool) (g : NewsGroup) → of_index (group_index S g) ≡ group_status S g

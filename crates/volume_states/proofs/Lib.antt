@@ -2,3 +2,4 @@ pub mod Groups
 pub mod Openings
 pub mod Shares
 pub mod Totals
+pub mod Floats

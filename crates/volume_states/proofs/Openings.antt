@@ -6,7 +6,7 @@ use Rattle.journal.specs.Journal.{JournalView}
 use Rattle.journal.specs.Opening.{Costs, IsMore, Opens, home_syncs, home_writes}
 use Rattle.kernel.specs.Opening.{OnlyReads}
 use Rattle.model.specs.Volume.{format_number, open_segments}
-use Rattle.reporting.specs.declared.state.VolumeStatus.{VolumeStatus}
+use Rattle.volume_states.specs.declared.state.VolumeStatus.{VolumeStatus}
 use Rattle.volume_states.specs.Told.{IsStateIn, IsStateOf}
 
 module _ {D : Type 0} (device : D → Device) (first : D) (one : JournalView D) where
@@ -29,5 +29,5 @@ module _ {D : Type 0} (device : D → Device) (first : D) (one : JournalView D) 
       → Costs 1 content (device first) (device two.disk)
   only_cost content two costs reads = record {
     writes = subst (IsMore (home_writes content (open_segments content)) (device first).writes) (sym reads.writes) costs.writes;
-    syncs = subst (IsMore (1 + home_syncs (open_segments content)) (device first).syncs) (sym reads.syncs) costs.syncs;
+    syncs = subst (IsMore (1 + home_syncs content (open_segments content)) (device first).syncs) (sym reads.syncs) costs.syncs;
   }

@@ -2,7 +2,7 @@
 use Rattle.std.proofs.Common.{◌≡◌, ◌<◌, ℕ, ◌+◌, ◌^◌, add-one, sym, ◌∙◌, ap, arith, subst}
 use Rattle.std.proofs.lemmas.List.FromFn.{sum_by-map-range_with_len_more}
 use Rattle.model.specs.Spool.{Spool}
-use Rattle.reporting.specs.declared.state.Gone.{Gone}
+use Rattle.volume_states.specs.declared.state.Gone.{Gone}
 use Rattle.volume_states.specs.Gone.{Counts, IsGoneUpTo, share_with, total}
 
 total_more : (field : Gone → ℕ) (S : Spool) (n : ℕ) → total field S (n + 1) ≡ total field S n + field (share_with S (n + 1))

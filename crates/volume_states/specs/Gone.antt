@@ -1,14 +1,14 @@
 -- The articles of a spool that are in none of their groups any more, and what a renewal gives back of them.
 use Rattle.std.specs.Prelude.{◌≡◌, ℕ, ◌-◌, ◌<◌, ◌/◌, ◌^◌, if◌then◌else◌, nat_lt, List, [], length, map, is_some, option_map, unwrap_or}
 use Rattle.std.specs.List.{range_with_len, sum_by}
-use Rattle.lookups.specs.Held.{article_with, gone_with, text_of}
+use Rattle.session_lookups.specs.Held.{article_with, gone_with, text_of}
 use Rattle.model.specs.Article.{id}
 use Rattle.model.specs.Spool.{Spool}
 use Rattle.model.specs.Stream.{Octets}
-use Rattle.renewed.specs.Renewed.{husk}
-use Rattle.reporting.specs.declared.state.Gone.{Gone}
+use Rattle.model_renewed.specs.Renewed.{husk}
+use Rattle.volume_states.specs.declared.state.Gone.{Gone}
 
--- an article that is gone counts as a text if it is longer than its husk. A husk takes one block, and the text these more at least
+-- an article that is gone counts as a text if it is longer than its husk. A husk takes one block at most, and the text these more at least
 abbrev pub share_of : Octets → List Octets → Gone
 share_of text groups = record {
   articles = 1;

@@ -1,3 +1,5 @@
 pub mod Gone
 pub mod State
 pub mod Told
+pub mod Json
+pub mod Table

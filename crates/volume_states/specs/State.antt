@@ -6,11 +6,11 @@ use Rattle.model.specs.Layout.{HoldsIn}
 use Rattle.model.specs.Spool.{NewsGroup, Spool, contents, count, groups, high, low}
 use Rattle.model.specs.SpoolFiles.{overview_file}
 use Rattle.model.specs.Stream.{Octets}
-use Rattle.index_groups.specs.Filing.{end_of}
+use Rattle.spool_groups.specs.Filing.{end_of}
 use Rattle.volume_states.specs.Gone.{IsGone}
-use Rattle.reporting.specs.declared.state.GroupStatus.{GroupStatus}
-use Rattle.reporting.specs.declared.state.Share.{Share}
-use Rattle.reporting.specs.declared.state.VolumeStatus.{VolumeStatus}
+use Rattle.volume_states.specs.declared.state.GroupStatus.{GroupStatus}
+use Rattle.volume_states.specs.declared.state.Share.{Share}
+use Rattle.volume_states.specs.declared.state.VolumeStatus.{VolumeStatus}
 
 -- ---- shares
 

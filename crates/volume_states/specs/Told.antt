@@ -3,7 +3,7 @@ use Rattle.std.specs.Prelude.{ℕ, List, length}
 use Rattle.model.specs.Layout.{IsLabel}
 use Rattle.model.specs.Stream.{Octets}
 use Rattle.model.specs.Volume.{StandsFor, format_number}
-use Rattle.reporting.specs.declared.state.VolumeStatus.{VolumeStatus}
+use Rattle.volume_states.specs.declared.state.VolumeStatus.{VolumeStatus}
 use Rattle.volume_states.specs.State.{IsStatusOf}
 
 -- the state of a volume of this format with this label and this number of blocks, which are these

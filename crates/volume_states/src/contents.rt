@@ -1,20 +1,20 @@
 //! The state of the volume of a host, in its blocks.
 
 ghost use Rattle.std.specs.Prelude.{◌≡◌, ◌<◌, ◌^◌, IfErr, IfOk, map};
-ghost use Rattle.index_groups.specs.Filing.{EndBelow, end_of};
-ghost use Rattle.index_groups.specs.Shown.{shown};
+ghost use Rattle.spool_groups.specs.Filing.{EndBelow, end_of};
+ghost use Rattle.spool_groups.specs.Shown.{shown};
 ghost use Rattle.model.specs.Files.{HasRoom};
 ghost use Rattle.model.specs.Layout.{HoldsIn};
 ghost use Rattle.model.specs.Spool.{Spool};
 ghost use Rattle.volume_states.specs.State.{AreBlocks, AreInodes, IsStatusOf, of_index};
 
 use crate::gone::gone_articles;
-use blocks::Blocks;
+use crate::{GroupStatus, Share, VolumeStatus};
+use fs_blocks::Blocks;
+use fs_layout::bitmap::free_block_count;
 use fs_layout::inodes::free_inode_count;
-use fs_layout::marks::free_block_count;
-use index_groups::Group;
 use model::Text;
-use reporting::{GroupStatus, Share, VolumeStatus};
+use spool_groups::Group;
 use spool_opening::open;
 use spool_reading::ReadSpoolError;
 use std::alloc::{AllocError, Global};
@@ -71,7 +71,7 @@ fn inode_share<B: Blocks>(blocks: &B, inodes: u32) -> Share
     Share { all: inodes, used }
 }
 
-/// The states of groups, in their order. Refused only for want of memory.
+/// The states of groups, in their order.
 fn statuses(alloc: Global, groups: &[Group]) -> Result<Vec<GroupStatus>, AllocError>
     requires { EndBelow (2 ^ 32) (map shown groups.now) }
     ensures { IfOk result (λ list. list.items ≡ map of_index (map shown groups.now)) }
@@ -83,7 +83,7 @@ fn statuses(alloc: Global, groups: &[Group]) -> Result<Vec<GroupStatus>, AllocEr
     Ok(list)
 }
 
-/// The state of a group. Refused only for want of memory.
+/// The state of a group.
 fn status_of(alloc: Global, group: &Group) -> Result<GroupStatus, AllocError>
     requires { end_of (shown group.now) < 2 ^ 32 }
     ensures { IfOk result (λ status. status ≡ of_index (shown group.now)) }

@@ -1,18 +1,18 @@
 //! The articles of a spool that are in none of their groups any more, and what a renewal gives back of them.
 
 ghost use Rattle.std.specs.Prelude.{◌≡◌, ◌+◌, ◌-◌, ◌<◌, ◌/◌, ◌^◌, IfOk, if◌then◌else◌, length, nat_lt};
-ghost use Rattle.index.specs.View.{Indexes};
+ghost use Rattle.spool_index.specs.View.{Indexes};
 ghost use Rattle.model.specs.Lawful.{IsLawful};
 ghost use Rattle.model.specs.Spool.{Spool};
 ghost use Rattle.model.specs.Stream.{Octets};
-ghost use Rattle.renewed.specs.Renewed.{husk as husk_text};
+ghost use Rattle.model_renewed.specs.Renewed.{husk as husk_text};
 ghost use Rattle.volume_states.specs.Gone.{Counts, IsGone, nothing, share_with};
 
-use husks::husk;
-use index::Index;
+use crate::Gone;
 use model::Text;
-use reporting::Gone;
+use spool_index::Index;
 use std::alloc::{AllocError, Global};
+use text_husks::husk;
 
 /// The octets of a block.
 const BLOCK: u64 = 4096;
@@ -24,7 +24,7 @@ const NOTHING: Gone = Gone {
     blocks: 0,
 };
 
-/// The articles that are gone. Refused only for want of memory.
+/// The articles that are gone.
 pub fn gone_articles(alloc: Global, index: &Index) -> Result<Gone, AllocError>
     ensures { (host : Octets) (S : Spool) → IsLawful host S → Indexes S index.now → IfOk result (IsGone S) }
 {
@@ -35,7 +35,7 @@ pub fn gone_articles(alloc: Global, index: &Index) -> Result<Gone, AllocError>
     Ok(gone)
 }
 
-/// What the change with this serial counts for. Refused only for want of memory.
+/// What the change with this serial counts for.
 fn share_with(alloc: Global, index: &Index, serial: u64) -> Result<Gone, AllocError>
     ensures { (host : Octets) (S : Spool) → IsLawful host S → Indexes S index.now
         → IfOk result (λ share. share ≡ share_with S serial) }
@@ -51,8 +51,8 @@ fn share_with(alloc: Global, index: &Index, serial: u64) -> Result<Gone, AllocEr
     share_of(alloc, &id, size, groups)
 }
 
-/// What an article counts for that is gone, with this message-id, a text of so many octets, and these groups in which it was
-/// filed. Refused only for want of memory.
+/// What an article counts for that is gone, with this message-id, a text of so many octets, and these groups in which
+/// it was filed.
 fn share_of(alloc: Global, id: &[u8], size: u64, groups: &[Text]) -> Result<Gone, AllocError>
     ensures { IfOk result (λ share. share ≡ record {
       articles = 1;

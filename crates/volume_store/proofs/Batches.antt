@@ -9,8 +9,8 @@ use Rattle.journal.specs.Journal.{IsReady, JournalView, LeavesAdmitted, with_bat
 use Rattle.model.specs.Stream.{Octets}
 use Rattle.model.specs.Volume.{blocks_from, laid_over}
 use Rattle.spool.specs.View.{IsSpool, SpoolView}
-use Rattle.volume.specs.Volume.{BatchView}
-use Rattle.blocks.proofs.Octets.{blocks_from-flat_map}
+use Rattle.journal_volume.specs.Volume.{BatchView}
+use Rattle.fs_blocks.proofs.Octets.{blocks_from-flat_map}
 use Rattle.volume_store.specs.Saved.{Carries, IsSameVolume, LeavesOneOf, after_batch}
 use Rattle.volume_store.proofs.Carried.{stands}
 

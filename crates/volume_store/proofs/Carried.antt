@@ -6,11 +6,11 @@ use Rattle.disk.specs.Device.{Device}
 use Rattle.journal.specs.Calls.{IsRetried, MakesCall, OnMade, OnRetried}
 use Rattle.journal.specs.Inside.{IsAdmitted, IsVolume}
 use Rattle.journal.specs.Journal.{Admits, IsReady, IsSameBatch, JournalView, LeavesAdmitted, LeftAdmitted, sizes, with_batch}
-use Rattle.journal.specs.Order.{at_fault, is_growing, is_sync, is_to_commit}
+use Rattle.journal.specs.Order.{Carried, at_fault, is_growing, is_sync, is_to_commit}
 use Rattle.journal.specs.declared.JournalError.{JournalError}
 use Rattle.journal.specs.declared.JournalError.TheVariants.{Fault, Memory}
 use Rattle.journal.specs.declared.Next.{Next}
-use Rattle.journal.specs.declared.Next.TheVariants.{Idle, Descriptor, Image, Seal, OpenGate, Commit, Home, Settle, CloseGate, Finish}
+use Rattle.journal.specs.declared.Next.TheVariants.{Idle, Descriptor, Image, Seal, OpenGate, Commit, Home, Settle, Close, Finish}
 use Rattle.journal.specs.declared.Progress.{Progress}
 use Rattle.journal.proofs.During.{same_then}
 use Rattle.journal.proofs.Flights.{after_home}
@@ -63,21 +63,21 @@ by_next old now OpenGate is blocks = inl blocks
 by_next old now Commit is blocks = inl blocks
 by_next old now (Home j i) is blocks = inr (blocks, λ e. let both : Home j i ≡ Commit = sym is ∙ e in cc)
 by_next old now Settle is blocks = inr (blocks, λ e. let both : Settle ≡ Commit = sym is ∙ e in cc)
-by_next old now (CloseGate j) is blocks = inr (blocks, λ e. let both : CloseGate j ≡ Commit = sym is ∙ e in cc)
+by_next old now (Close j) is blocks = inr (blocks, λ e. let both : Close j ≡ Commit = sym is ∙ e in cc)
 by_next old now (Finish j) is blocks = inr (blocks, λ e. let both : Finish j ≡ Commit = sym is ∙ e in cc)
 
 -- after the commit a fault leaves a call after the commit
-never_back : (n : ℕ) (counts : List ℕ) (next : Next) → next ≢ Idle → is_to_commit next ≡ false → at_fault n counts next ≢ Commit
-never_back n counts Idle flies is = absurd (flies refl)
-never_back n counts Descriptor flies is = absurd (true≢false is)
-never_back n counts (Image i) flies is = absurd (true≢false is)
-never_back n counts Seal flies is = absurd (true≢false is)
-never_back n counts OpenGate flies is = absurd (true≢false is)
-never_back n counts Commit flies is = absurd (true≢false is)
-never_back n counts (Home j i) flies is = after_home (λ g. g ≢ Commit) n counts j i (λ e d. λ f. cc) (λ e d. λ f. cc) (λ e. λ f. cc)
-never_back n counts Settle flies is = λ f. cc
-never_back n counts (CloseGate j) flies is = λ f. cc
-never_back n counts (Finish j) flies is = λ f. cc
+never_back : (n : ℕ) (carried : Carried) (next : Next) → next ≢ Idle → is_to_commit next ≡ false → at_fault n carried next ≢ Commit
+never_back n carried Idle flies is = absurd (flies refl)
+never_back n carried Descriptor flies is = absurd (true≢false is)
+never_back n carried (Image i) flies is = absurd (true≢false is)
+never_back n carried Seal flies is = absurd (true≢false is)
+never_back n carried OpenGate flies is = absurd (true≢false is)
+never_back n carried Commit flies is = absurd (true≢false is)
+never_back n carried (Home j i) flies is = after_home (λ g. g ≢ Commit) n carried j i (λ e d. λ f. cc) (λ e d. λ f. cc) (λ e. λ f. cc)
+never_back n carried Settle flies is = λ f. cc
+never_back n carried (Close j) flies is = λ f. cc
+never_back n carried (Finish j) flies is = λ f. cc
 
 -- a device that takes memory for the next call takes it for writes or for syncs
 pub takes_memory : (next : Next) (write_grows sync_grows : Bool) → IsTrue (is_growing next write_grows sync_grows)

@@ -5,5 +5,4 @@ pub mod Carried
 pub mod Tied
 pub mod Batches
 pub mod Opened
-pub mod Rooms
 pub mod GoingOn

@@ -2,23 +2,22 @@
 use Rattle.std.proofs.Common.{◌≡◌, ◌≢◌, ◌⊎◌, inl, inr, ◌<◌, ◌+◌, ◌-◌, ℕ, Bool, true, false, eqb, if◌then◌else◌, IsTrue, List}
 use Rattle.std.proofs.Common.{length, refl, sym, ◌∙◌, ap, subst, arith, Ok, Err}
 use Rattle.std.proofs.lemmas.Bool.{cond_both}
+use Rattle.disk.specs.Calls.{Call, Does, Syncs}
+use Rattle.disk.specs.Calls.Call.{Sync}
 use Rattle.disk.specs.Device.{Device, Elapses, LeavesOnly}
 use Rattle.disk.proofs.Devices.{elapses_then}
-use Rattle.segment_laws.specs.Held.{HeldBatch}
-use Rattle.journal.specs.Calls.{Call, Does, IsRetried, MakesCall, OnMade, OnRetried, Syncs, blocks_after, call_at}
-use Rattle.journal.specs.Calls.Call.{Sync}
-use Rattle.journal.specs.Journal.{IsCaused, IsSameBatch, JournalView}
-use Rattle.journal.specs.Journal.{all_held, calls, sizes, with_batch}
-use Rattle.journal.specs.Order.{all_calls, answer, following, is_sync, is_to_commit}
+use Rattle.journal.specs.Calls.{IsRetried, MakesCall, OnMade, OnRetried, Written, blocks_after, call_at, call_of, written_by}
+use Rattle.journal.specs.Journal.{IsCaused, IsSameBatch, JournalView, calls, sizes, with_batch}
+use Rattle.journal.specs.Order.{Carried, all_calls, answer, closings, following, is_sync, is_to_commit}
 use Rattle.journal.specs.declared.Next.{Next}
-use Rattle.journal.specs.declared.Next.TheVariants.{Idle, Descriptor, Image, Seal, OpenGate, Commit, Home, Settle, CloseGate, Finish}
+use Rattle.journal.specs.declared.Next.TheVariants.{Idle, Descriptor, Image, Seal, OpenGate, Commit, Home, Settle, Close, Finish}
 use Rattle.journal.specs.declared.Progress.{Progress}
 use Rattle.journal.specs.declared.Progress.TheVariants.{Working, Idle as Ended}
 use Rattle.journal.specs.declared.JournalError.{JournalError}
 use Rattle.journal.specs.declared.JournalError.TheVariants.{Fault, Memory}
 use Rattle.journal.proofs.During.{same_itself, same_sizes, same_then}
 use Rattle.journal.proofs.Flights.{after_commit, after_gate, after_home, after_image}
-use Rattle.model.specs.Volume.{descriptor_of, laid_over}
+use Rattle.model.specs.Volume.{laid_over}
 
 no_time : (a : Device) → Elapses a a
 no_time a = record { size = refl; tells = refl; later = omega arith }
@@ -26,52 +25,50 @@ no_time a = record { size = refl; tells = refl; later = omega arith }
 -- ---- each call
 
 -- the last call is a sync
-ends : (n : ℕ) (sizes : List ℕ) (next : Next) → next ≢ Idle → following n sizes next ≡ Idle → is_sync next ≡ true
-ends n sizes Idle other e = absurd (other refl)
-ends n sizes Descriptor other e = absurd (cc)
-ends n sizes (Image i) other e = absurd (after_image (λ g. g ≢ Idle) n sizes i (λ d. λ f. cc) (λ d. λ f. cc) e)
-ends n sizes Seal other e = refl
-ends n sizes OpenGate other e = absurd (cc)
-ends n sizes Commit other e = refl
-ends n sizes (Home j i) other e = absurd (after_home (λ g. g ≢ Idle) n sizes j i (λ c d. λ f. cc) (λ c d. λ f. cc) (λ d. λ f. cc) e)
-ends n sizes Settle other e = refl
-ends n sizes (CloseGate j) other e = absurd (cc)
-ends n sizes (Finish j) other e = refl
+ends : (n : ℕ) (carried : Carried) (next : Next) → next ≢ Idle → following n carried next ≡ Idle → is_sync next ≡ true
+ends n carried Idle other e = absurd (other refl)
+ends n carried Descriptor other e = absurd (cc)
+ends n carried (Image i) other e = absurd (after_image (λ g. g ≢ Idle) n carried i (λ d. λ f. cc) (λ d. λ f. cc) e)
+ends n carried Seal other e = refl
+ends n carried OpenGate other e = absurd (cc)
+ends n carried Commit other e = refl
+ends n carried (Home j i) other e = absurd (after_home (λ g. g ≢ Idle) n carried j i (λ c d. λ f. cc) (λ c d. λ f. cc) (λ d. λ f. cc) e)
+ends n carried Settle other e = refl
+ends n carried (Close j) other e = absurd (cc)
+ends n carried (Finish j) other e = refl
 
-sync_of : (next : Next) (segments : ℕ) (held : List HeldBatch) (place : ℕ) (descriptor : List ℕ) (images : List (List ℕ))
-    → is_sync next ≡ true
-    → call_at next segments held place descriptor images ≡ Sync
-sync_of Idle segments held place descriptor images e = absurd (cc)
-sync_of Descriptor segments held place descriptor images e = absurd (cc)
-sync_of (Image i) segments held place descriptor images e = absurd (cc)
-sync_of Seal segments held place descriptor images e = refl
-sync_of OpenGate segments held place descriptor images e = absurd (cc)
-sync_of Commit segments held place descriptor images e = refl
-sync_of (Home j i) segments held place descriptor images e = absurd (cc)
-sync_of Settle segments held place descriptor images e = refl
-sync_of (CloseGate j) segments held place descriptor images e = absurd (cc)
-sync_of (Finish j) segments held place descriptor images e = refl
+sync_of : (next : Next) (w : Written) → is_sync next ≡ true → call_at next w ≡ Sync
+sync_of Idle w e = absurd (cc)
+sync_of Descriptor w e = absurd (cc)
+sync_of (Image i) w e = absurd (cc)
+sync_of Seal w e = refl
+sync_of OpenGate w e = absurd (cc)
+sync_of Commit w e = refl
+sync_of (Home j i) w e = absurd (cc)
+sync_of Settle w e = refl
+sync_of (Close j) w e = absurd (cc)
+sync_of (Finish j) w e = refl
 
 -- the blocks are those with the batch from its commit on
-moved : {D : Type 0} (now : JournalView D) (n last : ℕ) (sizes : List ℕ) (before after : List (List ℕ)) (next : Next) → next ≢ Idle
+moved : {D : Type 0} (now : JournalView D) (n last : ℕ) (carried : Carried) (before after : List (List ℕ)) (next : Next) → next ≢ Idle
     → now.blocks ≡ (if is_to_commit next then before else after) → (now.blocks ≡ before → with_batch now ≡ after)
-    → blocks_after now (answer last sizes next) ≡ (if is_to_commit (following n sizes next) then before else after)
-moved now n last sizes before after Idle other is lays = absurd (other refl)
-moved now n last sizes before after Descriptor other is lays = is
-moved now n last sizes before after (Image i) other is lays =
-    after_image (λ g. now.blocks ≡ (if is_to_commit g then before else after)) n sizes i (λ e. is) (λ e. is)
-moved now n last sizes before after Seal other is lays = is
-moved now n last sizes before after OpenGate other is lays = is
-moved now n last sizes before after Commit other is lays =
-    after_commit (λ g. with_batch now ≡ (if is_to_commit g then before else after)) n sizes (λ e. lays is) (λ e. lays is)
-moved now n last sizes before after (Home j i) other is lays =
-    after_home (λ g. now.blocks ≡ (if is_to_commit g then before else after)) n sizes j i (λ e d. is) (λ e d. is) (λ e. is)
-moved now n last sizes before after Settle other is lays = is
-moved now n last sizes before after (CloseGate j) other is lays = is
-moved now n last sizes before after (Finish j) other is lays =
-    let stays = after_gate (λ g. now.blocks ≡ (if is_to_commit g then before else after)) n sizes j (λ e. is) (λ e. is) in
-    cond_both (eqb (j + 1) (length sizes)) Ended Working
-    (λ p. blocks_after now p ≡ (if is_to_commit (following n sizes (Finish j)) then before else after)) (λ e. stays) (λ e. stays)
+    → blocks_after now (answer last carried next) ≡ (if is_to_commit (following n carried next) then before else after)
+moved now n last carried before after Idle other is lays = absurd (other refl)
+moved now n last carried before after Descriptor other is lays = is
+moved now n last carried before after (Image i) other is lays =
+    after_image (λ g. now.blocks ≡ (if is_to_commit g then before else after)) n carried i (λ e. is) (λ e. is)
+moved now n last carried before after Seal other is lays = is
+moved now n last carried before after OpenGate other is lays = is
+moved now n last carried before after Commit other is lays =
+    after_commit (λ g. with_batch now ≡ (if is_to_commit g then before else after)) n carried (λ e. lays is) (λ e. lays is)
+moved now n last carried before after (Home j i) other is lays =
+    after_home (λ g. now.blocks ≡ (if is_to_commit g then before else after)) n carried j i (λ e d. is) (λ e d. is) (λ e. is)
+moved now n last carried before after Settle other is lays = is
+moved now n last carried before after (Close j) other is lays = is
+moved now n last carried before after (Finish j) other is lays =
+    let stays = after_gate (λ g. now.blocks ≡ (if is_to_commit g then before else after)) n carried j (λ e. is) (λ e. is) in
+    cond_both (eqb (j + 1) (closings carried)) Ended Working
+    (λ p. blocks_after now p ≡ (if is_to_commit (following n carried (Finish j)) then before else after)) (λ e. stays) (λ e. stays)
 
 -- ---- between two calls
 
@@ -107,10 +104,9 @@ module _ {D : Type 0} (device : D → Device) (old now new : JournalView D) (so_
       → LeavesOnly (device new.disk) (device new.disk).content
   synced_by p call t is =
       let last : is_sync now.next ≡ true = ends (length now.numbers) (sizes now) now.next flies (sym call.next.0 ∙ is) in
-      let sync : call_at now.next now.segments (all_held now) now.place (descriptor_of now.number now.last now.numbers) now.images ≡ Sync =
-      sync_of now.next now.segments (all_held now) now.place (descriptor_of now.number now.last now.numbers) now.images last in
-      let did : Syncs {T = Progress} {E = JournalError} (Ok p) (device now.disk) (device new.disk) =
-      subst (λ (c : Call). Does {T = Progress} {E = JournalError} c (Ok p) (device now.disk) (device new.disk)) sync call.does in
+      let sync : call_of now ≡ Sync = sync_of now.next (written_by now) last in
+      let did : Syncs true (Ok tt) (device now.disk) (device new.disk) =
+      subst (λ (c : Call). Does true true c (Ok tt) (device now.disk) (device new.disk)) sync call.does in
       λ c left. did.durable (tells t) c left ∙ sym (did.content (tells t))
 
   -- a call that was made

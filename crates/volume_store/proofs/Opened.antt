@@ -1,11 +1,13 @@
 -- A store that was opened: what it keeps, and that all is durable.
-use Rattle.std.proofs.Common.{◌≡◌, ℕ, IsTrue, List, [], length, refl, sym, ◌∙◌, ap, subst, arith}
+use Rattle.std.proofs.Common.{◌≡◌, ℕ, IsTrue, List, [], inl, inr, ⊎_elim, length, refl, sym, ◌∙◌, ap, subst, arith}
 use Rattle.std.specs.Prelude.{slice_index_or, take}
 use Rattle.std.proofs.Math.Seq.{take-length}
 use Rattle.disk.specs.Device.{Device}
 use Rattle.journal.specs.Journal.{IsReady, JournalView, LeavesAdmitted}
 use Rattle.journal.specs.Opening.{Opens}
 use Rattle.kernel.specs.Opening.{IsLoaded, ReadsAndUpgrades}
+use Rattle.kernel.specs.Standing.{LeavesRefused}
+use Rattle.kernel.specs.declared.kernel_opening.OpenError.TheVariants.{Damaged, Memory, NotAVolume}
 use Rattle.model.specs.Layout.{Holds, HoldsIn, IsLabel}
 use Rattle.model.specs.Stream.{Octets}
 use Rattle.model.specs.Volume.{StandsFor}
@@ -16,7 +18,7 @@ use Rattle.volume_store.proofs.Carried.{stands}
 use Rattle.volume_store.proofs.Tied.{held_in}
 
 module _ {D : Type 0} (device : D → Device) (one two : JournalView D) (spool : SpoolView) (loaded : IsLoaded device one spool)
-    (reads : ReadsAndUpgrades device one two) (format : two.format ≡ 2) where
+    (reads : ReadsAndUpgrades device one two) (format : two.format ≡ 3) where
   tells_one : IsTrue (device two.disk).tells → IsTrue (device one.disk).tells
   tells_one t = subst IsTrue reads.time.tells t
 
@@ -76,3 +78,17 @@ module _ {D : Type 0} (device : D → Device) (one two : JournalView D) (spool :
     };
     failures = failures ∙ opens.failures;
   }
+
+-- memory lacked before the device was asked for anything
+pub refused_at_once : {D : Type 0} (device : D → Device) (first : D) → LeavesRefused device first first Memory
+refused_at_once device first = record {
+  time = record { size = refl; tells = refl; later = omega arith };
+  volume = λ tells t image le left. inl left;
+  moment = inr (refl, λ tells t image le left. left);
+  judged = λ is. ⊎_elim (λ (a : Memory ≡ NotAVolume). absurd (cc a)) (λ (b : Memory ≡ Damaged). absurd (cc b)) is;
+  fault = λ is. absurd (cc is);
+  memory = λ _. refl;
+  left = λ tells _. inl refl;
+  no_volume = λ is. absurd (cc is);
+  damaged = λ is. absurd (cc is);
+}

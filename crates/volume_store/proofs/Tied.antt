@@ -18,8 +18,8 @@ use Rattle.model.specs.Stream.{Octets}
 use Rattle.model.specs.Volume.{format_number}
 use Rattle.model.specs.declared.change.Change.{Change}
 use Rattle.spool.specs.View.{Adds, Dirties, IsSpool, SpoolView}
-use Rattle.volume.specs.Volume.{AgreeOutside}
-use Rattle.change_spool.specs.declared.FilingError.{FilingError}
+use Rattle.journal_volume.specs.Volume.{AgreeOutside}
+use Rattle.session_lookups.specs.declared.change_spool.FilingError.{FilingError}
 use Rattle.volume_store.specs.Adding.{IsAdded}
 use Rattle.volume_store.specs.Filing.{Becomes}
 use Rattle.volume_store.specs.Saved.{Carries, IsBehind, IsSameVolume, IsSaved, IsTied, LeavesOneOf, LeavesPrefix, StoreView}
@@ -27,13 +27,16 @@ use Rattle.volume_store.specs.declared.outcome.TextOutcome.{TextOutcome}
 use Rattle.volume_store.specs.declared.outcome.TextOutcome.TheVariants.{Filed, Here, NoGroup, Refused, Full}
 use Rattle.volume_store.specs.declared.outcome.TextRefusal.TheVariants.{NotAnArticle, OwnId}
 
--- ---- an image of format 2
+-- ---- an image of format 3
 
 -- each file is of the format of such an image
-pub held_in : (format : ℕ) (host image : Octets) (inodes : ℕ) (blocks : List Octets) (S : Spool) → format ≡ 2
+pub held_in : (format : ℕ) (host image : Octets) (inodes : ℕ) (blocks : List Octets) (S : Spool) → format ≡ 3
     → format ≤ format_number image → Holds host inodes blocks S → HoldsIn (format_number image) host inodes blocks S
-held_in format host image inodes blocks S second least held =
-    record { held = held; of_format = λ first. absurd (omega (arith, second, least, first)) }
+held_in format host image inodes blocks S third least held = record {
+  held = held;
+  no_pack = λ few. absurd (omega (arith, third, least, few));
+  of_format = λ first. absurd (omega (arith, third, least, first));
+}
 
 -- ---- a text is filed
 
@@ -124,7 +127,7 @@ module _ {D : Type 0} (device : D → Device) (old new : JournalView D) (spool :
   labelled_now =
       subst (λ (t : Octets × ℕ). IsLabel t.0 t.1 spool.inodes spool.host) (λ i. (sym same.label i, sym same.size i)) tied.labelled
 
-  format_now : new.format ≡ 2
+  format_now : new.format ≡ 3
   format_now = same.format ∙ tied.format
 
   -- it failed

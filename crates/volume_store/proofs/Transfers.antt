@@ -20,9 +20,9 @@ use Rattle.model.specs.declared.change.Change.TheVariants.{Article}
 use Rattle.model.specs.declared.session.Awaits.TheVariants as awaits
 use Rattle.model.proofs.Ids.{field_counted, no_cause}
 use Rattle.model.proofs.Fronts.{first_none, none_mapped}
-use Rattle.change_spool.specs.declared.FilingError.{FilingError}
-use Rattle.change_spool.specs.declared.FilingError.TheVariants as file
-use Rattle.posting_commands.proofs.Telling.{transfer_filed}
+use Rattle.session_lookups.specs.declared.change_spool.FilingError.{FilingError}
+use Rattle.session_lookups.specs.declared.change_spool.FilingError.TheVariants as file
+use Rattle.session_posting.proofs.Telling.{transfer_filed}
 use Rattle.spool.specs.View.{SpoolView}
 use Rattle.volume_store.specs.Filing.{accepted_change, transferred}
 

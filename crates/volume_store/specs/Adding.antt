@@ -1,7 +1,7 @@
 -- What becomes of a change that is added.
 use Rattle.std.specs.Prelude.{◌≡◌, ◌⊎◌, true, false, Result, MatchResult}
-use Rattle.change_spool.specs.declared.FilingError.{FilingError}
-use Rattle.change_spool.specs.declared.FilingError.TheVariants.{Full, Memory}
+use Rattle.session_lookups.specs.declared.change_spool.FilingError.{FilingError}
+use Rattle.session_lookups.specs.declared.change_spool.FilingError.TheVariants.{Full, Memory}
 use Rattle.model.specs.declared.change.Change.{Change}
 use Rattle.spool.specs.Refusals.{is_full_for}
 use Rattle.spool.specs.View.{Adds, SpoolView}

@@ -5,9 +5,9 @@ use Rattle.model.specs.Layout.{Stands}
 use Rattle.volume_store.specs.Saved.{IsSaved, StoreView}
 
 -- a store that was opened on a device: the image of the device stood for its changes, and all are durable. The volume has
--- format 2 now
+-- format 3 now
 pub record IsOpened {D : Type 0} (device : D → Device) (first : D) (store : StoreView D) : Type 0 where
   pub saved : IsSaved device store
-  pub format : store.journal.format ≡ 2
+  pub format : store.journal.format ≡ 3
   pub stands : IsTrue (device first).tells → Stands store.spool.host (device first).content store.spool.changes
   pub failures : (device store.journal.disk).failures ≡ (device first).failures

@@ -1,22 +1,16 @@
 -- What a volume has too little of for a change, whatever its groups hold.
-use Rattle.std.specs.Prelude.{ℕ, if◌then◌else◌, length, nat_lt, Option, Some, None}
-use Rattle.model.specs.Room.{blocks_asked, free_blocks_beside, free_inodes_beside}
-use Rattle.model.specs.SpoolFiles.{files_of}
+use Rattle.std.specs.Prelude.{ℕ, if◌then◌else◌, nat_lt, Option, Some, None}
+use Rattle.model.specs.Room.{blocks_asked, blocks_for_change, files_made, inodes_for_change}
+use Rattle.model.specs.declared.change.Change.{Change}
 use Rattle.spool.specs.View.{SpoolView}
 use Rattle.volume_store.specs.declared.outcome.Lack.{Lack}
 use Rattle.volume_store.specs.declared.outcome.Lack.TheVariants.{Blocks, Inodes}
 
-abbrev pub free_blocks_of : SpoolView → ℕ
-free_blocks_of s = free_blocks_beside (length s.blocks) s.inodes (files_of s.changes)
+-- where so many blocks and inodes are free for a change that makes this many files: fewer blocks than a change asks for, or otherwise
+-- fewer inodes than files
+abbrev pub first_lack : ℕ → ℕ → ℕ → Option Lack
+first_lack blocks inodes files = if nat_lt blocks blocks_asked then Some Blocks else if nat_lt inodes files then Some Inodes else None
 
-abbrev pub free_inodes_of : SpoolView → ℕ
-free_inodes_of s = free_inodes_beside s.inodes (files_of s.changes)
-
--- for a change that makes this many files fewer than 256 blocks are free, or otherwise fewer inodes than files
-abbrev pub lack_for : SpoolView → ℕ → Option Lack
-lack_for s files =
-    if nat_lt (free_blocks_of s) blocks_asked then Some Blocks else if nat_lt (free_inodes_of s) files then Some Inodes else None
-
--- for a text: it makes one file
-abbrev pub lack_of : SpoolView → Option Lack
-lack_of s = lack_for s 1
+-- what is lacking for a change
+abbrev pub lack_for : SpoolView → Change → Option Lack
+lack_for s c = first_lack (blocks_for_change s.blocks c) (inodes_for_change s.blocks s.inodes c) (files_made c)

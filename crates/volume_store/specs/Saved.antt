@@ -8,7 +8,7 @@ use Rattle.model.specs.Spool.{Spool}
 use Rattle.model.specs.Stream.{Octets}
 use Rattle.model.specs.Volume.{blocks_from, laid_over}
 use Rattle.spool.specs.View.{SpoolView}
-use Rattle.volume.specs.Volume.{AgreeOutside, BatchView}
+use Rattle.journal_volume.specs.Volume.{AgreeOutside, BatchView}
 
 -- its journal, its spool, and how many of the spool's changes are durable
 pub record StoreView (D : Type 0) : Type 0 where
@@ -23,7 +23,7 @@ pub record IsBehind (blocks : List Octets) (spool : SpoolView) (durable : ℕ) :
 
 -- the invariant of a store. Once a call of the device has failed, nothing is stated about the journal's blocks
 pub record IsTied {D : Type 0} (device : D → Device) (journal : JournalView D) (spool : SpoolView) (durable : ℕ) : Type 0 where
-  pub format : journal.format ≡ 2
+  pub format : journal.format ≡ 3
   pub few : length spool.dirty ≤ 512
   pub labelled : IsLabel journal.label journal.size spool.inodes spool.host
   pub size : length spool.blocks ≡ journal.size

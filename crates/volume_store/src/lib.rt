@@ -4,12 +4,12 @@
 #![tactic(auto)]
 
 mod adding;
+mod batch_writing;
 mod carrying;
+mod missing_room;
 mod outcome;
-mod room;
 mod store;
 mod transfer;
-mod writing;
 
 pub use outcome::{CAUSES, FULL_GROUP, Lack, TextOutcome, TextRefusal, words_at};
 pub use store::Store;

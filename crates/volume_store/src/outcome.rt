@@ -20,14 +20,14 @@ pub enum TextOutcome {
     Full,
 }
 
-/// What a volume has too little of for a change.
+/// What a volume has too little of for a change. An article leaves some of both to the operator's changes.
 #[derive(Clone, Copy, Debug, PartialEq, Eq, Error)]
 pub enum Lack {
-    /// Fewer than 256 blocks are free.
-    #[error("fewer than 256 blocks are free")]
+    /// Fewer blocks are free than a change asks for.
+    #[error("too few blocks are free")]
     Blocks,
-    /// No inode is free; for a group, which takes three, fewer than three are.
-    #[error("no inode is free")]
+    /// Fewer inodes are free than the change makes files.
+    #[error("too few inodes are free")]
     Inodes,
 }
 

@@ -4,34 +4,32 @@ ghost use Rattle.std.specs.Prelude.{◌≡◌, ◌≢◌, ◌+◌, ◌≤◌, �
 ghost use Rattle.disk.specs.Device.{Elapses};
 ghost use Rattle.journal.specs.Journal.{IsReady};
 ghost use Rattle.kernel.specs.Kernel.{most_dirty};
-ghost use Rattle.model.specs.Files.{free_blocks};
-ghost use Rattle.model.specs.Lawful.{MayFollow};
-ghost use Rattle.model.specs.SpoolFiles.{files_of};
-ghost use Rattle.opening.specs.Standing as standing;
-ghost use Rattle.opening.specs.Standing.{IsDamagedVolume, IsNoNewsVolume};
-ghost use Rattle.rnews.specs.LineEnds as ends;
+ghost use Rattle.model.specs.Files.{free_blocks, free_inodes};
+ghost use Rattle.model.specs.Lawful.{MayFile, MayFollow};
+ghost use Rattle.model.specs.declared.change.Change.TheVariants as changed;
+ghost use Rattle.kernel.specs.Standing as standing;
+ghost use Rattle.text_rnews.specs.LineEnds as ends;
 ghost use Rattle.volume_store.specs.Adding.{IsAdded};
 ghost use Rattle.volume_store.specs.Filing.{Becomes};
 ghost use Rattle.volume_store.specs.Opening.{IsOpened};
-ghost use Rattle.volume_store.specs.Room.{lack_for, lack_of};
+ghost use Rattle.model.specs.declared.change.Filing.{Filing};
+ghost use Rattle.volume_store.specs.Room.{lack_for};
 
-use crate::adding::add_change;
+use crate::adding::{add_change, pack_article};
+use crate::batch_writing::write;
+use crate::missing_room::{lack_for, lack_for_articles};
 use crate::outcome::{Lack, TextOutcome};
-use crate::room::{blocks_used, inodes_of, lack_by};
 use crate::transfer::file_text;
-use crate::writing::write;
-use change_spool::FilingError;
 use disk::Disk;
 use journal::{Journal, JournalError};
-use kernel::{most_dirty, open_spool};
-use lookups::LookUps;
-use model::{Change, Moment};
-use opening::{OpenError, Refused};
-use rnews::with_crlf;
+use journal_volume::BatchBuf;
+use kernel::{OpenError, Refused, most_dirty, open_spool};
+use model::{Change, Filing, Moment};
+use session_lookups::{FilingError, LookUps};
 use spool::Spool;
 use std::alloc::{AllocError, Global};
 use std::marker::Model;
-use volume::BatchBuf;
+use text_rnews::with_crlf;
 
 /// A volume with its journal.
 pub struct Store<D: Disk> {
@@ -65,13 +63,11 @@ impl<D: Disk> Model for Store<D> {
 }
 
 impl<D: Disk> Store<D> {
-    ghost use Rattle.std.specs.Prelude.{◌⊎◌, MatchResult};
-    ghost use Rattle.journal.specs.Opening.{LeavesVolume, LeftKept, NeverSyncs, SyncsFirst};
-    ghost use Rattle.opening.specs.Costs.{CostsToOpen};
+    ghost use Rattle.kernel.specs.Standing.{LeavesOpened, LeavesRefused};
 
-    /// Opens a device whose volume no server serves; all its changes are durable. A volume of format 1 is made one of
-    /// format 2. The first good sync comes before every write. A crash before that sync leaves what a crash at the start
-    /// might have left, and one after it the volume that a read gives, in one of the two formats.
+    /// Opens a device whose volume no server serves; all its changes are durable. A volume of format 1 or 2 is made
+    /// one of format 3. The first good sync comes before every write. A crash before that sync leaves what a crash at the start
+    /// might have left, and one after it the volume that a read gives, in the format that was or in format 3.
     ///
     /// A refusal keeps to this too, and it returns the device. `Fault` (E1) if the device failed. `Memory` (E2) if it did
     /// not, and an allocation was refused; then a read gives what it gave before, or the same volume. `NotAVolume` (E3) if
@@ -79,27 +75,8 @@ impl<D: Disk> Store<D> {
     /// label's host in the files of its format.
     pub fn open(alloc: Global, disk: D) -> Result<Store<D>, Refused<D>>
         ensures ok { IfOk result (IsOpened D.device disk) }
-        ensures time { MatchResult result (λ store. Elapses (D.device disk) (D.device store.journal.disk))
-            (λ refused. Elapses (D.device disk) (D.device refused.disk)) }
-        ensures volume { MatchResult result (λ store. LeftKept (D.device disk) (D.device store.journal.disk))
-            (λ refused. LeftKept (D.device disk) (D.device refused.disk)) }
-        ensures moment { MatchResult result (λ store. SyncsFirst D.device disk store.journal.disk)
-            (λ refused. SyncsFirst D.device disk refused.disk ⊎ NeverSyncs D.device disk refused.disk) }
-        ensures judged { IfErr result (λ refused. (refused.error ≡ OpenError.NotAVolume) ⊎ (refused.error ≡ OpenError.Damaged)
-            → SyncsFirst D.device disk refused.disk) }
-        ensures cost { IsTrue (D.device disk).tells
-            → IfOk result (λ store. CostsToOpen (D.device disk).content (D.device disk) (D.device store.journal.disk)) }
-        ensures fault { IfErr result (λ refused. refused.error ≡ OpenError.Fault
-            → (D.device refused.disk).failures ≢ (D.device disk).failures) }
-        ensures memory { IfErr result (λ refused. refused.error ≡ OpenError.Memory
-            → (D.device refused.disk).failures ≡ (D.device disk).failures) }
-        ensures left { IsTrue (D.device disk).tells
-            → MatchResult result (λ store. LeavesVolume (D.device disk).content (D.device store.journal.disk).content)
-            (λ refused. refused.error ≡ OpenError.Memory → LeavesVolume (D.device disk).content (D.device refused.disk).content) }
-        ensures no_volume { IfErr result (λ refused. refused.error ≡ OpenError.NotAVolume → IsTrue (D.device disk).tells
-            → IsNoNewsVolume (D.device disk).content) }
-        ensures damaged { IfErr result (λ refused. refused.error ≡ OpenError.Damaged → IsTrue (D.device disk).tells
-            → IsDamagedVolume (D.device disk).content) }
+        ensures opening { IfOk result (λ store. LeavesOpened D.device disk store.journal.disk) }
+        ensures refusal { IfErr result (λ refused. LeavesRefused D.device disk refused.disk refused.error) }
     {
         let Ok(batch) = BatchBuf::new(alloc) else {
             return Err(Refused {
@@ -119,7 +96,7 @@ impl<D: Disk> Store<D> {
         };
         match open_spool(alloc, &mut journal) {
             Ok(spool) => {
-                // its clauses state what a crash leaves
+                // for the proof: what a crash leaves
                 let _idle = journal.is_idle();
                 Ok(Store {
                     durable: spool.len(),
@@ -186,9 +163,23 @@ impl<D: Disk> Store<D> {
         ensures journal { self.new.journal ≡ self.old.journal }
         ensures durable { self.new.durable ≡ self.old.durable }
     {
-        // its clauses state how many blocks a volume has
+        // for the proof: how many blocks a volume has
         self.spool.kept();
         add_change(alloc, &mut self.spool, change)
+    }
+
+    /// Files an article that may follow the changes of the spool, as `add` does, and puts its file into the pack, where it
+    /// takes neither an inode nor a block of its own.
+    pub fn pack(&mut self, alloc: Global, filing: &Filing) -> Result<(), FilingError>
+        requires may { MayFile self.old.spool.host self.old.spool.changes filing.now }
+        requires room { length self.old.spool.dirty ≤ most_dirty (length self.old.spool.blocks) }
+        ensures added { IsAdded self.old.spool self.new.spool (changed.Article filing.now) result }
+        ensures journal { self.new.journal ≡ self.old.journal }
+        ensures durable { self.new.durable ≡ self.old.durable }
+    {
+        // its clauses state how many blocks a volume has
+        self.spool.kept();
+        pack_article(alloc, &mut self.spool, filing)
     }
 
     /// Files a text, whose lines end in LF or CRLF, at a moment, as `file_text` does. It is not durable yet. Refused only
@@ -206,7 +197,7 @@ impl<D: Disk> Store<D> {
         ensures durable { self.new.durable ≡ self.old.durable }
         ensures err { OnErr result (self.new ≡ self.old) }
     {
-        // its clauses state how many blocks a volume has
+        // for the proof: how many blocks a volume has
         self.spool.kept();
         let text = with_crlf(alloc, text)?;
         file_text(alloc, &mut self.spool, &text, moment)
@@ -233,7 +224,7 @@ impl<D: Disk> Store<D> {
         if !self.journal.is_idle() {
             return Err(JournalError::Halted);
         }
-        // its clauses state that the blocks hold the changes
+        // for the proof: the blocks hold the changes
         self.spool.kept();
         write(&mut self.journal, &mut self.spool, &mut self.batch)?;
         self.durable = self.spool.len();
@@ -241,54 +232,33 @@ impl<D: Disk> Store<D> {
         Ok(())
     }
 
-    /// What the volume has too little of for any text: fewer than 256 blocks are free, or no inode. `None` if there is
-    /// enough of both; then a text that finds no room names a group whose files are full. All changes must be durable,
-    /// since the free blocks are counted by the bitmap on the device. The only refusal is `Fault` (E1).
-    pub fn lack(&mut self) -> Result<Option<Lack>, JournalError>
-        requires { IsSaved D.device self.old }
-        ensures value { IsTrue (D.device self.new.journal.disk).tells → IfOk result (λ lack. lack ≡ lack_of self.new.spool) }
-        ensures spool { self.new.spool ≡ self.old.spool }
-        ensures durable { self.new.durable ≡ self.old.durable }
-        ensures goes_on { GoesOn D.device self.old self.new }
+    /// What the volume has too little of for any article: blocks, or otherwise inodes. `None` if there is enough of both; then
+    /// an article that finds no room names a group whose files are full.
+    pub fn lack(&self) -> Option<Lack>
+        ensures { (filing : Filing) → result ≡ lack_for self.now.spool (changed.Article filing) }
     {
-        self.lack_for(1)
+        lack_for_articles(&self.spool)
     }
 
-    /// What the volume has too little of for a change that makes this many files: fewer than 256 blocks are free, or fewer
-    /// inodes than that. `None` if there is enough of both. It says so if all changes are durable, since the free blocks are
-    /// counted by the bitmap on the device. `Fault` (E1) if the device failed, `Halted` (E4) if it had failed before.
-    pub fn lack_for(&mut self, files: u64) -> Result<Option<Lack>, JournalError>
-        ensures value { IsSaved D.device self.old → IsTrue (D.device self.new.journal.disk).tells
-            → IfOk result (λ lack. lack ≡ lack_for self.new.spool files) }
-        ensures spool { self.new.spool ≡ self.old.spool }
-        ensures durable { self.new.durable ≡ self.old.durable }
-        ensures goes_on { GoesOn D.device self.old self.new }
+    /// What the volume has too little of for a change, as `lack` says it of articles.
+    pub fn lack_for(&self, change: &Change) -> Option<Lack>
+        ensures { result ≡ lack_for self.now.spool change.now }
     {
-        let used = self.blocks_used()?;
-        Ok(lack_by(&self.spool, used, files))
+        lack_for(&self.spool, change)
     }
 
-    /// The number of used blocks of a volume whose changes are all durable. Refused as `lack_for` is.
-    pub fn blocks_used(&mut self) -> Result<u64, JournalError>
-        ensures value { IsSaved D.device self.old → IsTrue (D.device self.new.journal.disk).tells
-            → IfOk result (λ used. used + free_blocks self.new.spool.blocks ≡ length self.new.spool.blocks) }
-        ensures spool { self.new.spool ≡ self.old.spool }
-        ensures durable { self.new.durable ≡ self.old.durable }
-        ensures goes_on { GoesOn D.device self.old self.new }
+    /// The number of blocks that aren't free.
+    pub fn blocks_used(&self) -> u64
+        ensures { result + free_blocks self.now.spool.blocks ≡ length self.now.spool.blocks }
     {
-        if !self.journal.is_idle() {
-            return Err(JournalError::Halted);
-        }
-        // its clauses state that the blocks hold the changes
-        self.spool.kept();
-        blocks_used(&mut self.journal)
+        u64::from(self.spool.used_blocks())
     }
 
-    /// The number of used inodes: that of the files of all changes, durable or not.
+    /// The number of inodes with a file.
     pub fn inodes_used(&self) -> u64
-        ensures { result ≡ length (files_of self.now.spool.changes) }
+        ensures { result + free_inodes self.now.spool.inodes self.now.spool.blocks ≡ self.now.spool.inodes }
     {
-        inodes_of(&self.spool)
+        u64::from(self.spool.used_inodes())
     }
 
     /// The device, as the store leaves it.

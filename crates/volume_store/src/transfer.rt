@@ -6,16 +6,15 @@ ghost use Rattle.model.specs.Spool.{by_id, is_here};
 ghost use Rattle.volume_store.specs.Filing.{Becomes, IsOffered};
 
 use crate::{TextOutcome, TextRefusal};
-use article::{Article, Origin, ReadError};
-use change_spool::FilingError;
-use lookups::{LookUps, find_group, find_id};
 use model::{Envelope, Moment, Names, Text};
-use names::is_of_host;
+use session_lookups::{FilingError, LookUps, find_group, find_id};
 use spool::Spool;
 use std::alloc::{AllocError, Global};
+use text_article::{Article, Origin, ReadError};
+use text_names::is_of_host;
 
 /// Files a text at a moment. It becomes what it would if another server offered it by its own message-id (IHAVE; RFC
-/// 3977, section 6.3.2). Refused only for want of memory. Unless the text is filed, the spool stays as it was.
+/// 3977, section 6.3.2). Unless the text is filed, the spool stays as it was.
 pub fn file_text(
     alloc: Global,
     spool: &mut Spool,
@@ -85,7 +84,7 @@ fn file_new(
     if groups.is_empty() {
         return Ok(TextOutcome::NoGroup);
     }
-    // its clauses state that the moment is before its limit
+    // for the proof: the moment is before its limit
     let _seconds = moment.seconds();
     let envelope = Envelope {
         groups: Names::new(groups),

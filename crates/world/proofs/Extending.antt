@@ -7,6 +7,7 @@ use Rattle.std.specs.Option.{option_to_list}
 use Rattle.disk.specs.Device.{Device}
 use Rattle.journal.specs.declared.Next.{Next}
 use Rattle.journal.specs.declared.Next.TheVariants as next
+use Rattle.kernel_seats.specs.declared.Outcome.{Outcome}
 use Rattle.kernel.specs.Kernel.{KernelView, Refusal, Tested, TestedOrMemory, admin_refusal_of, early_refusal, exec_refusal}
 use Rattle.kernel.specs.Kernel.{expire_refusal_of, halted_for_good, has_batch, join_refusal, mode_at, taken}
 use Rattle.model.specs.Spool.{Spool}
@@ -16,9 +17,9 @@ use Rattle.model.specs.declared.change.Change.TheVariants.{Expire, Group}
 use Rattle.model.specs.declared.message.Mark.{Mark}
 use Rattle.model.specs.declared.message.Message.{Message}
 use Rattle.model.specs.declared.message.Mode.{Mode}
-use Rattle.names.specs.Requests.{group_of}
-use Rattle.traced_kernel.specs.Events.{Makes, Serves, arrive_refusal, arrives, joins, leaves, releases, releases_of, with_kernel}
-use Rattle.traced_kernel.specs.Traced.{TracedView, next_of}
+use Rattle.text_names.specs.Requests.{group_of}
+use Rattle.kernel_trace.specs.Events.{Makes, Serves, arrive_refusal, arrives, joins, leaves, releases, releases_of, with_kernel}
+use Rattle.kernel_trace.specs.Traced.{TracedView, next_of}
 use Rattle.world.specs.Events.{Did, DidExec, DidTake, Went, more, none, of_kernel, told}
 use Rattle.world.specs.World.{HasFailed, IsDurable, News, WorldView, kernel_of, with_served}
 use Rattle.world.specs.declared.events.Event.{Event}
@@ -52,9 +53,9 @@ trans old middle new a b = record {
   spool = b.spool ∙ (ap (λ (S : Spool). S ++ b.added) a.spool ∙ append_assoc old.kernel.spool a.added b.added);
 }
 
-by_serving : (old new : TracedView) (number moment : ℕ) (message : Message) (answered : Option Mode × Mark)
-    → Serves old new number moment message answered → Extends old new
-by_serving old new number moment message answered s = record {
+by_serving : (old new : TracedView) (number moment : ℕ) (message : Message) (outcome : Outcome)
+    → Serves old new number moment message outcome → Extends old new
+by_serving old new number moment message outcome s = record {
   first = s.first;
   host = s.kernel.executed.host;
   added = _;

@@ -3,7 +3,7 @@ use Rattle.std.proofs.Common.{◌≡◌, Bool, List, Option, sym, subst}
 use Rattle.disk.specs.Device.{Device, IsUnchanged}
 use Rattle.journal.specs.Journal.{JournalView}
 use Rattle.kernel.specs.Kernel.{KernelView}
-use Rattle.shared_kernel.specs.declared.ticket.Ticket.{Ticket}
+use Rattle.kernel_shared.specs.declared.ticket.Ticket.{Ticket}
 use Rattle.world.specs.Fields.{IsSound}
 use Rattle.world.specs.Tied.{Phase, Quiet, Flying, IsToBeTold}
 use Rattle.world.specs.World.{News, WorldView}

@@ -12,15 +12,15 @@ use Rattle.model.specs.News.{Holds, Stands, service}
 use Rattle.model.specs.Volume.{StandsFor, format_number}
 use Rattle.model.specs.declared.session.Session.{Session}
 use Rattle.kernel.specs.Kernel.{KernelView, seat_of}
-use Rattle.seats.specs.Seats.{Seat}
+use Rattle.kernel_seats.specs.Seats.{Seat}
 use Rattle.kernel.specs.Kept.{IsKept}
 use Rattle.synchrony.specs.Server.{Connection, PlainServer, sync}
 use Rattle.synchrony.specs.Dependency.{Output}
 use Rattle.synchrony.specs.Synchrony.{IsExternallySynchronous, IsReleased}
 use Rattle.synchrony.proofs.Released.{IsReleased-none, IsReleased-raise}
 use Rattle.synchrony.proofs.Theorems.{account_sync, releases_are_synchronous}
-use Rattle.traced_kernel.specs.Traced.{Sent, TracedView, IsServed, IsSession, account}
-use Rattle.traced_kernel.specs.Traced.{arrived_at, first_spool, nobody, released_at, session_at}
+use Rattle.kernel_trace.specs.Traced.{Sent, TracedView, IsServed, IsSession, account}
+use Rattle.kernel_trace.specs.Traced.{arrived_at, first_spool, nobody, released_at, session_at}
 use Rattle.model.proofs.NewsLaws.{lawful}
 use Rattle.world.specs.World.{WorldView, kernel_of}
 use Rattle.world.specs.Images.{Fits, IsSynchronous, MayBeLeft}
@@ -77,7 +77,11 @@ stands_for tells world blocks p image h size holds volume risen =
       blocks = blocks;
       volume = volume;
       labelled = subst (λ n. IsLabel world.journal.label n (kernel_of world).inodes (kernel_of world).host) (sym size) h.label;
-      held = record { held = holds; of_format = λ first. absurd (omega (arith, risen, h.format, first)) };
+      held = record {
+        held = holds;
+        no_pack = λ few. absurd (omega (arith, risen, h.format, few));
+        of_format = λ first. absurd (omega (arith, risen, h.format, first));
+      };
     }
 
 -- where no batch is to be committed, the journal admits its blocks alone

@@ -11,3 +11,4 @@ pub mod Inner
 pub mod Settling
 pub mod Settled
 pub mod Releases
+pub mod Refusing

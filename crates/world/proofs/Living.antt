@@ -4,7 +4,7 @@ use Rattle.std.proofs.lemmas.List.{length-take, take-append-drop}
 use Rattle.std.proofs.Math.Seq.{take-append_seam}
 use Rattle.std.specs.Option.{IfSome}
 use Rattle.disk.specs.Device.{Device}
-use Rattle.lives.specs.Lives.{AreLives, Life, LivesAreOne, NothingIsUndone, handed_on, spool_after}
+use Rattle.model_lives.specs.Lives.{AreLives, Life, LivesAreOne, NothingIsUndone, handed_on, spool_after}
 use Rattle.model.specs.Laws.Layout.{ImagesStandForOne}
 use Rattle.model.specs.News.{Stands, service}
 use Rattle.model.specs.Spool.{Spool}
@@ -13,7 +13,7 @@ use Rattle.model.specs.declared.change.Change.{Change}
 use Rattle.model.specs.declared.message.Mark.{Mark}
 use Rattle.synchrony.proofs.Fronts.{prefix_trans}
 use Rattle.synchrony.specs.Synchrony.{IsExternallySynchronous}
-use Rattle.traced_kernel.specs.Traced.{arrived_at, first_spool, released_at}
+use Rattle.kernel_trace.specs.Traced.{arrived_at, first_spool, released_at}
 use Rattle.world.specs.Events.{Went}
 use Rattle.world.specs.Images.{Fits}
 use Rattle.world.specs.Lives.{AreOneLife, Lived, crashes, life_of, lives_on}

@@ -1,5 +1,5 @@
 -- An opening, and what a crash during it might have left.
-use Rattle.std.proofs.Common.{◌≡◌, ⊎_elim, ℕ, List, [], length, take, None, refl, ap, sym, ◌∙◌, subst, arith}
+use Rattle.std.proofs.Common.{◌≡◌, inl, ⊎_elim, ℕ, List, [], length, take, None, refl, ap, sym, ◌∙◌, subst, arith}
 use Rattle.std.specs.Prelude.{IsTrue, slice_index_or}
 use Rattle.std.proofs.lemmas.List.{take_all}
 use Rattle.disk.specs.Device.{Device}
@@ -13,10 +13,11 @@ use Rattle.model.specs.News.{Holds, Stands}
 use Rattle.model.specs.Spool.{Spool}
 use Rattle.model.specs.Stream.{Octets}
 use Rattle.model.specs.Volume.{format_number}
-use Rattle.traced_kernel.specs.Events.{opens}
-use Rattle.traced_kernel.specs.Traced.{TracedView}
+use Rattle.kernel_trace.specs.Events.{opens}
+use Rattle.kernel_trace.specs.Traced.{TracedView}
 use Rattle.world.specs.Fields.{IsSound}
-use Rattle.opening.specs.Standing.{IsDamagedVolume, IsNoNewsVolume}
+use Rattle.kernel.specs.Standing.{IsDamagedVolume, IsNoNewsVolume, LeavesOpened, LeavesRefused}
+use Rattle.kernel.specs.declared.kernel_opening.OpenError.TheVariants.{Memory}
 use Rattle.world.specs.Images.{KeepsSpools, StandsForNone}
 use Rattle.journal.specs.Order.{is_to_commit}
 use Rattle.world.specs.Tied.{AreFaultsOrStopped, IsQuiet, Quiet}
@@ -35,6 +36,21 @@ module _ {D : Type 0} (device : D → Device) (only_now : (d : D) (image : Octet
       ))
       (kept tells (device first).clock image (omega arith) left)
 
+-- what is left if memory lacks once the device was opened
+pub refused_for_memory : {D : Type 0} (device : D → Device) (before after : D) → LeavesOpened device before after
+    → LeavesRefused device before after Memory
+refused_for_memory device before after opened = record {
+  time = opened.time;
+  volume = opened.volume;
+  moment = inl opened.moment;
+  judged = λ _. opened.moment;
+  fault = λ is. absurd (cc is);
+  memory = λ _. opened.still;
+  left = λ tells _. opened.left tells;
+  no_volume = λ is. absurd (cc is);
+  damaged = λ is. absurd (cc is);
+}
+
 -- neither stands for a spool
 pub none_unlabelled : (content : Octets) → IsNoNewsVolume content → StandsForNone content
 none_unlabelled content never host S s = never s.label s.blocks s.inodes host s.volume s.labelled
@@ -52,7 +68,7 @@ none_damaged content d host S s =
 -- ---- the new world
 
 pub sound_new : {D : Type 0} (device : D → Device) (journal : JournalView D) (kernel : KernelView) (served : TracedView)
-    → served ≡ opens kernel → IsOpened device journal kernel → journal.format ≡ 2 → IsReady journal
+    → served ≡ opens kernel → IsOpened device journal kernel → journal.format ≡ 3 → IsReady journal
     → IsSound (device journal.disk).tells (record { journal = journal; served = served; untold = [] }) None
 sound_new {D} device journal kernel served is k format ready =
     subst (λ s. IsSound (device journal.disk).tells (record { journal = journal; served = s; untold = [] }) None) (sym is) now

@@ -14,22 +14,22 @@ use Rattle.kernel.specs.Kernel.{KernelView, seat_of}
 use Rattle.kernel.proofs.KernelLaws.{all_at}
 use Rattle.model.specs.News.{service}
 use Rattle.model.proofs.NewsLaws.{lawful}
-use Rattle.outbox.specs.Queue.{Giving, HeldOutput, ReadyEntry, buffered, entry_of, give, nothing_more}
-use Rattle.outbox.proofs.GivingLaws.{give-buffered, give-cut, give-whole}
-use Rattle.seats.specs.Kept.{RiseFrom}
-use Rattle.seats.specs.Seats.{Ready, Seat, given_by, ready, seat_given}
-use Rattle.seats.proofs.SeatsLaws.{find_at, find_place}
+use Rattle.kernel_outbox.specs.Queue.{Giving, HeldOutput, ReadyEntry, buffered, entry_of, give, nothing_more}
+use Rattle.kernel_outbox.proofs.GivingLaws.{give-buffered, give-cut, give-whole}
+use Rattle.kernel_seats.specs.Kept.{RiseFrom}
+use Rattle.kernel_seats.specs.Seats.{Ready, Seat, given_by, ready, seat_given}
+use Rattle.kernel_seats.proofs.SeatsLaws.{find_at, find_place}
 use Rattle.synchrony.specs.Dependency.{Output, greatest}
 use Rattle.synchrony.specs.Progress.{EachFilled, unreleased}
 use Rattle.synchrony.specs.Server.{sync}
 use Rattle.synchrony.proofs.Cut.{IsCut, sync_cut}
 use Rattle.synchrony.proofs.Filled.{EachFilled-unreleased, outputs_are_filled}
-use Rattle.traced_kernel.specs.Events.{releases, with_kernel, with_released}
-use Rattle.traced_kernel.specs.Traced.{FollowsPlain, IsPresent, IsServed, IsSession, Sent, TracedView, account, arrived_at}
-use Rattle.traced_kernel.specs.Traced.{first_spool, nobody, octets_of_held, released_at, replies_to, session_at, without_ends}
-use Rattle.traced_kernel.proofs.Sessions.{ready_known, sent_more, with_released-at}
-use Rattle.traced_kernel.proofs.Standing.{there_joined}
-use Rattle.traced_kernel.specs.Fields.{given_in}
+use Rattle.kernel_trace.specs.Events.{releases, with_kernel, with_released}
+use Rattle.kernel_trace.specs.Traced.{FollowsPlain, IsPresent, IsServed, IsSession, Sent, TracedView, account, arrived_at}
+use Rattle.kernel_trace.specs.Traced.{first_spool, nobody, octets_of_held, released_at, replies_to, session_at, without_ends}
+use Rattle.kernel_trace.proofs.Sessions.{ready_known, sent_more, with_released-at}
+use Rattle.kernel_trace.proofs.Standing.{there_joined}
+use Rattle.kernel_trace.specs.Fields.{given_in}
 use Rattle.world.specs.Draining.{AsksNothing, CostsToSettle, IsHindered, IsSettled, IsStill, ReleasesSome, RunsInner, SendsAll}
 use Rattle.world.specs.Draining.{with_progress}
 use Rattle.world.specs.Events.{Did}

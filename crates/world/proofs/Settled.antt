@@ -6,16 +6,16 @@ use Rattle.std.specs.List.{list_any}
 use Rattle.std.proofs.lemmas.Bool.{eqb-true, true≢false}
 use Rattle.std.proofs.lemmas.List.{get_or_default, nil_from_length, length-take, same_lists}
 use Rattle.disk.specs.Device.{Device}
-use Rattle.journal.specs.Flight.{counts_of}
+use Rattle.journal.specs.Flight.{carried_of, none_carried}
 use Rattle.journal.specs.Journal.{IsReady, IsSameBatch, JournalView, sizes, still_open}
-use Rattle.journal.specs.Order.{IsMore, syncs_made, writes_made}
+use Rattle.journal.specs.Order.{Carried, IsMore, syncs_made, writes_made}
 use Rattle.journal.specs.declared.Next.TheVariants as next
 use Rattle.kernel.specs.Kernel.{KernelView, has_batch, is_dirty, taken}
 use Rattle.model.specs.Layout.{Holds}
 use Rattle.model.specs.Stream.{Octets}
 use Rattle.model.proofs.HoldsOne.{holds_one}
-use Rattle.traced_kernel.specs.Events.{with_kernel}
-use Rattle.traced_kernel.specs.Traced.{TracedView}
+use Rattle.kernel_trace.specs.Events.{with_kernel}
+use Rattle.kernel_trace.specs.Traced.{TracedView}
 use Rattle.world.specs.Draining.{CostsToSettle, FinishesBatch, IsHindered, IsSettled, IsStill, RunsInner}
 use Rattle.world.specs.Draining.{syncs_left, with_batch_durable, with_progress, writes_left}
 use Rattle.world.specs.Events.{DidTake, begun}
@@ -95,7 +95,7 @@ begun_alike : {D : Type 0} (old now : JournalView D) (kernel : KernelView) → I
     → sizes (begun now kernel) ≡ sizes (begun old kernel)
 begun_alike old now kernel same =
     λ i. if length (open_alike old now same i) + 1 == same.segments i
-    then counts_of (open_alike old now same i ++ record {
+    then carried_of (same.segments i) (open_alike old now same i ++ record {
       place = length (open_alike old now same i);
       batch = record {
         number = length (open_alike old now same i) + 1;
@@ -104,7 +104,7 @@ begun_alike old now kernel same =
         images = map (λ n. slice_index_or kernel.blocks n []) kernel.dirty;
       };
     } ∷ [])
-    else []
+    else none_carried
 
 nothing_left : {D : Type 0} (journal : JournalView D) → IsReady journal → (writes_left journal ≡ 0) × (syncs_left journal ≡ 0)
 nothing_left journal ready = (
@@ -285,8 +285,8 @@ module _ {D : Type 0} (device : D → Device) (write_grows sync_grows : Bool) (o
         let alike = begun_alike old.journal first.journal (kernel_of old) before.same in
         let n = length (kernel_of old).dirty in
         costs (writes_left (begun old.journal (kernel_of old))) (syncs_left (begun old.journal (kernel_of old)))
-        (ap writes_left journal ∙ ap (λ (counts : List ℕ). writes_made n counts next.Idle - writes_made n counts next.Descriptor) alike)
-        (ap syncs_left journal ∙ ap (λ (counts : List ℕ). syncs_made counts next.Idle - syncs_made counts next.Descriptor) alike)
+        (ap writes_left journal ∙ ap (λ (carried : Carried). writes_made n carried next.Idle - writes_made n carried next.Descriptor) alike)
+        (ap syncs_left journal ∙ ap (λ (carried : Carried). syncs_made carried next.Idle - syncs_made carried next.Descriptor) alike)
         (sym (ap (λ (b : Bool). if b then 0 else writes_left (begun old.journal (kernel_of old))) t.some))
         (sym (ap (λ (b : Bool). if b then 0 else syncs_left (begun old.journal (kernel_of old))) t.some))
 

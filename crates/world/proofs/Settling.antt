@@ -6,9 +6,9 @@ use Rattle.std.proofs.lemmas.Bool.{true≢false}
 use Rattle.std.proofs.lemmas.List.{append-nil}
 use Rattle.std.proofs.Math.Nat.{mod-add-mod}
 use Rattle.disk.specs.Device.{Device}
-use Rattle.journal.specs.Calls.{IsRetried, MakesCall, OnMade, OnRetried}
-use Rattle.journal.specs.Journal.{IsReady, IsSameBatch, JournalView, all_held, calls, sizes}
-use Rattle.journal.specs.Order.{IsMore, all_calls, following, is_growing, is_sync, is_to_commit, syncs_made, writes_made}
+use Rattle.journal.specs.Calls.{IsRetried, MakesCall, OnMade, OnRetried, written_by}
+use Rattle.journal.specs.Journal.{IsReady, IsSameBatch, JournalView, calls, sizes}
+use Rattle.journal.specs.Order.{Carried, IsMore, all_calls, following, is_growing, is_sync, is_to_commit, syncs_made, writes_made}
 use Rattle.journal.specs.declared.JournalError.{JournalError}
 use Rattle.journal.specs.declared.JournalError.TheVariants as journal
 use Rattle.journal.specs.declared.Next.{Next}
@@ -19,11 +19,9 @@ use Rattle.journal.proofs.During.{same_itself, same_sizes, same_then}
 use Rattle.journal.proofs.Order.{one_more_sync, one_more_write}
 use Rattle.kernel.specs.Kernel.{KernelView}
 use Rattle.model.specs.Stream.{Octets}
-use Rattle.model.specs.Volume.{descriptor_of}
-use Rattle.traced_kernel.specs.Events.{with_kernel}
-use Rattle.traced_kernel.specs.Traced.{TracedView}
-use Rattle.world.specs.Draining.{CarriesOut, FinishesBatch, IsHindered, RunsInner}
-use Rattle.world.specs.Draining.{syncs_left, with_batch_durable, writes_left}
+use Rattle.kernel_trace.specs.Events.{with_kernel}
+use Rattle.kernel_trace.specs.Traced.{TracedView}
+use Rattle.world.specs.Draining.{CarriesOut, FinishesBatch, IsHindered, RunsInner, syncs_left, with_batch_durable, writes_left}
 use Rattle.world.specs.Events.{Did, DidDev, dev_answer, news_of, told}
 use Rattle.world.specs.Images.{EachSince, Fits, LeftFits}
 use Rattle.world.specs.Tied.{AreFaults, AreFaultsOrStopped, IsTied, IsWorld, Phase, Quiet, Flying, IsToBeTold}
@@ -46,13 +44,13 @@ pub record Counted (old_made made counted_before counted : ℕ) : Type 0 where
 none_counted : (made counted : ℕ) → Counted made made counted counted
 none_counted made counted = record { done = 0; made_is = omega arith; more = ap (λ (k : ℕ). k % 2 ^ 64) (omega arith) }
 
-writes_counted : (n : ℕ) (counts : List ℕ) (call : Next) (made before : ℕ) (old new : Device) → call ≢ next.Idle
-    → Asks (is_sync call) old new → Counted made (writes_made n counts call) before old.writes
-    → Counted made (writes_made n counts (following n counts call)) before new.writes
-writes_counted n counts call made before old new flies asks h = go (is_sync call) asks (one_more_write n counts call flies) where
+writes_counted : (n : ℕ) (carried : Carried) (call : Next) (made before : ℕ) (old new : Device) → call ≢ next.Idle
+    → Asks (is_sync call) old new → Counted made (writes_made n carried call) before old.writes
+    → Counted made (writes_made n carried (following n carried call)) before new.writes
+writes_counted n carried call made before old new flies asks h = go (is_sync call) asks (one_more_write n carried call flies) where
   go : (b : Bool) → Asks b old new
-      → writes_made n counts (following n counts call) ≡ (if b then writes_made n counts call else writes_made n counts call + 1)
-      → Counted made (writes_made n counts (following n counts call)) before new.writes
+      → writes_made n carried (following n carried call) ≡ (if b then writes_made n carried call else writes_made n carried call + 1)
+      → Counted made (writes_made n carried (following n carried call)) before new.writes
   go true asked is = record {
     done = h.done;
     made_is = is ∙ h.made_is;
@@ -64,13 +62,13 @@ writes_counted n counts call made before old new flies asks h = go (is_sync call
     more = one_count h.done before old.writes new.writes h.more asked.writes;
   }
 
-syncs_counted : (n : ℕ) (counts : List ℕ) (call : Next) (made before : ℕ) (old new : Device) → call ≢ next.Idle
-    → Asks (is_sync call) old new → Counted made (syncs_made counts call) before old.syncs
-    → Counted made (syncs_made counts (following n counts call)) before new.syncs
-syncs_counted n counts call made before old new flies asks h = go (is_sync call) asks (one_more_sync n counts call flies) where
+syncs_counted : (n : ℕ) (carried : Carried) (call : Next) (made before : ℕ) (old new : Device) → call ≢ next.Idle
+    → Asks (is_sync call) old new → Counted made (syncs_made carried call) before old.syncs
+    → Counted made (syncs_made carried (following n carried call)) before new.syncs
+syncs_counted n carried call made before old new flies asks h = go (is_sync call) asks (one_more_sync n carried call flies) where
   go : (b : Bool) → Asks b old new
-      → syncs_made counts (following n counts call) ≡ (if b then syncs_made counts call + 1 else syncs_made counts call)
-      → Counted made (syncs_made counts (following n counts call)) before new.syncs
+      → syncs_made carried (following n carried call) ≡ (if b then syncs_made carried call + 1 else syncs_made carried call)
+      → Counted made (syncs_made carried (following n carried call)) before new.syncs
   go false asked is = record {
     done = h.done;
     made_is = is ∙ h.made_is;
@@ -220,15 +218,14 @@ module _ {D : Type 0} (device : D → Device) (write_grows sync_grows : Bool) wh
       by_made : (p : Progress) × Made device write_grows sync_grows now new busy p → Calling device write_grows sync_grows old new
       by_made (p, m) =
           let n = length now.journal.numbers in
-          let counts = sizes now.journal in
-          let asks = asks_by Progress JournalError now.journal.next now.journal.segments (all_held now.journal) now.journal.place
-          (descriptor_of now.journal.number now.journal.last now.journal.numbers) now.journal.images p (device now.journal.disk)
-          (device new.journal.disk) m.call.does m.flies in
+          let carried = sizes now.journal in
+          let asks = asks_by true true now.journal.next (written_by now.journal) tt (device now.journal.disk) (device new.journal.disk)
+          m.call.does m.flies in
           let runs : new.journal.halted ≡ false = m.call.next.1 in
           let made : writes_made (length new.journal.numbers) (sizes new.journal) new.journal.next
-          ≡ writes_made n counts (following n counts now.journal.next) =
+          ≡ writes_made n carried (following n carried now.journal.next) =
           λ i. writes_made (length (m.call.same.numbers i)) (same_sizes now.journal new.journal m.call.same i) (m.call.next.0 i) in
-          let synced : syncs_made (sizes new.journal) new.journal.next ≡ syncs_made counts (following n counts now.journal.next) =
+          let synced : syncs_made (sizes new.journal) new.journal.next ≡ syncs_made carried (following n carried now.journal.next) =
           λ i. syncs_made (same_sizes now.journal new.journal m.call.same i) (m.call.next.0 i) in
           record {
             inner = inner_on tt (Ok a) (λ e. cc) d;
@@ -240,11 +237,12 @@ module _ {D : Type 0} (device : D → Device) (write_grows sync_grows : Bool) wh
             failures = m.call.failures.ok ∙ so_far.failures;
             writes = subst (λ (k : ℕ). Counted (writes_made (length old.journal.numbers) (sizes old.journal) old.journal.next) k
                 (device old.journal.disk).writes (device new.journal.disk).writes) (sym made)
-                (writes_counted n counts now.journal.next _ _ (device now.journal.disk) (device new.journal.disk) m.flies asks
+                (writes_counted n carried now.journal.next _ _ (device now.journal.disk) (device new.journal.disk) m.flies asks
                 so_far.writes);
             syncs = subst (λ (k : ℕ). Counted (syncs_made (sizes old.journal) old.journal.next) k
                 (device old.journal.disk).syncs (device new.journal.disk).syncs) (sym synced)
-                (syncs_counted n counts now.journal.next _ _ (device now.journal.disk) (device new.journal.disk) m.flies asks so_far.syncs);
+                (syncs_counted n carried now.journal.next _ _ (device now.journal.disk) (device new.journal.disk) m.flies asks
+                so_far.syncs);
           }
 
     pub fewer_calls : (a : StepAnswer) → DidDev device write_grows sync_grows now (Ok a) new

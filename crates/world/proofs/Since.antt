@@ -13,8 +13,8 @@ use Rattle.kernel.specs.Kernel.{Refusal, TestedOrMemory, has_batch, join_refusal
 use Rattle.model.specs.Stream.{Octets}
 use Rattle.model.specs.declared.message.Message.{Message}
 use Rattle.model.specs.declared.message.Mode.{Mode}
-use Rattle.traced_kernel.specs.Events.{arrive_refusal}
-use Rattle.traced_kernel.specs.Traced.{TracedView, arrived_at, first_spool, next_of, released_at}
+use Rattle.kernel_trace.specs.Events.{arrive_refusal}
+use Rattle.kernel_trace.specs.Traced.{TracedView, arrived_at, first_spool, next_of, released_at}
 use Rattle.world.specs.Events.{Did, DidDev, DidExec, DidTake, of_kernel}
 use Rattle.journal.specs.declared.JournalError.TheVariants as journal
 use Rattle.world.specs.Images.{EachSince, Fits, IsSynchronous, LeftFits, MayBeLeft}

@@ -1,7 +1,6 @@
 -- What the fields keep, through each event.
-use Rattle.std.proofs.Common.{◌≡◌, ◌≢◌, ◌⊎◌, ◌↔◌, ◌==◌, inl, inr, ⊎_elim, ℕ, ◌+◌, Bool, true, false, eqb, List, [], ◌∷◌, ◌++◌, length}
-use Rattle.std.proofs.Common.{Option}
-use Rattle.std.proofs.Common.{Some, None, refl, ap, sym, ◌∙◌, subst}
+use Rattle.std.proofs.Common.{◌≡◌, ◌≢◌, ◌⊎◌, ◌↔◌, ◌==◌, inl, inr, ⊎_elim, ℕ, ◌+◌, Bool, true, false, List, [], ◌∷◌, ◌++◌, length}
+use Rattle.std.proofs.Common.{Option, Some, None, refl, ap, sym, ◌∙◌, subst}
 use Rattle.std.proofs.lemmas.Bool.{eqb-true, eqb-false}
 use Rattle.std.proofs.lemmas.List.{append-nil}
 use Rattle.disk.specs.Device.{Device}
@@ -13,30 +12,30 @@ use Rattle.journal.proofs.Waiting.{committed_at}
 use Rattle.journal.specs.declared.Next.TheVariants as next
 use Rattle.journal.specs.declared.Progress.{Progress}
 use Rattle.journal.specs.declared.Progress.TheVariants as progress
+use Rattle.kernel_seats.specs.declared.Outcome.{Outcome}
 use Rattle.kernel.specs.Kernel as refusal
-use Rattle.shared_kernel.specs.declared.errors.ExecError.TheVariants as exec
+use Rattle.kernel_shared.specs.declared.errors.ExecError.TheVariants as exec
 use Rattle.world.specs.declared.events.StepAnswer.TheVariants as answer
 use Rattle.std.specs.Prelude.{drop, ◌||◌, ◌&&◌, not, is_none, nat_le, nat_lt, IfOk, map, option_map, slice_index_or, OnErr, OnOk, Result}
 use Rattle.std.specs.Prelude.{Ok, Err, IsTrue, if◌then◌else◌}
-use Rattle.journal.specs.Journal.{IsReady, JournalView, sizes, still_open}
-use Rattle.journal.specs.declared.Next.TheVariants.{Descriptor}
+use Rattle.journal.specs.Journal.{IsReady, JournalView, begins, sizes}
 use Rattle.kernel.specs.Errors.{of_exec}
 use Rattle.kernel.specs.Kernel.{AgreesBehind, KernelView, halted_for_good, made_durable, Refusal, Takes, Tested, TestedOrMemory, buffered}
 use Rattle.kernel.specs.Kernel.{admin_refusal_of, exec_refusal, expire_refusal_of, first_failing, has_batch, is_block, mode_at, most_dirty}
 use Rattle.kernel.specs.Kernel.{taken}
-use Rattle.seats.specs.Seats.{Seat}
+use Rattle.kernel_seats.specs.Seats.{Seat}
 use Rattle.kernel.specs.Kept.{IsKept}
-use Rattle.shared_kernel.specs.declared.ticket.Ticket.{Ticket}
-use Rattle.shared_kernel.specs.declared.errors.ExecError.{ExecError}
+use Rattle.kernel_shared.specs.declared.ticket.Ticket.{Ticket}
+use Rattle.kernel_shared.specs.declared.errors.ExecError.{ExecError}
 use Rattle.model.specs.Stream.{Octets}
 use Rattle.model.specs.Volume.{laid_over}
 use Rattle.model.specs.declared.change.Change.{Change}
 use Rattle.model.specs.declared.message.Mark.{Mark}
 use Rattle.model.specs.declared.message.Message.{Message}
 use Rattle.model.specs.declared.message.Mode.{Mode}
-use Rattle.traced_kernel.specs.Events.{DidExec as ServedExec, releases, releases_of, with_kernel}
-use Rattle.traced_kernel.specs.Traced.{TracedView}
-use Rattle.traced_kernel.proofs.Sound.{err_of}
+use Rattle.kernel_trace.specs.Events.{DidExec as ServedExec, releases, releases_of, with_kernel}
+use Rattle.kernel_trace.specs.Traced.{TracedView}
+use Rattle.kernel_trace.proofs.Sound.{err_of}
 use Rattle.world.specs.Events.{DidExec, DidStop, Steps, begun, commits, exec_answer, fails, news_of, of_exec_error, of_kernel, told}
 use Rattle.world.specs.Fields.{IsSound, durable_news, failed_news, news_in}
 use Rattle.world.specs.Tied.{AreFaults, AreFaultsOrStopped, IsTied, Phase, Quiet, Flying, IsToBeTold}
@@ -88,7 +87,7 @@ pub expire_runs : (kernel : KernelView) (change : Change) → expire_refusal_of 
 expire_runs kernel change none = test_passed kernel.halted refusal.Halted _ none
 
 pub sound_exec : {D : Type 0} (tells : Bool) (old : WorldView D) (served : TracedView) (ticket : Option Ticket) (number moment : ℕ)
-    (m : Option Mode) (found : Option (Message × Octets)) (r : Result (Option (Option Mode × Mark)) ExecError)
+    (m : Option Mode) (found : Option (Message × Octets)) (r : Result (Option Outcome) ExecError)
     → IsKept (kernel_of old) → ServedExec old.served number moment m found r served → IsSound tells old ticket
     → IsSound tells (with_served old served) ticket
 sound_exec tells old served ticket number moment None found r kept d h = sound_same tells old served ticket d.1 h
@@ -97,7 +96,7 @@ sound_exec tells old served ticket number moment (Some mode) None (Err e) kept d
 sound_exec tells old served ticket number moment (Some mode) (Some found) (Ok a) kept d h =
     let s = d.1.2 in
     sound_grows tells old served ticket kept
-    (Grows-executed (kernel_of old) served.kernel s.kernel.seat found.0 moment d.1.0.1 s.kernel.mark_is s.kernel.executed) h
+    (Grows-executed (kernel_of old) served.kernel s.kernel.seat found.0 moment d.1.0.mark s.kernel.mark_is s.kernel.executed) h
 sound_exec tells old served ticket number moment (Some mode) (Some found) (Err e) kept d h = sound_same tells old served ticket d.1 h
 
 pub sound_release : {D E : Type 0} (tells : Bool) (old : WorldView D) (served : TracedView) (ticket : Option Ticket)
@@ -150,32 +149,11 @@ module _ {D : Type 0} (old : WorldView D) (served : TracedView) where
 -- ---- Take
 
 -- the journal that begins, by what its call says
-pub is_begun : {D : Type 0} (old new : JournalView D) (kernel : KernelView) (last : ℕ) (numbers : List ℕ) (images : List Octets)
-    → new.disk ≡ old.disk → new.label ≡ old.label → new.format ≡ old.format → new.size ≡ old.size → new.segments ≡ old.segments
-    → new.blocks ≡ old.blocks → new.next ≡ Descriptor → new.halted ≡ old.halted
-    → new.held ≡ still_open old → new.place ≡ length (still_open old) → new.number ≡ length (still_open old) + 1
-    → new.is_last ≡ eqb (length (still_open old) + 1) old.segments
-    → new.last ≡ last → new.numbers ≡ numbers → new.images ≡ images → last ≡ length kernel.spool → numbers ≡ kernel.dirty
-    → images ≡ map (λ n. slice_index_or kernel.blocks n []) numbers → new ≡ begun old kernel
-is_begun old new kernel last numbers images disk label format size segments blocks next halted held place number is_last last_is numbers_are
-    images_are serial dirty copies =
-    λ i. record {
-      disk = disk i;
-      label = label i;
-      format = format i;
-      size = size i;
-      segments = segments i;
-      blocks = blocks i;
-      next = next i;
-      halted = halted i;
-      held = held i;
-      place = place i;
-      number = number i;
-      last = (last_is ∙ serial) i;
-      numbers = (numbers_are ∙ dirty) i;
-      images = (images_are ∙ (copies ∙ ap (map (λ n. slice_index_or kernel.blocks n [])) dirty)) i;
-      is_last = is_last i;
-    }
+pub is_begun : {D : Type 0} (old : JournalView D) (kernel : KernelView) (last : ℕ) (numbers : List ℕ) (images : List Octets)
+    → last ≡ length kernel.spool → numbers ≡ kernel.dirty → images ≡ map (λ n. slice_index_or kernel.blocks n []) numbers
+    → begins old last numbers images ≡ begun old kernel
+is_begun old kernel last numbers images serial dirty copies =
+    λ i. begins old (serial i) (dirty i) ((copies ∙ ap (map (λ n. slice_index_or kernel.blocks n [])) dirty) i)
 
 no_ticket : (ticket : Option Ticket) → option_map (λ (t : Ticket). t.last) ticket ≡ None → ticket ≡ None
 no_ticket None is = refl
@@ -219,7 +197,7 @@ lays_dirty old new numbers images last t base agrees =
 -- ---- Exec
 
 pub did_exec : {D : Type 0} (old : WorldView D) (served : TracedView) (number moment : ℕ) (m : Option Mode)
-    (found : Option (Message × Octets)) (r : Result (Option (Option Mode × Mark)) ExecError)
+    (found : Option (Message × Octets)) (r : Result (Option Outcome) ExecError)
     → ServedExec old.served number moment m found r served
     → DidExec old number moment m found (exec_answer r) (with_served old served)
 did_exec old served number moment None found r d = (ap exec_answer d.0, ap (with_served old) d.1)

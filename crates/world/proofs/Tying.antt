@@ -9,7 +9,7 @@ use Rattle.std.proofs.lemmas.Bool.{or_parts, not-false, not-true, true≢false}
 use Rattle.disk.specs.Device.{Device}
 use Rattle.journal.specs.Calls.{IsRetried, MakesCall, OnMade, OnRetried, blocks_after}
 use Rattle.journal.specs.Journal.{JournalView, IsReady, IsSameBatch, sizes, with_batch}
-use Rattle.journal.specs.Order.{is_to_commit, answer, at_fault, following}
+use Rattle.journal.specs.Order.{Carried, is_to_commit, answer, at_fault, following}
 use Rattle.journal.specs.declared.JournalError.{JournalError}
 use Rattle.journal.specs.declared.JournalError.TheVariants.{Fault, Memory}
 use Rattle.journal.specs.declared.Next.{Next}
@@ -18,7 +18,7 @@ use Rattle.journal.specs.declared.Progress.{Progress}
 use Rattle.journal.specs.declared.Progress.TheVariants.{Working}
 use Rattle.kernel.specs.Kernel.{KernelView, AgreesBehind, Dirties, Executed, Administers, has_batch, halted_for_good, is_dirty}
 use Rattle.kernel.specs.Kernel.{made_durable, mark_for, taken}
-use Rattle.seats.specs.Seats.{Seat}
+use Rattle.kernel_seats.specs.Seats.{Seat}
 use Rattle.kernel.specs.Kept.{IsKept}
 use Rattle.model.specs.Layout.{IsLabel}
 use Rattle.model.specs.Answer as answers
@@ -33,8 +33,8 @@ use Rattle.model.specs.declared.message.Mark.{Mark}
 use Rattle.model.specs.declared.message.Mark.TheVariants as marks
 use Rattle.model.specs.declared.message.Message.{Message}
 use Rattle.model.proofs.LawfulLaws.{none_by_test}
-use Rattle.traced_kernel.specs.Traced.{TracedView}
-use Rattle.traced_kernel.specs.Events.{with_kernel}
+use Rattle.kernel_trace.specs.Traced.{TracedView}
+use Rattle.kernel_trace.specs.Events.{with_kernel}
 use Rattle.world.specs.World.{News, IsDurable, HasFailed, WorldView, kernel_of, with_served}
 use Rattle.world.specs.Events.{begun, news_of, Steps}
 use Rattle.world.specs.Tied.{AreFaults, AreFaultsOrStopped, DirtyAfter, IsTied, IsQuiet, IsFlying, LieBehind, Phase, Quiet, Flying}
@@ -94,7 +94,7 @@ unfolding answers.answer
 mark_stops kernel seat m t mark is halted =
     ap (λ k. (answer_to kernel.host kernel.spool seat.session m t k).change) (is ∙ ap (λ b. if b then marks.Stopped
     else if is_long kernel.host kernel.spool seat.session m then marks.Long
-    else if is_full (length kernel.blocks) kernel.inodes kernel.spool
+    else if is_full kernel.blocks kernel.inodes kernel.spool
     (answer_to kernel.host kernel.spool seat.session m t marks.Served).change then marks.Full
     else marks.Served) halted)
 
@@ -292,8 +292,8 @@ IsTied-takes {D} tells world kept ready has lays h = record { label = h.label; s
 -- ---- Dev
 
 -- before the commit a batch waits on
-abbrev WaitsOn : ℕ → List ℕ → Next → Type 0
-WaitsOn n counts call = (is_to_commit (following n counts call) ≡ true) × ((last : ℕ) → answer last counts call ≡ Working)
+abbrev WaitsOn : ℕ → Carried → Next → Type 0
+WaitsOn n carried call = (is_to_commit (following n carried call) ≡ true) × ((last : ℕ) → answer last carried call ≡ Working)
 
 -- what a call leaves of what the tie speaks of
 module _ {D : Type 0} (tells : Bool) (old new : JournalView D) (kernel : KernelView) (runs : old.halted ≡ false) where

@@ -7,8 +7,8 @@ use Rattle.journal.specs.Order.{IsMore, syncs_made, writes_made}
 use Rattle.journal.specs.declared.Next.TheVariants as next
 use Rattle.kernel.specs.Kernel.{KernelView}
 use Rattle.model.specs.Stream.{Octets}
-use Rattle.traced_kernel.specs.Events.{releases, with_kernel}
-use Rattle.traced_kernel.specs.Traced.{Sent, TracedView, arrived_at, released_at, replies_to, session_at}
+use Rattle.kernel_trace.specs.Events.{releases, with_kernel}
+use Rattle.kernel_trace.specs.Traced.{Sent, TracedView, arrived_at, released_at, replies_to, session_at}
 use Rattle.world.specs.Events.{Passed, Ran, begun}
 use Rattle.world.specs.Images.{EachSince, Fits, LeftFits}
 use Rattle.world.specs.Tied.{IsWorld}

@@ -9,27 +9,28 @@ use Rattle.journal.specs.declared.JournalError.{JournalError}
 use Rattle.journal.specs.declared.JournalError.TheVariants as journal
 use Rattle.journal.specs.declared.Progress.{Progress}
 use Rattle.journal.specs.declared.Progress.TheVariants as progress
+use Rattle.kernel_seats.specs.declared.Outcome.{Outcome}
 use Rattle.kernel.specs.Kernel.{KernelView, Refusal, Tested, TestedOrMemory, admin_refusal_of, early_refusal, exec_refusal}
 use Rattle.kernel.specs.Kernel.{expire_refusal_of, halted_for_good, has_batch, join_refusal, made_durable, mode_at, taken}
 use Rattle.kernel.specs.Kernel as refusal
-use Rattle.shared_kernel.specs.declared.errors.AdminError.{AdminError}
-use Rattle.shared_kernel.specs.declared.errors.AdminError.TheVariants as admin
-use Rattle.shared_kernel.specs.declared.errors.ExecError.{ExecError}
-use Rattle.shared_kernel.specs.declared.errors.ExecError.TheVariants as exec
-use Rattle.shared_kernel.specs.declared.errors.ExpireError.{ExpireError}
-use Rattle.shared_kernel.specs.declared.errors.ExpireError.TheVariants as expire
-use Rattle.shared_kernel.specs.declared.errors.JoinError.{JoinError}
-use Rattle.shared_kernel.specs.declared.errors.JoinError.TheVariants as join
-use Rattle.traced_kernel.specs.declared.errors.ArriveError.{ArriveError}
-use Rattle.traced_kernel.specs.declared.errors.ArriveError.TheVariants as arrive
+use Rattle.kernel_shared.specs.declared.errors.AdminError.{AdminError}
+use Rattle.kernel_shared.specs.declared.errors.AdminError.TheVariants as admin
+use Rattle.kernel_shared.specs.declared.errors.ExecError.{ExecError}
+use Rattle.kernel_shared.specs.declared.errors.ExecError.TheVariants as exec
+use Rattle.kernel_shared.specs.declared.errors.ExpireError.{ExpireError}
+use Rattle.kernel_shared.specs.declared.errors.ExpireError.TheVariants as expire
+use Rattle.kernel_shared.specs.declared.errors.JoinError.{JoinError}
+use Rattle.kernel_shared.specs.declared.errors.JoinError.TheVariants as join
+use Rattle.kernel_trace.specs.declared.errors.ArriveError.{ArriveError}
+use Rattle.kernel_trace.specs.declared.errors.ArriveError.TheVariants as arrive
 use Rattle.model.specs.Stream.{Octets}
 use Rattle.model.specs.declared.change.Change.TheVariants.{Expire, Group}
 use Rattle.model.specs.declared.message.Mark.{Mark}
 use Rattle.model.specs.declared.message.Message.{Message}
 use Rattle.model.specs.declared.message.Mode.{Mode}
-use Rattle.names.specs.Requests.{group_of}
-use Rattle.traced_kernel.specs.Events.{Makes, Serves, arrive_refusal, arrives, joins, leaves, releases, releases_of, with_kernel}
-use Rattle.traced_kernel.specs.Traced.{next_of}
+use Rattle.text_names.specs.Requests.{group_of}
+use Rattle.kernel_trace.specs.Events.{Makes, Serves, arrive_refusal, arrives, joins, leaves, releases, releases_of, with_kernel}
+use Rattle.kernel_trace.specs.Traced.{next_of}
 use Rattle.world.specs.World.{HasFailed, IsDurable, News, WorldView, kernel_of, with_served}
 use Rattle.world.specs.declared.events.StepAnswer.{StepAnswer}
 use Rattle.world.specs.declared.events.StepAnswer.TheVariants as answer
@@ -59,8 +60,8 @@ DidExec old number moment (Some mode) None result new =
     MatchResult result (λ a. (a ≡ answer.Served None) × (new ≡ old)) (λ e. (e ≡ error.Memory) × (new ≡ old))
 DidExec old number moment (Some mode) (Some found) result new =
     TestedOrMemory of_kernel error.Memory None (exec_refusal (kernel_of old) number found.0) old new result
-    (λ a. (reads_next : Option Mode × Mark) × (a ≡ answer.Served (Some reads_next))
-    × Serves old.served new.served number moment found.0 reads_next × (new ≡ with_served old new.served))
+    (λ a. (outcome : Outcome) × (a ≡ answer.Served (Some outcome))
+    × Serves old.served new.served number moment found.0 outcome × (new ≡ with_served old new.served))
 
 -- ---- Stop
 
@@ -215,7 +216,7 @@ of_exec_error exec.LaterOut = error.LaterOut
 of_exec_error exec.LaterDirty = error.LaterDirty
 of_exec_error exec.Memory = error.Memory
 
-abbrev pub exec_answer : Result (Option (Option Mode × Mark)) ExecError → Result StepAnswer StepError
+abbrev pub exec_answer : Result (Option Outcome) ExecError → Result StepAnswer StepError
 exec_answer (Ok answered) = Ok (answer.Served answered)
 exec_answer (Err e) = Err (of_exec_error e)
 

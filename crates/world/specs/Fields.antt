@@ -1,6 +1,6 @@
 -- What the fields of the code mean, and what they keep.
 use Rattle.std.specs.Prelude.{◌≡◌, Bool, true, false, List, [], ◌∷◌, ◌++◌, Option, Some, None, option_map}
-use Rattle.shared_kernel.specs.declared.ticket.Ticket.{Ticket}
+use Rattle.kernel_shared.specs.declared.ticket.Ticket.{Ticket}
 use Rattle.world.specs.Tied.{IsTied}
 use Rattle.world.specs.World.{HasFailed, IsDurable, News, WorldView, kernel_of}
 

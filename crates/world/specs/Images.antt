@@ -6,7 +6,7 @@ use Rattle.model.specs.Spool.{Spool}
 use Rattle.model.specs.News.{Stands, service}
 use Rattle.kernel.specs.Kernel.{KernelView}
 use Rattle.synchrony.specs.Synchrony.{IsExternallySynchronous}
-use Rattle.traced_kernel.specs.Traced.{Trace, arrived_at, first_spool, released_at}
+use Rattle.kernel_trace.specs.Traced.{Trace, arrived_at, first_spool, released_at}
 use Rattle.world.specs.World.{WorldView, kernel_of}
 
 -- External synchrony of an image, with p changes left: it stands for a spool, and that spool and what each session was

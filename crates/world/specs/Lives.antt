@@ -1,13 +1,13 @@
 -- Systems over one disk, each opened on what a crash of the one before it left.
 use Rattle.std.specs.Prelude.{◌≡◌, Bool, List, [], ◌∷◌, ℕ}
 use Rattle.disk.specs.Device.{Device}
-use Rattle.lives.specs.Lives.{AreLives, BeginsEach, Life, one_server}
+use Rattle.model_lives.specs.Lives.{AreLives, BeginsEach, Life, one_server}
 use mathlib.Core.List.{IsPrefix}
 use Rattle.model.specs.News.{Stands, service}
 use Rattle.model.specs.Stream.{Octets}
 use Rattle.model.specs.declared.change.Change.{Change}
 use Rattle.model.specs.declared.message.Mark.{Mark}
-use Rattle.traced_kernel.specs.Traced.{arrived_at, first_spool, released_at}
+use Rattle.kernel_trace.specs.Traced.{arrived_at, first_spool, released_at}
 use Rattle.world.specs.Events.{Went}
 use Rattle.world.specs.Images.{Fits}
 use Rattle.world.specs.Opening.{IsNew}

@@ -8,7 +8,7 @@ use Rattle.kernel.specs.Kept.{IsKept}
 use Rattle.model.specs.Stream.{Octets}
 use Rattle.model.specs.Layout.{IsLabel}
 use Rattle.model.specs.News.{Holds}
-use Rattle.traced_kernel.specs.Traced.{FollowsPlain, IsServed}
+use Rattle.kernel_trace.specs.Traced.{FollowsPlain, IsServed}
 use Rattle.world.specs.World.{News, IsDurable, HasFailed, WorldView, kernel_of}
 
 -- blocks that hold the first p changes, and are the cached ones except for the dirty ones
@@ -75,12 +75,12 @@ pub data Phase {D : Type 0} (tells : Bool) (journal : JournalView D) (kernel : K
   Flying : (last : ℕ) → IsFlying tells journal kernel untold last → Phase tells journal kernel untold
   IsToBeTold : (last : ℕ) → IsCommitted tells journal kernel untold last → Phase tells journal kernel untold
 
--- How the label, size and blocks of the journal correspond to the kernel. The journal has format 2, since an image of
--- format 1 stands for no spool with a file of more than 4,235,264 octets.
+-- How the label, size and blocks of the journal correspond to the kernel. The journal has format 3, since an image of
+-- format 1 stands for no spool with a file of more than 4,235,264 octets, and one of format 1 or 2 for none in a pack.
 pub record IsTied (tells : Bool) {D : Type 0} (world : WorldView D) : Type 0 where
   pub label : IsLabel world.journal.label (length (kernel_of world).blocks) (kernel_of world).inodes (kernel_of world).host
   pub size : world.journal.size ≡ length (kernel_of world).blocks
-  pub format : world.journal.format ≡ 2
+  pub format : world.journal.format ≡ 3
   pub phase : Phase tells world.journal (kernel_of world) world.untold
 
 -- The invariant of the whole system: what is served is what the plain server serves, the kernel keeps what its lock

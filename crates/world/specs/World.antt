@@ -1,7 +1,7 @@
 -- The whole system as its callers see it: a journal over a device of the type D, what is served, and news of the device.
 use Rattle.std.specs.Prelude.{ℕ, List}
 use Rattle.kernel.specs.Kernel.{KernelView}
-use Rattle.traced_kernel.specs.Traced.{TracedView}
+use Rattle.kernel_trace.specs.Traced.{TracedView}
 use Rattle.journal.specs.Journal.{JournalView}
 
 -- what a device call answered

@@ -2,7 +2,7 @@
 
 ghost use Rattle.std.specs.Prelude.{◌≡◌, ◌≢◌, ◌⊎◌, ◌↔◌, ◌||◌, Err, IfErr, IsTrue, OnOk, true};
 ghost use Rattle.journal.specs.Journal.{IsReady};
-ghost use Rattle.traced_kernel.specs.Events.{with_kernel};
+ghost use Rattle.kernel_trace.specs.Events.{with_kernel};
 ghost use Rattle.world.specs.Draining.{AsksNothing, CarriesOut, CostsToSettle, FinishesBatch, IsHindered, IsSettled, IsStill};
 ghost use Rattle.world.specs.Draining.{ReleasesSome, RunsInner, SendsAll, with_progress};
 ghost use Rattle.world.specs.Images.{EachNow, Fits};

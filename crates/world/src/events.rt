@@ -1,8 +1,9 @@
 //! The events of the whole system, and the answers to them.
 
 use journal::Progress;
-use model::{Mark, Mode, Moment};
-use names::{GroupName, GroupRequest};
+use kernel::Outcome;
+use model::Moment;
+use text_names::{GroupName, GroupRequest};
 use thiserror::Error;
 
 /// An event. Sessions are named by their numbers.
@@ -42,7 +43,7 @@ pub enum StepAnswer {
     /// the session's number
     Joined(u64),
     /// what the session sends next, and the mark of the message; `None` if no message has arrived whole
-    Served(Option<(Option<Mode>, Mark)>),
+    Served(Option<Outcome>),
     /// the serial of the operator's change
     Made(u64),
     /// the last serial of the batch that begins, if any

@@ -3,23 +3,20 @@
 //! event does, `specs/Tied.antt` what the system's invariant is.
 #![tactic(auto)]
 
-ghost use Rattle.std.specs.Prelude.{◌≢◌, IfOk, IfErr, List, ◌≡◌, ◌⊎◌, ◌≤◌, ℕ, Some, Ok, Err, true, [], MatchOption, ◌||◌};
+ghost use Rattle.std.specs.Prelude.{IfOk, IfErr, List, ◌≡◌, ◌⊎◌, ◌≤◌, ℕ, Some, Ok, Err, true, [], MatchOption, ◌||◌};
 ghost use Rattle.std.specs.Prelude.{IsTrue, length, MatchResult, min};
 ghost use Rattle.kernel.specs.Kernel.{Tested, TestedOrMemory, admin_refusal_of, early_refusal, expire_refusal_of, mode_at};
 ghost use Rattle.model.specs.declared.change.Change.TheVariants.{Expire, Group};
-ghost use Rattle.names.specs.Requests.{group_of};
-ghost use Rattle.traced_kernel.specs.Events.{Makes, arrive_refusal, arrives, leaves};
-ghost use Rattle.traced_kernel.specs.Traced.{arrived_at, next_of, released_at};
+ghost use Rattle.text_names.specs.Requests.{group_of};
+ghost use Rattle.kernel_trace.specs.Events.{Makes, arrive_refusal, arrives, leaves};
+ghost use Rattle.kernel_trace.specs.Traced.{arrived_at, next_of, released_at};
 ghost use Rattle.world.specs.Events.{Did, DidDev, DidExec, DidStop, DidTake, Passed, Ran, commits, dev_answer, exec_answer, fails};
 ghost use Rattle.world.specs.Events.{for_memory, of_admin_error, of_arrive_error, of_expire_error, of_join_error, of_kernel, told};
 ghost use Rattle.world.specs.Fields.{durable_news};
-ghost use Rattle.disk.specs.Device.{Elapses};
 ghost use Rattle.journal.specs.Journal.{IsReady};
-ghost use Rattle.journal.specs.Opening.{LeavesVolume, LeftKept, NeverSyncs, SyncsFirst};
-ghost use Rattle.lives.specs.Lives.{Life};
+ghost use Rattle.model_lives.specs.Lives.{Life};
 ghost use Rattle.model.specs.News.{Stands};
-ghost use Rattle.opening.specs.Costs.{CostsToOpen};
-ghost use Rattle.opening.specs.Standing.{IsDamagedVolume, IsNoNewsVolume};
+ghost use Rattle.kernel.specs.Standing.{LeavesOpened, LeavesRefused};
 ghost use Rattle.world.specs.Images.{EachNow, EachSince, Fits, KeepsSpools, LeftFits, StandsForNone};
 ghost use Rattle.world.specs.Lives.{AreOneLife, Lived};
 ghost use Rattle.world.specs.Opening.{IsNew};
@@ -32,19 +29,17 @@ mod events;
 use disk::{Disk, DiskCall, Faults};
 pub use events::{Event, StepAnswer, StepError};
 use journal::{Journal, JournalError, Progress};
-use kernel::BatchBuf;
-pub use kernel::Spool;
-use lives::many_lives_are_one;
-use model::{Change, Mark, Message, Mode, Moment, Session, images_stand_for_one_spool};
-use names::{GroupName, GroupRequest};
-use opening::Opened;
-pub use opening::{OpenError, Refused};
-use outbox::ReadyBuf;
-use shared_kernel::{AdminError, ExecError, ExpireError, JoinError, Ticket};
+use kernel::{BatchBuf, Opened};
+pub use kernel::{OpenError, Outcome, Refused, Spool};
+use kernel_outbox::ReadyBuf;
+use kernel_shared::{AdminError, ExecError, ExpireError, JoinError, Ticket};
+use kernel_trace::{ArriveError, TracedKernel};
+pub use kernel_trace::{Entry, Happened};
+use model::{Change, Mark, Message, Moment, Session, images_stand_for_one_spool};
+use model_lives::many_lives_are_one;
 use std::alloc::Global;
 use std::marker::Model;
-use traced_kernel::{ArriveError, TracedKernel};
-pub use traced_kernel::{Entry, Happened};
+use text_names::{GroupName, GroupRequest};
 
 /// A journal over a device, and what is served.
 pub struct World<D: Disk> {
@@ -87,7 +82,7 @@ impl<D: Disk> Model for World<D> {
 }
 
 impl<D: Disk> World<D> {
-    /// States the invariant of the whole system, and does nothing.
+    /// Proof only: makes the invariant of the whole system known to the caller.
     pub fn kept(&self)
         ensures { IsWorld D.device self.now }
     {
@@ -98,49 +93,34 @@ impl<D: Disk> World<D> {
     /// Opens the device: all its changes are durable, and nothing has happened yet. So many sessions may exist at a time, and 4,096
     /// at most. A crash during the opening leaves a disk that stands for the spool of an image that a crash at the start might have
     /// left. The first good sync comes before every write. After it a crash leaves the volume that a read gives, with its label and
-    /// its logical blocks, whatever they contain. A volume of format 1 is checked as one and then made one of format 2; a crash
-    /// during that leaves it in one of the two.
+    /// its logical blocks, whatever they contain. A volume of format 1 or 2 is checked as one and then made one of format 3; a crash
+    /// during that leaves it in the format that was or in format 3.
     ///
     /// A refusal keeps to this too, so it overwrites no disk, and it returns the device. `Fault` (E1) if the device
     /// failed. `Memory` (E2) if it did not, and an allocation was refused; then a read gives what it gave before, or
     /// the same volume. `NotAVolume` (E3) if the device holds no volume with a label of its size. `Damaged` (E5) if it
     /// holds one, but no lawful spool of the label's host in the files of its format.
     pub fn open(alloc: Global, disk: D, most: usize) -> Result<World<D>, Refused<D>>
+        // The spool that stands on the device, all of it durable, and a system that steps can follow.
         ensures new { IfOk result (λ w. IsNew w) }
         ensures most { IfOk result (λ w. (kernel_of w).most ≡ min most 4096) }
         ensures spool { IsTrue (D.device disk).tells
             → IfOk result (λ w. Stands (kernel_of w).host (D.device disk).content (kernel_of w).spool) }
-        ensures during { MatchResult result (λ w. KeepsSpools (D.device disk) (D.device w.journal.disk))
-            (λ refused. KeepsSpools (D.device disk) (D.device refused.disk)) }
         ensures keeps { IfOk result (λ w. IsWorld D.device w) }
         ensures now { IfOk result (λ w. EachNow (D.device w.journal.disk) (Fits w)) }
-        ensures still { IfOk result (λ w. (D.device w.journal.disk).failures ≡ (D.device disk).failures) }
-        ensures time { MatchResult result (λ w. Elapses (D.device disk) (D.device w.journal.disk))
-            (λ refused. Elapses (D.device disk) (D.device refused.disk)) }
-        ensures volume { MatchResult result (λ w. LeftKept (D.device disk) (D.device w.journal.disk))
-            (λ refused. LeftKept (D.device disk) (D.device refused.disk)) }
-        ensures moment { MatchResult result (λ w. SyncsFirst D.device disk w.journal.disk)
-            (λ refused. SyncsFirst D.device disk refused.disk ⊎ NeverSyncs D.device disk refused.disk) }
-        ensures judged { IfErr result (λ refused. (refused.error ≡ OpenError.NotAVolume) ⊎ (refused.error ≡ OpenError.Damaged)
-            → SyncsFirst D.device disk refused.disk) }
-        ensures cost { IsTrue (D.device disk).tells
-            → IfOk result (λ w. CostsToOpen (D.device disk).content (D.device disk) (D.device w.journal.disk)) }
         ensures idle { IfOk result (λ w. IsReady w.journal) }
-        ensures fault { IfErr result (λ refused. refused.error ≡ OpenError.Fault
-            → (D.device refused.disk).failures ≢ (D.device disk).failures) }
-        ensures memory { IfErr result (λ refused. refused.error ≡ OpenError.Memory
-            → (D.device refused.disk).failures ≡ (D.device disk).failures) }
-        ensures left { IsTrue (D.device disk).tells
-            → MatchResult result (λ w. LeavesVolume (D.device disk).content (D.device w.journal.disk).content)
-            (λ refused. refused.error ≡ OpenError.Memory → LeavesVolume (D.device disk).content (D.device refused.disk).content) }
-        ensures no_volume { IfErr result (λ refused. refused.error ≡ OpenError.NotAVolume → IsTrue (D.device disk).tells
-            → IsNoNewsVolume (D.device disk).content) }
-        ensures damaged { IfErr result (λ refused. refused.error ≡ OpenError.Damaged → IsTrue (D.device disk).tells
-            → IsDamagedVolume (D.device disk).content) }
+
+        // What an opening leaves of the device.
+        ensures opening { IfOk result (λ w. LeavesOpened D.device disk w.journal.disk) }
+        ensures refusal { IfErr result (λ refused. LeavesRefused D.device disk refused.disk refused.error) }
+
+        // The spools that a crash during it keeps, and that a disk which is refused for its content has none.
+        ensures during { MatchResult result (λ w. KeepsSpools (D.device disk) (D.device w.journal.disk))
+            (λ refused. KeepsSpools (D.device disk) (D.device refused.disk)) }
         ensures no_spool { IfErr result (λ refused. (refused.error ≡ OpenError.NotAVolume) ⊎ (refused.error ≡ OpenError.Damaged)
             → IsTrue (D.device disk).tells → StandsForNone (D.device disk).content) }
     {
-        let Opened { journal, kernel } = match opening::open(alloc, disk, most) {
+        let Opened { journal, kernel } = match kernel::open(alloc, disk, most) {
             Ok(opened) => opened,
             Err(refused) => return Err(refused),
         };
@@ -488,9 +468,7 @@ fn arrive_error(error: ArriveError) -> StepError
 }
 
 /// The answer to an exec.
-fn exec_answer(
-    served: Result<Option<(Option<Mode>, Mark)>, ExecError>,
-) -> Result<StepAnswer, StepError>
+fn exec_answer(served: Result<Option<Outcome>, ExecError>) -> Result<StepAnswer, StepError>
     ensures { result ≡ exec_answer served }
 {
     match served {

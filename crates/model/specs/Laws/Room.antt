@@ -2,8 +2,9 @@
 use Rattle.std.specs.Prelude.{◌≡◌, ℕ, ◌+◌, ◌≤◌, false, List, Some, length}
 use Rattle.std.specs.List.{Contains, sum_by}
 use Rattle.model.specs.Stream.{Octets}
-use Rattle.model.specs.Files.{File, HasRoom, HoldsFiles, free_blocks, free_inodes, largest_file, most_inodes}
+use Rattle.model.specs.Files.{File, HasRoom, HoldsFiles, free_blocks, free_inodes, largest_file}
 use Rattle.model.specs.Lawful.{IsLawful, MayFollow}
+use Rattle.model.specs.Packs.{most_changes}
 use Rattle.model.specs.Records.{largest_record}
 use Rattle.model.specs.Asked.{blocks_changed, blocks_for_more, blocks_taken}
 use Rattle.model.specs.Room.{blocks_for, files_made, free_blocks_beside}
@@ -11,7 +12,7 @@ use Rattle.model.specs.Asked.{most_changed}
 use Rattle.model.specs.Room.{free_inodes_beside, is_full}
 use Rattle.model.specs.Spool.{Spool}
 use Rattle.model.specs.FileCalls.{change_calls, next_line, next_record}
-use Rattle.model.specs.SpoolFiles.{change_file, files_of, numbers_file, overview_file}
+use Rattle.model.specs.SpoolFiles.{change_file, numbers_file, overview_file}
 use Rattle.model.specs.declared.change.Change.{Change}
 use Rattle.model.specs.declared.change.Change.TheVariants.{Article}
 use Rattle.model.specs.declared.change.Filing.{Filing}
@@ -41,17 +42,17 @@ pub record AsksFew (S : Spool) (c : Change) : Type 0 where
 
 -- What a change asks for is within what was free before it.
 abbrev pub ChangesAskFew : Type 0
-ChangesAskFew = (host : Octets) (S : Spool) (c : Change) → length S ≤ most_inodes → IsLawful host S → MayFollow host S c → AsksFew S c
+ChangesAskFew = (host : Octets) (S : Spool) (c : Change) → length S ≤ most_changes → IsLawful host S → MayFollow host S c → AsksFew S c
 
 -- a change finds all the room that its calls ask for
-pub record HasRoomForChange (blocks inodes : ℕ) (S : Spool) (c : Change) : Type 0 where
-  pub blocks_enough : sum_by blocks_taken (change_calls S c) ≤ free_blocks_beside blocks inodes (files_of S)
-  pub inodes_enough : files_made c ≤ free_inodes_beside inodes (files_of S)
+pub record HasRoomForChange (blocks : List Octets) (inodes : ℕ) (S : Spool) (c : Change) : Type 0 where
+  pub blocks_enough : sum_by blocks_taken (change_calls S c) ≤ free_blocks blocks
+  pub inodes_enough : files_made c ≤ free_inodes inodes blocks
   pub sizes : (f : Filing) (g : Octets) → c ≡ Article f → Contains f.envelope.groups g →
       (length (numbers_file S g) + length (next_record S f.text g) ≤ largest_file)
       × (length (overview_file S g) + length (next_line S f.text g) ≤ largest_file)
 
 -- So if the spool is not full, none of a change's calls meets a full file system.
 abbrev pub NotFullHasRoom : Type 0
-NotFullHasRoom = (host : Octets) (blocks inodes : ℕ) (S : Spool) (c : Change) → length S ≤ most_inodes → IsLawful host S
+NotFullHasRoom = (host : Octets) (blocks : List Octets) (inodes : ℕ) (S : Spool) (c : Change) → length S ≤ most_changes → IsLawful host S
     → MayFollow host S c → is_full blocks inodes S (Some c) ≡ false → HasRoomForChange blocks inodes S c

@@ -2,7 +2,7 @@ use Rattle.std.proofs.Common.{◌≡◌, ◌+◌, ◌<◌, ◌^◌, ap, sym, ◌
 use Rattle.std.specs.Prelude.{Some, true, option_map}
 use Rattle.model.specs.Answer.{answer}
 use Rattle.model.specs.declared.session.Answer.{Answer}
-use Rattle.posting_commands.specs.Accepted.{change_of}
+use Rattle.session_posting.specs.Accepted.{change_of}
 use Rattle.session.specs.Served.{IsServed}
 use Rattle.session.specs.declared.Served.{Served}
 use Rattle.session.proofs.Serving.{full_served, is_full_served, not_long}

@@ -4,7 +4,7 @@ use Rattle.model.specs.Volume.{number_at}
 use Rattle.test_model.proofs.formats.Goals as goal
 
 gates : Gates
-gates = (refl, refl, refl, refl)
+gates = (refl, refl, refl, refl, refl, refl, refl, refl, refl, refl)
 
 rows : Rows
 rows = (refl, refl)

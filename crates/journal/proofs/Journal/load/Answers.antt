@@ -5,7 +5,7 @@ use Rattle.journal.specs.declared.Next.TheVariants.{Idle, Descriptor}
 use Rattle.journal.proofs.Calls.{kept_failed}
 use Rattle.journal.specs.Journal.{AreWhole, JournalView}
 use Rattle.model.specs.Volume.{all_laid_over, block, home, home_place, laid_over}
-use Rattle.segment_laws.specs.Held.{HeldBatch, batches_of}
+use Rattle.journal_laws.specs.Held.{HeldBatch, batches_of}
 use Rattle.journal.specs.declared.Next.{Next}
 use Rattle.journal_segments.specs.Staged.{staged_at}
 use Rattle.journal.proofs.Idle.{idle_home, idle_laid, idle_same, idle_size, left_in_room, left_live, left_there, part_of_part}

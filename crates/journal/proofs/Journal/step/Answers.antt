@@ -1,10 +1,10 @@
 use Rattle.std.proofs.Common.{sym, ◌∙◌, ap, subst, arith}
-use Rattle.model.specs.Volume.{number_at}
+use Rattle.model.specs.Volume.{epoch_in, number_at}
 use Rattle.journal_segments.specs.Staged.{Staged}
-use Rattle.journal.proofs.Flights.{answered, gate_within, home_within}
+use Rattle.journal.proofs.Flights.{answered, closings_last, gate_within, home_within}
 use Rattle.journal.specs.Inside.{IsLive}
 use Rattle.journal.specs.declared.Next.{Next}
-use Rattle.journal.proofs.Made.{kept_ok, kept_err, made_ok, made_err, retried, retried_kept}
+use Rattle.journal.proofs.Made.{kept_ok, kept_err, made_ok, made_err, retried, retried_kept, super_is}
 use Rattle.journal.proofs.Journal.step.Goals as goal
 
 pub ask-requires-clause-carried : goal.ask-requires-clause-carried
@@ -29,94 +29,130 @@ ask-requires-clause-gate g c j is =
 
 pub invariant_of-self : goal.invariant_of-self
 invariant_of-self g c = rw c.if-self.false
-    (kept_ok g.row.D.Denot g.D.Disk.device c.self.inside.disk c.ask.new.disk _ _ _ _ _ c.ask.ensures.asked.time
-    (g.met.D.Disk.counts_content c.ask.new.disk) c.self.inside.next c.call_after-self-inside.result c.self.inside.halted c.in-Ok.field-0
+    (kept_ok g.row.D.Denot g.D.Disk.device g.D.Disk.write_grows g.D.Disk.sync_grows c.self.inside.disk c.ask.new.disk _ _ _ _ _
+    (g.met.D.Disk.counts_content c.ask.new.disk) c.read_epoch-epoch.result (c.read_epoch-epoch.ensures.epoch
+    ∙ ap epoch_in c.deref.ensures.value) c.self.inside.next c.call_after-self-inside.result c.self.inside.halted c.in-Ok.field-0
     c.if-self.false (c.is_idle.ensures.no c.if-is_idle.false) c.self.invariant c.call_after-self-inside.ensures
-    c.in-Ok.ensures.asked.does).is_kept
+    c.in-Ok.ensures.does c.keep_epoch.new.superblock.items
+    (super_is _ c.self.inside.room.items c.self.inside.filled c.self.inside.is_last c.read_epoch-epoch.result c.are_all-all.result _
+    c.self.inside.next c.self.invariant.there (c.read_epoch-epoch.ensures.epoch
+    ∙ ap epoch_in c.deref.ensures.value) c.are_all-all.ensures c.keep_epoch.ensures))
 
 pub invariant_of-self-in-Err-Fault : goal.invariant_of-self-in-Err-Fault
 invariant_of-self-in-Err-Fault g c =
-    (kept_err g.row.D.Denot g.D.Disk.device c.self.inside.disk c.ask.new.disk _ _ _ _ _ c.ask.ensures.asked.time
-    (g.met.D.Disk.counts_content c.ask.new.disk) c.self.inside.next c.call_at_fault-self-inside.result c.self.inside.halted
+    (kept_err g.row.D.Denot g.D.Disk.device g.D.Disk.write_grows g.D.Disk.sync_grows c.self.inside.disk c.ask.new.disk _ _ _ _ _
+    (g.met.D.Disk.counts_content c.ask.new.disk) c.read_epoch-epoch.result (c.read_epoch-epoch.ensures.epoch
+    ∙ ap epoch_in c.deref.ensures.value) c.self.inside.next c.call_at_fault-self-inside.result c.self.inside.halted
     c.in-Err-Fault.field-0 c.if-self.false (c.is_idle.ensures.no c.if-is_idle.false) c.self.invariant
-    c.call_at_fault-self-inside.ensures (c.in-Err-Fault.ensures.asked.does c.in-Err-Fault.field-0-is)).is_kept
+    c.call_at_fault-self-inside.ensures c.in-Err-Fault.ensures.does)
 
 pub returns-in-Ok-clause-call : goal.returns-in-Ok-clause-call
 returns-in-Ok-clause-call g c =
     rw (← c.self.view_is)
-    (λ running other. made_ok g.row.D.Denot g.D.Disk.device c.self.inside.disk c.ask.new.disk _ _ _ _ _ c.ask.ensures.asked.time
-    (g.met.D.Disk.counts_content c.ask.new.disk) c.self.inside.next c.call_after-self-inside.result c.self.inside.halted c.in-Ok.field-0
+    (λ running other. made_ok g.row.D.Denot g.D.Disk.device g.D.Disk.write_grows g.D.Disk.sync_grows c.self.inside.disk c.ask.new.disk _ _
+    _ _ _
+    (g.met.D.Disk.counts_content c.ask.new.disk) c.read_epoch-epoch.result (c.read_epoch-epoch.ensures.epoch
+    ∙ ap epoch_in c.deref.ensures.value) c.self.inside.next c.call_after-self-inside.result c.self.inside.halted c.in-Ok.field-0
     c.answer_to.result c.if-self.false (c.is_idle.ensures.no c.if-is_idle.false) c.self.invariant c.call_after-self-inside.ensures
     (answered c.self.inside.room.items c.self.inside.filled c.self.inside.is_last c.self.invariant.there c.last-last.result _
-    c.self.inside.next c.answer_to.result (c.last-last.ensures
-    ∙ ap (λ (s : Staged). number_at 8 8 s.descriptor) c.segment_at.ensures) c.self.invariant.within c.answer_to.ensures)
-    c.in-Ok.ensures.asked.does c.in-Ok.ensures.asked.cause.ok)
+    c.closings.result c.self.inside.next c.answer_to.result (c.last-last.ensures
+    ∙ ap (λ (s : Staged). number_at 8 8 s.descriptor) c.segment_at.ensures)
+    (λ last. c.closings.ensures.count ∙ closings_last c.self.inside.room.items c.self.inside.filled c.self.inside.is_last last)
+    c.self.invariant.within c.answer_to.ensures)
+    c.in-Ok.ensures.does c.keep_epoch.new.superblock.items
+    (super_is _ c.self.inside.room.items c.self.inside.filled c.self.inside.is_last c.read_epoch-epoch.result c.are_all-all.result _
+    c.self.inside.next c.self.invariant.there (c.read_epoch-epoch.ensures.epoch
+    ∙ ap epoch_in c.deref.ensures.value) c.are_all-all.ensures c.keep_epoch.ensures))
 
 pub returns-in-Ok-clause-now : goal.returns-in-Ok-clause-now
-returns-in-Ok-clause-now g c = (made_ok g.row.D.Denot g.D.Disk.device c.self.inside.disk c.ask.new.disk _ _ _ _ _ c.ask.ensures.asked.time
-    (g.met.D.Disk.counts_content c.ask.new.disk) c.self.inside.next c.call_after-self-inside.result c.self.inside.halted c.in-Ok.field-0
+returns-in-Ok-clause-now g c =
+    (made_ok g.row.D.Denot g.D.Disk.device g.D.Disk.write_grows g.D.Disk.sync_grows c.self.inside.disk
+    c.ask.new.disk _ _ _ _ _
+    (g.met.D.Disk.counts_content c.ask.new.disk) c.read_epoch-epoch.result (c.read_epoch-epoch.ensures.epoch
+    ∙ ap epoch_in c.deref.ensures.value) c.self.inside.next c.call_after-self-inside.result c.self.inside.halted c.in-Ok.field-0
     c.answer_to.result c.if-self.false (c.is_idle.ensures.no c.if-is_idle.false) c.self.invariant c.call_after-self-inside.ensures
     (answered c.self.inside.room.items c.self.inside.filled c.self.inside.is_last c.self.invariant.there c.last-last.result _
-    c.self.inside.next c.answer_to.result (c.last-last.ensures
-    ∙ ap (λ (s : Staged). number_at 8 8 s.descriptor) c.segment_at.ensures) c.self.invariant.within c.answer_to.ensures)
-    c.in-Ok.ensures.asked.does c.in-Ok.ensures.asked.cause.ok).now
+    c.closings.result c.self.inside.next c.answer_to.result (c.last-last.ensures
+    ∙ ap (λ (s : Staged). number_at 8 8 s.descriptor) c.segment_at.ensures)
+    (λ last. c.closings.ensures.count ∙ closings_last c.self.inside.room.items c.self.inside.filled c.self.inside.is_last last)
+    c.self.invariant.within c.answer_to.ensures)
+    c.in-Ok.ensures.does c.keep_epoch.new.superblock.items
+    (super_is _ c.self.inside.room.items c.self.inside.filled c.self.inside.is_last c.read_epoch-epoch.result c.are_all-all.result _
+    c.self.inside.next c.self.invariant.there (c.read_epoch-epoch.ensures.epoch
+    ∙ ap epoch_in c.deref.ensures.value) c.are_all-all.ensures c.keep_epoch.ensures)).now
 
 pub returns-in-Ok-clause-since : goal.returns-in-Ok-clause-since
 returns-in-Ok-clause-since g c =
-    rw (← c.self.view_is) (made_ok g.row.D.Denot g.D.Disk.device c.self.inside.disk c.ask.new.disk _ _ _ _ _ c.ask.ensures.asked.time
-    (g.met.D.Disk.counts_content c.ask.new.disk) c.self.inside.next c.call_after-self-inside.result c.self.inside.halted c.in-Ok.field-0
+    rw (← c.self.view_is) (made_ok g.row.D.Denot g.D.Disk.device g.D.Disk.write_grows g.D.Disk.sync_grows c.self.inside.disk
+    c.ask.new.disk _ _ _ _ _
+    (g.met.D.Disk.counts_content c.ask.new.disk) c.read_epoch-epoch.result (c.read_epoch-epoch.ensures.epoch
+    ∙ ap epoch_in c.deref.ensures.value) c.self.inside.next c.call_after-self-inside.result c.self.inside.halted c.in-Ok.field-0
     c.answer_to.result c.if-self.false (c.is_idle.ensures.no c.if-is_idle.false) c.self.invariant c.call_after-self-inside.ensures
     (answered c.self.inside.room.items c.self.inside.filled c.self.inside.is_last c.self.invariant.there c.last-last.result _
-    c.self.inside.next c.answer_to.result (c.last-last.ensures
-    ∙ ap (λ (s : Staged). number_at 8 8 s.descriptor) c.segment_at.ensures) c.self.invariant.within c.answer_to.ensures)
-    c.in-Ok.ensures.asked.does c.in-Ok.ensures.asked.cause.ok).since
+    c.closings.result c.self.inside.next c.answer_to.result (c.last-last.ensures
+    ∙ ap (λ (s : Staged). number_at 8 8 s.descriptor) c.segment_at.ensures)
+    (λ last. c.closings.ensures.count ∙ closings_last c.self.inside.room.items c.self.inside.filled c.self.inside.is_last last)
+    c.self.invariant.within c.answer_to.ensures)
+    c.in-Ok.ensures.does c.keep_epoch.new.superblock.items
+    (super_is _ c.self.inside.room.items c.self.inside.filled c.self.inside.is_last c.read_epoch-epoch.result c.are_all-all.result _
+    c.self.inside.next c.self.invariant.there (c.read_epoch-epoch.ensures.epoch
+    ∙ ap epoch_in c.deref.ensures.value) c.are_all-all.ensures c.keep_epoch.ensures)).since
 
 pub returns-in-Err-Fault-clause-call : goal.returns-in-Err-Fault-clause-call
 returns-in-Err-Fault-clause-call g c =
     rw (← c.self.view_is)
-    (λ running other is. made_err g.row.D.Denot g.D.Disk.device c.self.inside.disk c.ask.new.disk _ _ _ _ _ c.ask.ensures.asked.time
-    (g.met.D.Disk.counts_content c.ask.new.disk) c.self.inside.next c.call_at_fault-self-inside.result c.self.inside.halted
-    c.in-Err-Fault.field-0 c.if-self.false (c.is_idle.ensures.no c.if-is_idle.false) c.self.invariant
-    c.call_at_fault-self-inside.ensures (c.in-Err-Fault.ensures.asked.does c.in-Err-Fault.field-0-is)
-    (c.in-Err-Fault.ensures.asked.cause.fault c.in-Err-Fault.field-0-is))
+    (λ running other is. made_err g.row.D.Denot g.D.Disk.device g.D.Disk.write_grows g.D.Disk.sync_grows c.self.inside.disk c.ask.new.disk
+    _ _ _ _ _
+    (g.met.D.Disk.counts_content c.ask.new.disk) c.read_epoch-epoch.result (c.read_epoch-epoch.ensures.epoch
+    ∙ ap epoch_in c.deref.ensures.value) c.self.inside.next c.call_at_fault-self-inside.result c.self.inside.halted
+    c.in-Err-Fault.field-0 c.in-Err-Fault.field-0-is c.if-self.false (c.is_idle.ensures.no c.if-is_idle.false) c.self.invariant
+    c.call_at_fault-self-inside.ensures c.in-Err-Fault.ensures.does)
 
 pub returns-in-Err-Fault-clause-now : goal.returns-in-Err-Fault-clause-now
 returns-in-Err-Fault-clause-now g c =
-    (made_err g.row.D.Denot g.D.Disk.device c.self.inside.disk c.ask.new.disk _ _ _ _ _ c.ask.ensures.asked.time
-    (g.met.D.Disk.counts_content c.ask.new.disk) c.self.inside.next c.call_at_fault-self-inside.result c.self.inside.halted
-    c.in-Err-Fault.field-0 c.if-self.false (c.is_idle.ensures.no c.if-is_idle.false) c.self.invariant c.call_at_fault-self-inside.ensures
-    (c.in-Err-Fault.ensures.asked.does c.in-Err-Fault.field-0-is) (c.in-Err-Fault.ensures.asked.cause.fault c.in-Err-Fault.field-0-is)).now
+    (made_err g.row.D.Denot g.D.Disk.device g.D.Disk.write_grows g.D.Disk.sync_grows c.self.inside.disk c.ask.new.disk _ _ _ _ _
+    (g.met.D.Disk.counts_content c.ask.new.disk) c.read_epoch-epoch.result (c.read_epoch-epoch.ensures.epoch
+    ∙ ap epoch_in c.deref.ensures.value) c.self.inside.next c.call_at_fault-self-inside.result c.self.inside.halted
+    c.in-Err-Fault.field-0 c.in-Err-Fault.field-0-is c.if-self.false (c.is_idle.ensures.no c.if-is_idle.false) c.self.invariant
+    c.call_at_fault-self-inside.ensures
+    c.in-Err-Fault.ensures.does).now
 
 pub returns-in-Err-Fault-clause-since : goal.returns-in-Err-Fault-clause-since
 returns-in-Err-Fault-clause-since g c =
-    rw (← c.self.view_is) (made_err g.row.D.Denot g.D.Disk.device c.self.inside.disk c.ask.new.disk _ _ _ _ _ c.ask.ensures.asked.time
-    (g.met.D.Disk.counts_content c.ask.new.disk) c.self.inside.next c.call_at_fault-self-inside.result c.self.inside.halted
-    c.in-Err-Fault.field-0 c.if-self.false (c.is_idle.ensures.no c.if-is_idle.false) c.self.invariant
-    c.call_at_fault-self-inside.ensures (c.in-Err-Fault.ensures.asked.does c.in-Err-Fault.field-0-is)
-    (c.in-Err-Fault.ensures.asked.cause.fault c.in-Err-Fault.field-0-is)).since
+    rw (← c.self.view_is) (made_err g.row.D.Denot g.D.Disk.device g.D.Disk.write_grows g.D.Disk.sync_grows c.self.inside.disk
+    c.ask.new.disk _ _ _ _ _
+    (g.met.D.Disk.counts_content c.ask.new.disk) c.read_epoch-epoch.result (c.read_epoch-epoch.ensures.epoch
+    ∙ ap epoch_in c.deref.ensures.value) c.self.inside.next c.call_at_fault-self-inside.result c.self.inside.halted
+    c.in-Err-Fault.field-0 c.in-Err-Fault.field-0-is c.if-self.false (c.is_idle.ensures.no c.if-is_idle.false) c.self.invariant
+    c.call_at_fault-self-inside.ensures c.in-Err-Fault.ensures.does).since
 
 pub invariant_of-self-in-Err-Memory : goal.invariant_of-self-in-Err-Memory
 invariant_of-self-in-Err-Memory g c =
-    retried_kept g.row.D.Denot g.D.Disk.device c.self.inside.disk c.ask.new.disk _ _ _ _ _ c.ask.ensures.asked.time
-    (g.met.D.Disk.counts_content c.ask.new.disk) c.self.inside.next c.self.inside.halted c.self.invariant
-    (c.in-Err-Memory.ensures.asked.refused c.in-Err-Memory.field-0-is)
+    retried_kept g.row.D.Denot g.D.Disk.device g.D.Disk.write_grows g.D.Disk.sync_grows c.self.inside.disk c.ask.new.disk _ _ _ _ _
+    (g.met.D.Disk.counts_content c.ask.new.disk) c.read_epoch-epoch.result (c.read_epoch-epoch.ensures.epoch
+    ∙ ap epoch_in c.deref.ensures.value) c.self.inside.next c.self.inside.halted c.in-Err-Memory.field-0
+    c.in-Err-Memory.field-0-is c.self.invariant c.in-Err-Memory.ensures.does
 
 pub returns-in-Err-Memory-clause-retried : goal.returns-in-Err-Memory-clause-retried
 returns-in-Err-Memory-clause-retried g c =
     rw (← c.self.view_is)
-    (λ running other is. retried g.row.D.Denot g.D.Disk.device c.self.inside.disk c.ask.new.disk _ _ _ _ _ c.ask.ensures.asked.time
-    (g.met.D.Disk.counts_content c.ask.new.disk) c.self.inside.next c.self.inside.halted c.self.invariant
-    (c.in-Err-Memory.ensures.asked.refused c.in-Err-Memory.field-0-is))
+    (λ running other is. retried g.row.D.Denot g.D.Disk.device g.D.Disk.write_grows g.D.Disk.sync_grows c.self.inside.disk c.ask.new.disk
+    _ _ _ _ _
+    (g.met.D.Disk.counts_content c.ask.new.disk) c.read_epoch-epoch.result (c.read_epoch-epoch.ensures.epoch
+    ∙ ap epoch_in c.deref.ensures.value) c.self.inside.next c.self.inside.halted c.in-Err-Memory.field-0
+    c.in-Err-Memory.field-0-is c.self.invariant c.in-Err-Memory.ensures.does)
 
 pub returns-in-Err-Memory-clause-now : goal.returns-in-Err-Memory-clause-now
 returns-in-Err-Memory-clause-now g c =
-    (retried g.row.D.Denot g.D.Disk.device c.self.inside.disk c.ask.new.disk _ _ _ _ _ c.ask.ensures.asked.time
-    (g.met.D.Disk.counts_content c.ask.new.disk) c.self.inside.next c.self.inside.halted c.self.invariant
-    (c.in-Err-Memory.ensures.asked.refused c.in-Err-Memory.field-0-is)).now
+    (retried g.row.D.Denot g.D.Disk.device g.D.Disk.write_grows g.D.Disk.sync_grows c.self.inside.disk c.ask.new.disk _ _ _ _ _
+    (g.met.D.Disk.counts_content c.ask.new.disk) c.read_epoch-epoch.result (c.read_epoch-epoch.ensures.epoch
+    ∙ ap epoch_in c.deref.ensures.value) c.self.inside.next c.self.inside.halted c.in-Err-Memory.field-0
+    c.in-Err-Memory.field-0-is c.self.invariant c.in-Err-Memory.ensures.does).now
 
 pub returns-in-Err-Memory-clause-since : goal.returns-in-Err-Memory-clause-since
 returns-in-Err-Memory-clause-since g c =
     rw (← c.self.view_is)
-    (retried g.row.D.Denot g.D.Disk.device c.self.inside.disk c.ask.new.disk _ _ _ _ _ c.ask.ensures.asked.time
-    (g.met.D.Disk.counts_content c.ask.new.disk) c.self.inside.next c.self.inside.halted c.self.invariant
-    (c.in-Err-Memory.ensures.asked.refused c.in-Err-Memory.field-0-is)).since
+    (retried g.row.D.Denot g.D.Disk.device g.D.Disk.write_grows g.D.Disk.sync_grows c.self.inside.disk c.ask.new.disk _ _ _ _ _
+    (g.met.D.Disk.counts_content c.ask.new.disk) c.read_epoch-epoch.result (c.read_epoch-epoch.ensures.epoch
+    ∙ ap epoch_in c.deref.ensures.value) c.self.inside.next c.self.inside.halted c.in-Err-Memory.field-0
+    c.in-Err-Memory.field-0-is c.self.invariant c.in-Err-Memory.ensures.does).since

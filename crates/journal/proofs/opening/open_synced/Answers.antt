@@ -1,4 +1,4 @@
-use Rattle.std.proofs.Common.{◌≡◌, ◌≢◌, ◌+◌, length, IsTrue, refl, sym, ◌∙◌, subst}
+use Rattle.std.proofs.Common.{◌≡◌, ◌≢◌, ◌+◌, IsTrue, refl, sym, ◌∙◌, subst}
 use Rattle.std.proofs.lemmas.Result.{IfOk-weaker}
 use Rattle.disk.specs.Device.{Elapses}
 use Rattle.journal_segments.specs.Found.{IsQuiet, IsStill}
@@ -6,6 +6,7 @@ use Rattle.journal.specs.Inside.{IsVolume, LeftAs}
 use Rattle.std.specs.List.{sum}
 use Rattle.journal.specs.Journal.{IsCaused, IsDuring, IsReady, JournalView, sizes}
 use Rattle.journal.specs.Opening.{Opens, Refuses}
+use Rattle.journal.specs.Order.{closings}
 use Rattle.model.specs.Volume.{StandsFor, format_number, open_segments}
 use Rattle.journal.specs.declared.JournalError.{JournalError}
 use Rattle.journal.specs.declared.JournalError.TheVariants.{Fault, Memory, NotAVolume, Halted}
@@ -97,19 +98,22 @@ returns-in-Ok-clause-cost g c t =
     let still = subst (λ (d : g.row.D.Denot). IsStill (g.D.Disk.device c.args.disk) (g.D.Disk.device d))
     (sym c.to_be_replayed.ensures.disk) c.in-Ok.ensures.still in
     let writes = subst (λ (d : g.row.D.Denot). IsTrue (g.D.Disk.device d).tells
-    → home_writes (g.D.Disk.device d).content (open_segments (g.D.Disk.device d).content) ≡ sum (sizes c.to_be_replayed.result) + length
-    (sizes c.to_be_replayed.result)) (sym c.to_be_replayed.ensures.disk) c.to_be_replayed.ensures.open in
+    → home_writes (g.D.Disk.device d).content (open_segments (g.D.Disk.device d).content)
+    ≡ sum (sizes c.to_be_replayed.result).counts + closings (sizes c.to_be_replayed.result))
+    (sym c.to_be_replayed.ensures.disk) c.to_be_replayed.ensures.open in
     let syncs = subst (λ (d : g.row.D.Denot). IsTrue (g.D.Disk.device d).tells
-    → home_syncs (open_segments (g.D.Disk.device d).content) ≡ 1 + length (sizes c.to_be_replayed.result))
+    → home_syncs (g.D.Disk.device d).content (open_segments (g.D.Disk.device d).content) ≡ 1 + closings (sizes c.to_be_replayed.result))
     (sym c.to_be_replayed.ensures.disk) c.to_be_replayed.ensures.syncs in
     IfOk-weaker c.replay.result (λ (after : JournalView g.row.D.Denot). IsMore
-    (sum (sizes c.to_be_replayed.result) + length (sizes c.to_be_replayed.result)) (g.D.Disk.device c.to_be_replayed.result.disk).writes
-    (g.D.Disk.device after.disk).writes × IsMore (1 + length (sizes c.to_be_replayed.result))
+    (sum (sizes c.to_be_replayed.result).counts + closings (sizes c.to_be_replayed.result))
+    (g.D.Disk.device c.to_be_replayed.result.disk).writes
+    (g.D.Disk.device after.disk).writes × IsMore (1 + closings (sizes c.to_be_replayed.result))
     (g.D.Disk.device c.to_be_replayed.result.disk).syncs (g.D.Disk.device after.disk).syncs)
     (λ (after : JournalView g.row.D.Denot). Costs 0 (g.D.Disk.device c.args.disk).content (g.D.Disk.device c.args.disk)
     (g.D.Disk.device after.disk))
     (λ after h. costs_replayed (g.D.Disk.device c.args.disk) (g.D.Disk.device c.to_be_replayed.result.disk) (g.D.Disk.device after.disk)
-    (sum (sizes c.to_be_replayed.result) + length (sizes c.to_be_replayed.result)) (1 + length (sizes c.to_be_replayed.result)) quiet
+    (sum (sizes c.to_be_replayed.result).counts + closings (sizes c.to_be_replayed.result))
+    (1 + closings (sizes c.to_be_replayed.result)) quiet
     still writes syncs h.0 h.1 t)
     c.replay.ensures.cost
 

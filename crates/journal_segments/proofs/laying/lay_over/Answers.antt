@@ -2,7 +2,7 @@ use Rattle.std.proofs.Common.{◌≡◌, ◌+◌, ◌-◌, ◌*◌, ℕ, List, [
 use Rattle.std.proofs.Common.{arith}
 use Rattle.std.proofs.lemmas.Bool.{cases_eq}
 use Rattle.model.specs.Volume.{all_laid_over, block}
-use Rattle.segment_laws.specs.Held.{batches_of}
+use Rattle.journal_laws.specs.Held.{batches_of}
 use Rattle.journal_segments.specs.Staged.{held_as}
 use Rattle.journal_segments.proofs.Pieces.{replaced_size, replaced_here, replaced_apart}
 use Rattle.journal_segments.proofs.laying.lay_over.Goals as goal

@@ -1,6 +1,6 @@
 use Rattle.std.proofs.Common.{◌≡◌, ◌<◌, ℕ, List, [], length, get_or, map, take}
 use Rattle.model.specs.Volume.{all_laid_over}
-use Rattle.segment_laws.specs.Held.{batches_of}
+use Rattle.journal_laws.specs.Held.{batches_of}
 use Rattle.journal_segments.specs.Staged.{held_as}
 use Rattle.journal_segments.proofs.laying.lay_over_block.Given as goal
 

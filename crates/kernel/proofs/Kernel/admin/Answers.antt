@@ -1,7 +1,7 @@
 use Rattle.std.proofs.Common.{◌≡◌, inl, inr, refl, ap, subst, ◌∙◌, List, sym}
 use Rattle.model.specs.declared.change.Change.TheVariants.{Group}
 use Rattle.model.specs.declared.change.NewGroup.{NewGroup}
-use Rattle.names.specs.Requests.{group_of}
+use Rattle.text_names.specs.Requests.{group_of}
 use Rattle.std.specs.Prelude.{Some, None}
 use Rattle.spool.specs.View.{SpoolView}
 use Rattle.spool.specs.Refusals.{group_refusal}
@@ -11,8 +11,8 @@ use Rattle.kernel.specs.Kernel.{KernelView, Administers, Exists, Full, admin_ref
 use Rattle.kernel.specs.Kept.{IsKept}
 use Rattle.kernel.specs.Stored.{kernel_of, seen_kernel}
 use Rattle.kernel.proofs.Lined.{lined_grown, seen_grown}
-use Rattle.seats.specs.Lined.{LinedSeat, all_seen}
-use Rattle.seats.specs.Seats.{Seat}
+use Rattle.kernel_seats.specs.Lined.{LinedSeat, all_seen}
+use Rattle.kernel_seats.specs.Seats.{Seat}
 use Rattle.spool_texts.specs.Parts.{lines_of}
 use Rattle.kernel.proofs.AdminLaws.{administers, no_group_memory, exists_when, few_dirty, full_when, none_when, passed, said, unsaid}
 use Rattle.kernel.proofs.KernelLaws.{kept_grown}

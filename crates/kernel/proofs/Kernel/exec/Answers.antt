@@ -2,7 +2,7 @@ use Rattle.std.proofs.Common.{sym, subst}
 use Rattle.model.specs.declared.message.Message.{Message}
 use Rattle.kernel.specs.Errors.{of_exec}
 use Rattle.kernel.specs.Kernel.{Execs, FitsMode, KernelView, Tested, exec_refusal, mode_at}
-use Rattle.shared_kernel.specs.declared.errors.ExecError.TheVariants.{Memory}
+use Rattle.kernel_shared.specs.declared.errors.ExecError.TheVariants.{Memory}
 use Rattle.kernel.proofs.Kernel.exec.Goals as goal
 
 pub exec_received-requires : goal.exec_received-requires

@@ -1,18 +1,18 @@
 use Rattle.std.proofs.Common.{◌≡◌, true, false, List, length, refl, ap, sym, subst, ◌∙◌, arith}
 use Rattle.std.proofs.lemmas.Bool.{le-leb, lt-leb}
-use Rattle.std.specs.Prelude.{Err, None, Some, find, not, ◌&&◌, ◌==◌, nat_le, nat_lt, option_map, slice_get}
+use Rattle.std.specs.Prelude.{Err, None, Some, find, is_some, not, ◌&&◌, ◌==◌, nat_le, nat_lt, option_map, slice_get}
 use Rattle.model.specs.Lawful.{IsLawfulSession}
 use Rattle.model.specs.declared.message.Mark.TheVariants as mark
-use Rattle.seats.specs.Kept.{IsSeat}
-use Rattle.seats.specs.Lined.{LinedSeat, RiseAbove, SeatIsLined, all_seen, seen}
-use Rattle.seats.proofs.Seeing.{find_seen}
-use Rattle.seats.specs.Seats.{Seat, answered_by}
-use Rattle.seats.proofs.SeatLaws.{lined_answered, seen_answered}
+use Rattle.kernel_seats.specs.Kept.{IsSeat}
+use Rattle.kernel_seats.specs.Lined.{LinedSeat, RiseAbove, SeatIsLined, all_seen, seen}
+use Rattle.kernel_seats.proofs.Seeing.{find_seen}
+use Rattle.kernel_seats.specs.Seats.{Seat, answered_by}
+use Rattle.kernel_seats.proofs.SeatLaws.{lined_answered, seen_answered}
 use Rattle.spool.specs.View.{SpoolView}
 use Rattle.spool_texts.specs.Parts.{HasLines, lines_of}
-use Rattle.outbox.specs.Lines.{plain}
-use Rattle.outbox.specs.declared.lines.Lines.{Lines}
-use Rattle.outbox.proofs.LinesLaws.{waiting_is}
+use Rattle.kernel_outbox.specs.Lines.{plain}
+use Rattle.kernel_outbox.specs.declared.made_lines.Lines.{Lines}
+use Rattle.kernel_outbox.proofs.LinesLaws.{waiting_is}
 use Rattle.kernel.specs.Kept.{IsKept}
 use Rattle.model.specs.Answer.{answer}
 use Rattle.std.specs.Option.{option_to_list}
@@ -24,14 +24,14 @@ use Rattle.kernel.specs.Kernel.{Execs, KernelView, Tested, exec_refusal}
 use Rattle.kernel.specs.Kernel.{most_dirty, LaterDirty, LaterOut, NoSession, buffered, is_block}
 use Rattle.kernel.specs.Stored.{seen_kernel}
 use Rattle.kernel.specs.Serving.{Grows, answer_in, mark_in}
-use Rattle.shared_kernel.specs.declared.errors.ExecError.TheVariants as exec
+use Rattle.kernel_shared.specs.declared.errors.ExecError.TheVariants as exec
 use Rattle.kernel.proofs.KernelLaws.{all_at, grown, mode_missing}
 use Rattle.kernel.proofs.Lined.{lined_at, lined_grown, seat_stays, seat_still_lined, seen_set}
 use Rattle.kernel.proofs.ExecLaws.{as_kept, left_so, seen_in}
 use Rattle.kernel.proofs.ExecLaws.{awaits, case_of, closed, done, kept_answered, later_dirty, later_out, no_session, none_fails}
 use Rattle.kernel.proofs.ExecLaws.{out_of_memory, refused, room_for, served_mark, size, stopped_changes_nothing, stopped_mark}
-use Rattle.kernel.proofs.ExecLaws.{stopped_mode, stopped_stays, tested_refused, there, was}
-use Rattle.seats.proofs.Halving.{rise_kept}
+use Rattle.kernel.proofs.ExecLaws.{stopped_accepts, stopped_mode, stopped_stays, tested_refused, there, was}
+use Rattle.kernel_seats.proofs.Halving.{rise_kept}
 use Rattle.kernel.proofs.Kernel.exec_received.Goals as goal
 
 pub position-requires : goal.position-requires
@@ -166,10 +166,11 @@ returns-then-self c =
     let told : seen made c.stop.new.self ≡ answered_by s.host s.changes c.args.received c.args.moment mark.Stopped (seen made before) =
     ap (seen made) same ∙ seen_answered made reply s.host s.changes c.args.received c.args.moment mark.Stopped before refl in
     left_so k c.args.self.now _ _ _ (as_kept k c.self.inside.spool c.stop.new.self (map-set (seen made) items c.in-Some.at c.stop.new.self))
-    (done k c.args.self.now s (seen made c.stop.new.self) (None, mark.Stopped) c.self.view_is passes
-    (stopped_mark k c.if-self.true)
+    (done k c.args.self.now s (seen made c.stop.new.self) (record { next = None; mark = mark.Stopped; has_accepted = false })
+    c.self.view_is passes (stopped_mark k c.if-self.true)
     (stopped_stays s k.seat.session c.args.received c.args.moment) told
-    (stopped_mode s c.args.received c.args.moment (seen made before) (seen made c.stop.new.self) told))
+    (stopped_mode s c.args.received c.args.moment (seen made before) (seen made c.stop.new.self) told)
+    (stopped_accepts s k.seat.session c.args.received c.args.moment))
 
 pub returns-then-is_late : goal.returns-then-is_late
 returns-then-is_late c =
@@ -255,21 +256,21 @@ invariant_of-self-2 c =
     (λ j. is_block (sym c.message.ensures j) && nat_lt (most_dirty (sym c.blocks-2.ensures j)) (sym c.dirty_len.ensures j))
     ∙ (sym c.is_late.ensures ∙ c.if-is_late.false) in
     let r = c.in-Ok-serve.ensures.ok in
-    let grows : Grows s c.serve.new.spool (answer_in s k.seat.session c.args.received c.args.moment c.in-Ok-serve.done.1).change =
-    subst (λ (x : Seat). Grows s c.serve.new.spool (answer_in s x.session c.args.received c.args.moment c.in-Ok-serve.done.1).change)
+    let grows : Grows s c.serve.new.spool (answer_in s k.seat.session c.args.received c.args.moment c.in-Ok-serve.outcome.mark).change =
+    subst (λ (x : Seat). Grows s c.serve.new.spool (answer_in s x.session c.args.received c.args.moment c.in-Ok-serve.outcome.mark).change)
     k.same r.spool in
     let now = c.serve.new.spool in
-    let change = (answer_in s k.seat.session c.args.received c.args.moment c.in-Ok-serve.done.1).change in
+    let change = (answer_in s k.seat.session c.args.received c.args.moment c.in-Ok-serve.outcome.mark).change in
     let stays : seen (lines_of now.changes) before ≡ seen made before =
     seat_stays s.changes now.changes (option_to_list change) (grown s now change grows).changes before lined in
     let told : seen (lines_of now.changes) c.serve.new.self
-    ≡ answered_by s.host s.changes c.args.received c.args.moment c.in-Ok-serve.done.1 (seen made before) =
-    r.seat ∙ ap (answered_by s.host s.changes c.args.received c.args.moment c.in-Ok-serve.done.1) stays in
+    ≡ answered_by s.host s.changes c.args.received c.args.moment c.in-Ok-serve.outcome.mark (seen made before) =
+    r.seat ∙ ap (answered_by s.host s.changes c.args.received c.args.moment c.in-Ok-serve.outcome.mark) stays in
     let kept = as_kept k now c.serve.new.self (seen_set s now change items c.in-Some.at c.serve.new.self grows c.self.invariant.lined) in
     record {
       seen = subst IsKept kept
-          (kept_answered k now (seen (lines_of now.changes) c.serve.new.self) c.in-Ok-serve.done.1 awaited
-          (room_for s k.seat.session c.args.received c.args.moment c.in-Ok-serve.done.1 early) (λ _. c.kept.ensures) grows told
+          (kept_answered k now (seen (lines_of now.changes) c.serve.new.self) c.in-Ok-serve.outcome.mark awaited
+          (room_for s k.seat.session c.args.received c.args.moment c.in-Ok-serve.outcome.mark early) (λ _. c.kept.ensures) grows told
           c.self.invariant.seen);
       lined = All-set (SeatIsLined (HasLines now.changes)) items c.in-Some.at c.serve.new.self
           (c.in-Ok-serve.ensures.lined
@@ -299,19 +300,20 @@ returns c =
     (λ j. not (c.if-self.false j) && is_block c.args.received && nat_lt (most_dirty (length s.blocks)) (length s.dirty)) ∙ early in
     let passes = none_fails (was k) c.args.sid c.args.received (there k awaited) few clean in
     let r = c.in-Ok-serve.ensures.ok in
-    let grows : Grows s c.serve.new.spool (answer_in s k.seat.session c.args.received c.args.moment c.in-Ok-serve.done.1).change =
-    subst (λ (x : Seat). Grows s c.serve.new.spool (answer_in s x.session c.args.received c.args.moment c.in-Ok-serve.done.1).change)
+    let grows : Grows s c.serve.new.spool (answer_in s k.seat.session c.args.received c.args.moment c.in-Ok-serve.outcome.mark).change =
+    subst (λ (x : Seat). Grows s c.serve.new.spool (answer_in s x.session c.args.received c.args.moment c.in-Ok-serve.outcome.mark).change)
     k.same r.spool in
-    let marked : c.in-Ok-serve.done.1 ≡ mark_in s k.seat.session c.args.received c.args.moment = r.mark
+    let marked : c.in-Ok-serve.outcome.mark ≡ mark_in s k.seat.session c.args.received c.args.moment = r.mark
     ∙ ap (λ (x : Seat). mark_in s x.session c.args.received c.args.moment) k.same in
     let now = c.serve.new.spool in
-    let change = (answer_in s k.seat.session c.args.received c.args.moment c.in-Ok-serve.done.1).change in
+    let change = (answer_in s k.seat.session c.args.received c.args.moment c.in-Ok-serve.outcome.mark).change in
     let stays : seen (lines_of now.changes) before ≡ seen made before =
     seat_stays s.changes now.changes (option_to_list change) (grown s now change grows).changes before lined in
     let told : seen (lines_of now.changes) c.serve.new.self
-    ≡ answered_by s.host s.changes c.args.received c.args.moment c.in-Ok-serve.done.1 (seen made before) =
-    r.seat ∙ ap (answered_by s.host s.changes c.args.received c.args.moment c.in-Ok-serve.done.1) stays in
+    ≡ answered_by s.host s.changes c.args.received c.args.moment c.in-Ok-serve.outcome.mark (seen made before) =
+    r.seat ∙ ap (answered_by s.host s.changes c.args.received c.args.moment c.in-Ok-serve.outcome.mark) stays in
     let kept = as_kept k now c.serve.new.self (seen_set s now change items c.in-Some.at c.serve.new.self grows c.self.invariant.lined) in
     left_so k c.args.self.now _ _ _ kept
-    (done k c.args.self.now now (seen (lines_of now.changes) c.serve.new.self) c.in-Ok-serve.done c.self.view_is passes
-    (marked ∙ served_mark k c.if-self.false) grows told r.reads_next)
+    (done k c.args.self.now now (seen (lines_of now.changes) c.serve.new.self) c.in-Ok-serve.outcome c.self.view_is passes
+    (marked ∙ served_mark k c.if-self.false) grows told r.next (r.accepted
+    ∙ ap (λ (x : Seat). is_some (answer_in s x.session c.args.received c.args.moment c.in-Ok-serve.outcome.mark).change) k.same))

@@ -11,8 +11,8 @@ use Rattle.kernel.specs.Kernel.{KernelView, Administers, Full, NotFound, early_r
 use Rattle.kernel.specs.Kept.{IsKept}
 use Rattle.kernel.specs.Stored.{kernel_of, seen_kernel}
 use Rattle.kernel.proofs.Lined.{lined_grown, seen_grown}
-use Rattle.seats.specs.Lined.{LinedSeat, all_seen}
-use Rattle.seats.specs.Seats.{Seat}
+use Rattle.kernel_seats.specs.Lined.{LinedSeat, all_seen}
+use Rattle.kernel_seats.specs.Seats.{Seat}
 use Rattle.spool_texts.specs.Parts.{lines_of}
 use Rattle.kernel.proofs.AdminLaws.{administers, no_expiry_memory, expires_when, few_dirty, no_room_when, not_found_when, passed, said}
 use Rattle.kernel.proofs.AdminLaws.{unsaid}

@@ -1,8 +1,8 @@
 use Rattle.std.proofs.Common.{◌++◌, List, ap, sym, subst, ◌∙◌}
 use Rattle.kernel.specs.Kept.{IsKept}
 use Rattle.kernel.specs.Kernel.{KernelView, released_of}
-use Rattle.seats.specs.Lined.{all_seen}
-use Rattle.seats.specs.Seats.{Seat, ready_of}
+use Rattle.kernel_seats.specs.Lined.{all_seen}
+use Rattle.kernel_seats.specs.Seats.{Seat, ready_of}
 use Rattle.spool_texts.specs.Parts.{lines_of}
 use Rattle.kernel.specs.Stored.{kernel_of}
 use Rattle.kernel.proofs.KernelLaws.{kept_gave}

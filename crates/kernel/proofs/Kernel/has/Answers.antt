@@ -2,10 +2,10 @@ use Rattle.std.proofs.Common.{◌≡◌, ℕ, zero, suc, Bool, true, false, List
 use Rattle.std.specs.Prelude.{◌==◌, find, is_some, option_map, slice_get, if◌then◌else◌}
 use Rattle.std.proofs.lemmas.Bool.{eq-eqb}
 use Rattle.kernel.specs.Kernel.{KernelView, seat_of}
-use Rattle.seats.specs.Lined.{RiseAbove, LinedSeat, all_seen, seen}
-use Rattle.seats.specs.Seats.{Seat}
-use Rattle.seats.proofs.Halving.{rise_kept}
-use Rattle.seats.proofs.Seeing.{find_seen, seen_place}
+use Rattle.kernel_seats.specs.Lined.{RiseAbove, LinedSeat, all_seen, seen}
+use Rattle.kernel_seats.specs.Seats.{Seat}
+use Rattle.kernel_seats.proofs.Halving.{rise_kept}
+use Rattle.kernel_seats.proofs.Seeing.{find_seen, seen_place}
 use Rattle.spool_texts.specs.Parts.{lines_of}
 use Rattle.kernel.proofs.Kernel.has.Goals as goal
 

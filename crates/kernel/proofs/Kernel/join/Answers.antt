@@ -6,8 +6,8 @@ use Rattle.model.specs.Stream.{Octets}
 use Rattle.kernel.specs.Kept.{IsKept}
 use Rattle.kernel.specs.Errors.{of_join}
 use Rattle.kernel.specs.Kernel.{KernelView, join_refusal}
-use Rattle.seats.specs.Lined.{AllAreLined, LinedSeat, SeatIsLined, all_seen, begun, seen}
-use Rattle.seats.specs.Seats.{Seat, new_seat}
+use Rattle.kernel_seats.specs.Lined.{AllAreLined, LinedSeat, SeatIsLined, all_seen, begun, seen}
+use Rattle.kernel_seats.specs.Seats.{Seat, new_seat}
 use Rattle.spool_texts.specs.Parts.{HasLines, lines_of}
 use Rattle.kernel.specs.Stored.{kernel_of}
 use Rattle.kernel.proofs.AdminLaws.{few_seats, passed}

@@ -2,14 +2,14 @@ use Rattle.std.proofs.Common.{◌≡◌, List, ap, refl, sym, subst, ◌∙◌}
 use Rattle.std.specs.Prelude.{Some, None, ◌==◌, filter, find, not, option_map, slice_get}
 use Rattle.kernel.specs.Kept.{IsKept}
 use Rattle.kernel.specs.Kernel.{KernelView, left}
-use Rattle.seats.specs.Lined.{RiseAbove, AllAreLined, LinedSeat, all_seen, seen}
-use Rattle.seats.specs.Seats.{Seat}
-use Rattle.seats.proofs.Halving.{rise_kept}
-use Rattle.seats.proofs.Seeing.{find_seen, lined_without, seen_place, seen_without}
+use Rattle.kernel_seats.specs.Lined.{RiseAbove, AllAreLined, LinedSeat, all_seen, seen}
+use Rattle.kernel_seats.specs.Seats.{Seat}
+use Rattle.kernel_seats.proofs.Halving.{rise_kept}
+use Rattle.kernel_seats.proofs.Seeing.{find_seen, lined_without, seen_place, seen_without}
 use Rattle.spool_texts.specs.Parts.{HasLines, lines_of}
 use Rattle.kernel.specs.Stored.{kernel_of, seen_kernel}
 use Rattle.kernel.proofs.KernelLaws.{filter_missing, kept_left}
-use Rattle.seats.proofs.SeatsLaws.{filter_at}
+use Rattle.kernel_seats.proofs.SeatsLaws.{filter_at}
 use Rattle.kernel.proofs.Kernel.leave.Goals as goal
 
 pub position-requires : goal.position-requires

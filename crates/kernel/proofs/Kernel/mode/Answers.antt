@@ -2,10 +2,10 @@ use Rattle.std.proofs.Common.{◌≡◌, List, ap, arith, refl, sym, subst, ◌�
 use Rattle.std.specs.Prelude.{Some, None, ◌==◌, find, option_map, slice_get}
 use Rattle.std.proofs.lemmas.Option.{slice_get_within}
 use Rattle.kernel.specs.Kernel.{KernelView, mode_at}
-use Rattle.seats.specs.Lined.{RiseAbove, LinedSeat, all_seen, seen}
-use Rattle.seats.specs.Seats.{Seat}
-use Rattle.seats.proofs.Halving.{rise_kept}
-use Rattle.seats.proofs.Seeing.{find_seen, seen_at, seen_place}
+use Rattle.kernel_seats.specs.Lined.{RiseAbove, LinedSeat, all_seen, seen}
+use Rattle.kernel_seats.specs.Seats.{Seat}
+use Rattle.kernel_seats.proofs.Halving.{rise_kept}
+use Rattle.kernel_seats.proofs.Seeing.{find_seen, seen_at, seen_place}
 use Rattle.spool_texts.specs.Parts.{lines_of}
 use Rattle.kernel.specs.Stored.{seen_kernel}
 use Rattle.kernel.proofs.KernelLaws.{mode_found, mode_missing, same_place}

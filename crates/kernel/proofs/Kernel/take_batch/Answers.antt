@@ -3,12 +3,12 @@ use Rattle.std.specs.Prelude.{Some}
 use Rattle.model.specs.Volume.{blocks_from}
 use Rattle.kernel.specs.Kernel.{KernelView, Takes}
 use Rattle.kernel.specs.Stored.{kernel_of}
-use Rattle.seats.specs.Lined.{all_seen}
-use Rattle.seats.specs.Seats.{Seat}
+use Rattle.kernel_seats.specs.Lined.{all_seen}
+use Rattle.kernel_seats.specs.Seats.{Seat}
 use Rattle.spool.specs.View.{SpoolView}
 use Rattle.spool_texts.specs.Parts.{lines_of}
 use Rattle.kernel.proofs.TakingLaws.{images_are, takes_dirty}
-use Rattle.shared_kernel.specs.declared.ticket.Ticket.{Ticket}
+use Rattle.kernel_shared.specs.declared.ticket.Ticket.{Ticket}
 use Rattle.kernel.proofs.Kernel.take_batch.Goals as goal
 
 pub returns-clause-takes : goal.returns-clause-takes

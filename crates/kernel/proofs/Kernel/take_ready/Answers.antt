@@ -2,8 +2,8 @@ use Rattle.std.proofs.Common.{sym, subst, arith, ap, ◌∙◌}
 use Rattle.std.specs.Prelude.{List, length}
 use Rattle.std.proofs.lemmas.List.{length-map}
 use Rattle.kernel.specs.Kept.{IsKept}
-use Rattle.seats.specs.Lined.{all_seen, seen}
-use Rattle.seats.specs.Seats.{Seat}
+use Rattle.kernel_seats.specs.Lined.{all_seen, seen}
+use Rattle.kernel_seats.specs.Seats.{Seat}
 use Rattle.spool_texts.specs.Parts.{lines_of}
 use Rattle.kernel.specs.Stored.{kernel_of}
 use Rattle.kernel.proofs.KernelLaws.{kept_released}

@@ -1,4 +1,5 @@
-use Rattle.model.proofs.Growing.{files_grow, spools_grow}
+use Rattle.model.proofs.Growing.{files_grow}
+use Rattle.model.proofs.PackedGrowing.{spools_grow}
 use Rattle.model.proofs.filed.spools_grow_by_their_files.Goals as goal
 
 pub returns : goal.returns

@@ -1,7 +1,7 @@
 use Rattle.std.proofs.Common.{rules}
 use Rattle.model.specs.Answer.{command_answer}
 use Rattle.model.specs.Reads.{command_reads}
-use Rattle.replies.proofs.Lined.{ok_answers}
+use Rattle.session_replies.proofs.Lined.{ok_answers}
 use Rattle.session.proofs.commands.command.Goals as goal
 
 pub returns-in-Capabilities : goal.returns-in-Capabilities

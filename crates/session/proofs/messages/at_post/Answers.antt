@@ -4,7 +4,7 @@ use Rattle.model.specs.Answer.{served}
 use Rattle.model.specs.Reads.{served_reads}
 use Rattle.model.specs.declared.message.Message.{Message}
 use Rattle.model.specs.declared.session.Awaits.TheVariants as awaits
-use Rattle.posting_commands.specs.Outcomes.{Replied, said}
+use Rattle.session_posting.specs.Outcomes.{Replied, said}
 use Rattle.session.specs.Steps.{step_of}
 use Rattle.session.proofs.Stepping.{post_step}
 use Rattle.session.proofs.messages.at_post.Goals as goal

@@ -2,7 +2,7 @@ use Rattle.std.proofs.Common.{◌≡◌, rules, subst, sym}
 use Rattle.std.specs.Prelude.{IfOk}
 use Rattle.model.specs.declared.message.Message.{Message}
 use Rattle.model.specs.declared.session.Awaits.{Awaits}
-use Rattle.posting_commands.specs.Outcomes.{said}
+use Rattle.session_posting.specs.Outcomes.{said}
 use Rattle.session.specs.Steps.{IsStep, step_of}
 use Rattle.session.proofs.Stepping.{no_lines, ok_step}
 use Rattle.session.proofs.steps.by_kind.Goals as goal

@@ -1,4 +1,4 @@
-use Rattle.posting_commands.specs.Accepted.{change_of}
+use Rattle.session_posting.specs.Accepted.{change_of}
 use Rattle.session.proofs.Stepping.{makes_one, step_answer, step_mark, step_reads}
 use Rattle.session.proofs.steps.step.Goals as goal
 

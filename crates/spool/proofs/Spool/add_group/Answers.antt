@@ -1,16 +1,16 @@
-use Rattle.std.proofs.Common.{◌≡◌, inl, inr, true, false, length, refl, ◌∙◌, sym, ap, subst, arith}
+use Rattle.std.proofs.Common.{◌≡◌, Some, inl, inr, true, false, length, refl, ◌∙◌, sym, ap, subst, arith}
 use Rattle.std.specs.Prelude.{IsTrue}
 use Rattle.std.specs.List.{list_all}
 use Rattle.model.specs.Lawful.{is_description_octet}
 use Rattle.model.specs.Names.{is_group_name}
-use Rattle.model.specs.Room.{is_full_for}
+use Rattle.model.specs.Room.{is_full}
 use Rattle.model.specs.Spool.{group_named, is_here}
 use Rattle.model.specs.Stream.{Octets}
 use Rattle.model.specs.declared.change.Change.{Change}
 use Rattle.model.specs.declared.change.Change.TheVariants.{Group}
 use Rattle.model.specs.declared.change.NewGroup.{NewGroup}
 use Rattle.model.proofs.LawfulLaws.{none_by_test}
-use Rattle.names.specs.Requests.{group_of}
+use Rattle.text_names.specs.Requests.{group_of}
 use Rattle.spool.specs.View.{Adds}
 use Rattle.spool.proofs.Full.{group_refused, last_serial}
 use Rattle.spool.proofs.Spool.add_group.Goals as goal
@@ -22,7 +22,7 @@ returns-then-is_here c =
     let its : Change = Group (group_of c.args.group.now) in
     let here : is_here s.changes name ≡ true =
     ap (is_here s.changes) (sym c.as_slice-name.ensures.value) ∙ sym c.is_here.ensures ∙ c.if-is_here.true in
-    (inr (group_refused s name its true (is_full_for (length s.blocks) s.inodes s.changes its) here refl), refl)
+    (inr (group_refused s name its true (is_full s.blocks s.inodes s.changes (Some its)) here refl), refl)
 
 pub returns-then-is_full_for_group : goal.returns-then-is_full_for_group
 returns-then-is_full_for_group c =
@@ -31,7 +31,7 @@ returns-then-is_full_for_group c =
     let asked : NewGroup = group_of c.args.group.now in
     let here : is_here s.changes name ≡ false =
     ap (is_here s.changes) (sym c.as_slice-name.ensures.value) ∙ sym c.is_here.ensures ∙ c.if-is_here.false in
-    let full : is_full_for (length s.blocks) s.inodes s.changes (Group asked) ≡ true =
+    let full : is_full s.blocks s.inodes s.changes (Some (Group asked)) ≡ true =
     sym (c.is_full_for_group.ensures asked) ∙ c.if-is_full_for_group.true in
     (inr (group_refused s name (Group asked) false true here full), refl)
 
@@ -65,7 +65,7 @@ returns-in-Err c =
     let asked : NewGroup = group_of c.args.group.now in
     let here : is_here s.changes name ≡ false =
     ap (is_here s.changes) (sym c.as_slice-name.ensures.value) ∙ sym c.is_here.ensures ∙ c.if-is_here.false in
-    let room : is_full_for (length s.blocks) s.inodes s.changes (Group asked) ≡ false =
+    let room : is_full s.blocks s.inodes s.changes (Some (Group asked)) ≡ false =
     sym (c.is_full_for_group.ensures asked) ∙ c.if-is_full_for_group.false in
     (inl (refl, group_refused s name (Group asked) false false here room), c.in-Err.ensures.err)
 
@@ -90,7 +90,7 @@ returns-in-Ok c =
     let adds : Adds s n (Group asked) = subst (λ (g : NewGroup). Adds s n (Group g)) same c.in-Ok.ensures.ok in
     let here : is_here s.changes group.name ≡ false =
     ap (is_here s.changes) (sym c.as_slice-name.ensures.value) ∙ sym c.is_here.ensures ∙ c.if-is_here.false in
-    let room : is_full_for (length s.blocks) s.inodes s.changes (Group asked) ≡ false =
+    let room : is_full s.blocks s.inodes s.changes (Some (Group asked)) ≡ false =
     sym (c.is_full_for_group.ensures asked) ∙ c.if-is_full_for_group.false in (
       group_refused s group.name (Group asked) false false here room,
       (last_serial s n (Group asked) c.len.result adds c.len.ensures, adds),

@@ -1,6 +1,6 @@
 use Rattle.std.proofs.Common.{[], ◌∙◌, ap, subst, sym}
-use Rattle.filing.specs.Calls.{IsKnown}
-use Rattle.volume.specs.Volume.{VolumeView}
+use Rattle.spool_growing.specs.Calls.{IsKnown}
+use Rattle.journal_volume.specs.Volume.{VolumeView}
 use Rattle.spool.specs.View.{SpoolView}
 use Rattle.spool.proofs.Held.{cleaned, kept_stands, kept_view, the_changes}
 use Rattle.spool.proofs.Spool.copy_dirty.Goals as goal
@@ -10,9 +10,8 @@ invariant_of-self c =
     let s = c.self.inside in
     let kept = cleaned s.host s.inodes s.volume c.copy_dirty.new.self s.index s.places s.stands.changes c.copy_dirty.ensures.clean
     c.self.invariant.0 in
-    let both = kept_stands s.host s.inodes c.copy_dirty.new.self s.index s.places s.free_inodes s.stands.changes c.self-1.given.0 kept
-    c.self.invariant.1 in
-    (both.0, both.1, subst (λ (x : VolumeView). IsKnown s.inodes s.free x.cache) (sym c.copy_dirty.ensures.clean) c.self.invariant.2)
+    let stands = kept_stands s.host s.inodes c.copy_dirty.new.self s.index s.places s.stands.changes c.self-1.given.0 kept in
+    (stands, subst (λ (x : VolumeView). IsKnown s.inodes s.free x.cache) (sym c.copy_dirty.ensures.clean) c.self.invariant.1)
 
 pub returns-clause-clean : goal.returns-clause-clean
 returns-clause-clean c =

@@ -1,5 +1,6 @@
-use Rattle.std.proofs.Common.{◌≡◌, inl, inr, true, false, length, refl, ◌∙◌, sym}
-use Rattle.model.specs.Room.{is_full_for}
+use Rattle.std.proofs.Common.{◌≡◌, Some, ◌-◌, inl, inr, true, false, refl, ◌∙◌, sym}
+use Rattle.model.specs.Files.{free_blocks, free_inodes}
+use Rattle.model.specs.Room.{is_full}
 use Rattle.model.specs.declared.change.Change.TheVariants.{Expire}
 use Rattle.model.specs.declared.change.Expiry.{Expiry}
 use Rattle.spool.specs.Refusals.{has_number}
@@ -11,23 +12,26 @@ returns-then-lacks_room c =
     let s = c.args.self.now in
     let expiry : Expiry = record { group = c.args.name.now; number = c.args.number } in
     let there : has_number s.changes c.args.name.now c.args.number ≡ true = sym c.has_number.ensures ∙ c.if-not-has_number.false in
-    let full : is_full_for (length s.blocks) s.inodes s.changes (Expire expiry) ≡ true =
-    full_expiry (length s.blocks) s.inodes s.changes expiry ∙ sym c.lacks_room.ensures ∙ c.if-lacks_room.true in
+    let full : is_full s.blocks s.inodes s.changes (Some (Expire expiry)) ≡ true =
+    full_expiry (free_blocks s.blocks - 0) (free_inodes s.inodes s.blocks - 0) s.changes expiry ∙ sym c.lacks_room.ensures ∙
+    c.if-lacks_room.true in
     (inr (expiry_refused s c.args.name.now c.args.number true true there full), refl)
 
 pub push_expiry-requires-clause-room : goal.push_expiry-requires-clause-room
 push_expiry-requires-clause-room c =
     let s = c.args.self.now in
     let expiry : Expiry = record { group = c.args.name.now; number = c.args.number } in
-    full_expiry (length s.blocks) s.inodes s.changes expiry ∙ sym c.lacks_room.ensures ∙ c.if-lacks_room.false
+    full_expiry (free_blocks s.blocks - 0) (free_inodes s.inodes s.blocks - 0) s.changes expiry ∙ sym c.lacks_room.ensures ∙
+    c.if-lacks_room.false
 
 pub returns-in-Err : goal.returns-in-Err
 returns-in-Err c =
     let s = c.args.self.now in
     let expiry : Expiry = record { group = c.args.name.now; number = c.args.number } in
     let there : has_number s.changes c.args.name.now c.args.number ≡ true = sym c.has_number.ensures ∙ c.if-not-has_number.false in
-    let room : is_full_for (length s.blocks) s.inodes s.changes (Expire expiry) ≡ false =
-    full_expiry (length s.blocks) s.inodes s.changes expiry ∙ sym c.lacks_room.ensures ∙ c.if-lacks_room.false in
+    let room : is_full s.blocks s.inodes s.changes (Some (Expire expiry)) ≡ false =
+    full_expiry (free_blocks s.blocks - 0) (free_inodes s.inodes s.blocks - 0) s.changes expiry ∙ sym c.lacks_room.ensures ∙
+    c.if-lacks_room.false in
     (inl (refl, expiry_refused s c.args.name.now c.args.number true false there room), c.in-Err.ensures.err)
 
 pub returns-in-Ok : goal.returns-in-Ok
@@ -36,8 +40,9 @@ returns-in-Ok c =
     let expiry : Expiry = record { group = c.args.name.now; number = c.args.number } in
     let adds = c.in-Ok.ensures.ok in
     let there : has_number s.changes c.args.name.now c.args.number ≡ true = sym c.has_number.ensures ∙ c.if-not-has_number.false in
-    let room : is_full_for (length s.blocks) s.inodes s.changes (Expire expiry) ≡ false =
-    full_expiry (length s.blocks) s.inodes s.changes expiry ∙ sym c.lacks_room.ensures ∙ c.if-lacks_room.false in (
+    let room : is_full s.blocks s.inodes s.changes (Some (Expire expiry)) ≡ false =
+    full_expiry (free_blocks s.blocks - 0) (free_inodes s.inodes s.blocks - 0) s.changes expiry ∙ sym c.lacks_room.ensures ∙
+    c.if-lacks_room.false in (
       expiry_refused s c.args.name.now c.args.number true false there room,
       (last_serial s c.push_expiry.new.self (Expire expiry) c.len.result adds c.len.ensures, adds),
     )

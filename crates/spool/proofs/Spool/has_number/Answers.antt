@@ -1,7 +1,7 @@
 use Rattle.std.proofs.Common.{◌≡◌, subst}
 use Rattle.std.specs.Prelude.{nat_le}
 use Rattle.std.proofs.lemmas.Bool.{le-leb, lt-leb}
-use Rattle.index_groups.specs.Shown.{shown}
+use Rattle.spool_groups.specs.Shown.{shown}
 use Rattle.spool.specs.Refusals.{has_number}
 use Rattle.spool.specs.View.{SpoolView}
 use Rattle.spool.proofs.Here.{number_missed, number_reached}

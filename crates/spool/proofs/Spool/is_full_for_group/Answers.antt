@@ -1,8 +1,9 @@
-use Rattle.std.proofs.Common.{◌≡◌, ℕ, Bool, length, map, ◌∙◌, sym, ap}
+use Rattle.std.proofs.Common.{◌≡◌, ℕ, ◌-◌, Bool, length, map, ◌∙◌, sym, ap}
 use Rattle.std.specs.Prelude.{nat_le, ◌||◌}
 use Rattle.std.proofs.lemmas.List.{length-map}
+use Rattle.model.specs.Files.{free_blocks, free_inodes}
 use Rattle.model.specs.Spool.{groups}
-use Rattle.index_groups.specs.Shown.{shown}
+use Rattle.spool_groups.specs.Shown.{shown}
 use Rattle.spool.specs.View.{SpoolView}
 use Rattle.spool.proofs.Full.{full_group, group_count}
 use Rattle.spool.proofs.Spool.is_full_for_group.Goals as goal
@@ -12,7 +13,7 @@ returns-then-lacks_room c = λ group.
     let s = c.args.self.now in
     let rest = nat_le 4096 (length (groups s.changes)) in
     c.if-lacks_room.true ∙ ap (λ (b : Bool). b || rest) (sym c.if-lacks_room.true ∙ c.lacks_room.ensures)
-    ∙ sym (full_group (length s.blocks) s.inodes s.changes group)
+    ∙ sym (full_group (free_blocks s.blocks - 0) (free_inodes s.inodes s.blocks - 0) s.changes group)
 
 pub returns-else-lacks_room : goal.returns-else-lacks_room
 returns-else-lacks_room c = λ group.
@@ -23,4 +24,4 @@ returns-else-lacks_room c = λ group.
     sym (length-map c.groups.result.now shown) ∙ group_count c.self.inside.stands.changes (map shown c.groups.result.now) list
     ∙ ap (λ (x : SpoolView). length (groups x.changes)) c.self.view_is in
     ap (λ (n : ℕ). nat_le 4096 n) count ∙ ap (λ (b : Bool). b || rest) (sym c.if-lacks_room.false ∙ c.lacks_room.ensures)
-    ∙ sym (full_group (length s.blocks) s.inodes s.changes group)
+    ∙ sym (full_group (free_blocks s.blocks - 0) (free_inodes s.inodes s.blocks - 0) s.changes group)

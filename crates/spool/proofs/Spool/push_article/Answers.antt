@@ -1,13 +1,12 @@
-use Rattle.std.proofs.Common.{◌≡◌, ◌≤◌, ◌-◌, false, [], ◌∷◌, ◌++◌, length, ◌∙◌, sym, subst}
-use Rattle.filing.specs.Calls.{IsKnown}
+use Rattle.std.proofs.Common.{[], ◌∷◌, ◌++◌, ◌∙◌, sym, subst}
+use Rattle.spool_growing.specs.Calls.{IsKnown}
 use Rattle.model.specs.Lawful.{MayFile}
-use Rattle.model.specs.Room.{is_full_for}
 use Rattle.model.specs.declared.change.Change.{Change}
 use Rattle.model.specs.declared.change.Change.TheVariants.{Article}
 use Rattle.model.specs.declared.change.Filing.{Filing}
-use Rattle.volume.specs.Volume.{VolumeView}
+use Rattle.journal_volume.specs.Volume.{VolumeView}
 use Rattle.spool.specs.View.{SpoolView}
-use Rattle.spool.proofs.Held.{added, enough_left, free_after, if_err, kept_same, kept_stands, kept_view, the_changes}
+use Rattle.spool.proofs.Held.{added, if_err, kept_same, kept_stands, kept_view, the_changes}
 use Rattle.spool.proofs.Spool.push_article.Goals as goal
 
 pub invariant_of-self : goal.invariant_of-self
@@ -17,9 +16,8 @@ invariant_of-self c =
     let n = c.grow_by_article.new in
     let kept = kept_same s.host s.inodes s.volume n.volume s.index n.index s.places n.places s.stands.changes e.volume e.index e.places
     c.self.invariant.0 in
-    let both = kept_stands s.host s.inodes n.volume n.index n.places s.free_inodes s.stands.changes c.in_err-free.self-1-own.given.0 kept
-    c.self.invariant.1 in
-    (both.0, both.1, subst (λ (x : VolumeView). IsKnown s.inodes s.free x.cache) (sym e.volume) c.self.invariant.2)
+    let stands = kept_stands s.host s.inodes n.volume n.index n.places s.stands.changes c.in_err-free.self-1-own.given.0 kept in
+    (stands, subst (λ (x : VolumeView). IsKnown s.inodes s.free x.cache) (sym e.volume) c.self.invariant.1)
 
 pub returns-in_err-free-clause-err : goal.returns-in_err-free-clause-err
 returns-in_err-free-clause-err c =
@@ -31,16 +29,6 @@ returns-in_err-free-clause-err c =
     let now = c.in_err-free.self-1-own.given.0 in
     if_err c.from_residual.result (kept_view s.host s.inodes s.volume n.volume s.stands now e.volume
     (the_changes s.host s.inodes n.volume.cache s.stands.changes kept.is now) ∙ c.self.view_is)
-
-pub overflow_sub-self : goal.overflow_sub-self
-overflow_sub-self c =
-    let s = c.self.inside in
-    let filing : Filing = record { text = c.args.article.now; envelope = c.args.envelope.now } in
-    let its : Change = Article filing in
-    let room : is_full_for (length s.volume.cache) s.inodes s.stands.changes its ≡ false =
-    subst (λ (x : SpoolView). is_full_for (length x.blocks) x.inodes x.changes its ≡ false)
-    (sym c.self.view_is) c.requires.room in
-    enough_left s.host s.inodes s.volume s.index s.places s.free_inodes s.stands.changes its c.self.invariant.0 c.self.invariant.1 room
 
 pub invariant_of-self-inside-2 : goal.invariant_of-self-inside-2
 invariant_of-self-inside-2 c =
@@ -60,16 +48,9 @@ invariant_of-self-2 c =
     let its : Change = Article filing in
     let may : MayFile s.host s.stands.changes filing =
     subst (λ (x : SpoolView). MayFile x.host x.changes filing) (sym c.self.view_is) c.requires.may in
-    let room : is_full_for (length s.volume.cache) s.inodes s.stands.changes its ≡ false =
-    subst (λ (x : SpoolView). is_full_for (length x.blocks) x.inodes x.changes its ≡ false)
-    (sym c.self.view_is) c.requires.room in
     let kept = c.in_ok-free.ensures.grown.kept s.host s.stands.changes c.self.invariant.0 may in
-    let some : 1 ≤ s.free_inodes = enough_left s.host s.inodes s.volume s.index s.places s.free_inodes s.stands.changes its
-    c.self.invariant.0 c.self.invariant.1 room in
-    let both = kept_stands s.host s.inodes n.volume n.index n.places (s.free_inodes - 1)
-    (s.stands.changes ++ its ∷ []) c.self-2-1.given.0 kept
-    (free_after s.free_inodes s.inodes s.stands.changes its c.self.invariant.1 some) in
-    (both.0, both.1, c.in_ok-free.ensures.known)
+    let stands = kept_stands s.host s.inodes n.volume n.index n.places (s.stands.changes ++ its ∷ []) c.self-2-1.given.0 kept in
+    (stands, c.in_ok-free.ensures.known)
 
 pub returns-clause-ok : goal.returns-clause-ok
 returns-clause-ok c =

@@ -12,14 +12,16 @@ use Rattle.model.specs.declared.change.Filing.{Filing}
 use Rattle.model.proofs.Asking.{changes_ask_few, here_short}
 use Rattle.model.proofs.HoldsOne.{carried_size}
 use Rattle.fs.specs.Calls.{IsThere}
-use Rattle.filing.specs.declared.Piece.{Piece}
-use Rattle.filing.specs.Calls.{IsKnown, MayAllGrow}
-use Rattle.index_groups.specs.Filing.{AreLineSizes}
-use Rattle.index.specs.View.{Indexes}
-use Rattle.index.proofs.Callers.{few_groups, overviews_end}
+use Rattle.spool_growing.specs.declared.file_calls.Piece.{Piece}
+use Rattle.spool_growing.specs.Calls.{IsKnown, MayAllGrow}
+use Rattle.spool_groups.specs.Filing.{AreLineSizes}
+use Rattle.spool_index.specs.View.{Indexes}
+use Rattle.spool_index.proofs.Callers.{few_groups, overviews_end}
 use Rattle.spool_growing.specs.Articles.{ArePieces, CanFile}
 use Rattle.spool_growing.specs.Growing.{HasFree}
-use Rattle.spool_growing.proofs.Adding.{filed_here, pieces_count, pieces_may_grow, pieces_of}
+use Rattle.spool_growing.specs.Putting.{AreNotPacked}
+use Rattle.spool_index.specs.Viewed.{place_of}
+use Rattle.spool_growing.proofs.Adding.{filed_here, none_for_pack, pieces_count, pieces_may_grow, pieces_of}
 use Rattle.spool_growing.proofs.Filed.{article_grown, lacks_article}
 use Rattle.spool_growing.proofs.Grown.{applied_dirties}
 use Rattle.spool_growing.proofs.Held.{changes_are_few, enough}
@@ -107,6 +109,17 @@ file_article-requires-clause-grow c =
     subst (λ (ps : List Piece). MayAllGrow c.args.inodes ps c.args.volume.now.seen) (sym c.deref-2.ensures.value)
     (subst (λ (bs : List Octets). MayAllGrow c.args.inodes c.in_ok-lines.lines.pieces.items bs) (sym ready.kept.seen) may)
 
+pub file_article-requires-clause-apart : goal.file_article-requires-clause-apart
+file_article-requires-clause-apart c =
+    let ready = c.requires.ready in
+    let serial = ap (λ (n : ℕ). n + 1) (c.len-serial.ensures ready.changes ready.kept.indexed) in
+    let are = pieces_of _ _ _ _ _ _ c.as_slice-groups.ensures
+    (c.in_ok-lines.ensures.pieces ready.changes ready.kept.indexed serial c.args.inodes c.args.volume.now.cache ready.kept.placed) in
+    let apart = none_for_pack (table c.args.inodes c.args.volume.now.cache) ready.changes c.args.article.now c.args.envelope.now.groups
+    c.in_ok-lines.lines.pieces.items are in
+    subst (λ (ps : List Piece). AreNotPacked (table c.args.inodes c.args.volume.now.seen) ps) (sym c.deref-2.ensures.value)
+    (subst (λ (bs : List Octets). AreNotPacked (table c.args.inodes bs) c.in_ok-lines.lines.pieces.items) (sym ready.kept.seen) apart)
+
 pub file_article-requires-clause-few : goal.file_article-requires-clause-few
 file_article-requires-clause-few c =
     let ready = c.requires.ready in
@@ -166,10 +179,11 @@ returns-clause-grown c =
     (subst (λ (ps : List Piece). ArePieces (table c.args.inodes v.cache) ready.changes text groups ps) (sym c.deref-2.ensures.value) are)
     c.in-Ok.ensures.touches in
     article_grown c.args.inodes v m w c.args.index.now c.push_article.new.self c.args.places.now c.push_change.new.self
-    filing c.in-Ok.at (c.len-serial.result + 1) c.deref.result.now c.deref-2.result.now
+    filing (place_of c.in-Ok.at) (c.len-serial.result + 1) c.deref.result.now c.deref-2.result.now
     ready.kept.seen c.in-Ok.ensures.filed
-    (applied_dirties v m w ready.kept.seen c.in-Ok.ensures.kept c.in-Ok.ensures.filed.calls.count touches c.apply.ensures.cache
-    c.apply.ensures.dirty c.apply.ensures.distinct)
+    (applied_dirties v m w ready.kept.seen c.in-Ok.ensures.kept
+    (c.in-Ok.ensures.filed.calls.count ∙ c.in-Ok.ensures.filed.puts.made.count) touches c.apply.ensures.cache c.apply.ensures.dirty
+    c.apply.ensures.distinct)
     c.apply.ensures.cache c.apply.ensures.seen c.in-Ok-push_change.ensures.ok
     (λ host S may kept.
     let serial = ap (λ (n : ℕ). n + 1) (c.len-serial.ensures S kept.indexed) in

@@ -8,10 +8,12 @@ use Rattle.model.specs.declared.change.Change.TheVariants.{Expire}
 use Rattle.model.specs.declared.change.Expiry.{Expiry}
 use Rattle.model.proofs.Asking.{changes_ask_few, here_short}
 use Rattle.fs.specs.Calls.{IsThere}
-use Rattle.filing.specs.Calls.{IsKnown}
+use Rattle.spool_growing.specs.Calls.{IsKnown}
 use Rattle.spool_growing.specs.Growing.{HasFree}
-use Rattle.spool_growing.proofs.Grown.{applied_dirties, expiry_grown, lacks_expiry}
+use Rattle.spool_index.specs.Viewed.{place_of}
+use Rattle.spool_growing.proofs.Grown.{applied_dirties, lacks_expiry}
 use Rattle.spool_growing.proofs.Held.{changes_are_few, enough}
+use Rattle.spool_growing.proofs.Stored.{expiry_grown}
 use Rattle.spool_growing.proofs.growing.grow_by_expiry.Goals as goal
 
 pub overflow_add-serial : goal.overflow_add-serial
@@ -28,8 +30,8 @@ expiry_record-requires c =
     let ready = c.requires.ready in
     omega (arith, here_short ready.host ready.changes c.args.name.now ready.kept.is.held.lawful ready.may.here)
 
-pub make_expiry-requires-clause-short : goal.make_expiry-requires-clause-short
-make_expiry-requires-clause-short c =
+pub put_expiry-requires-clause-short : goal.put_expiry-requires-clause-short
+put_expiry-requires-clause-short c =
     let ready = c.requires.ready in
     let serial : c.len-serial.result ≡ length ready.changes = c.len-serial.ensures ready.changes ready.kept.indexed in
     let expiry : Expiry = record { group = c.args.name.now; number = c.args.number } in
@@ -39,16 +41,16 @@ make_expiry-requires-clause-short c =
     (changes_are_few ready.host c.args.inodes c.args.volume.now.cache ready.changes ready.kept.is) ready.kept.is.held.lawful ready.may in
     omega (arith, ap (λ (o : Octets). length o) says, few.made)
 
-pub make_expiry-requires-clause-lacks : goal.make_expiry-requires-clause-lacks
-make_expiry-requires-clause-lacks c =
+pub put_expiry-requires-clause-lacks : goal.put_expiry-requires-clause-lacks
+put_expiry-requires-clause-lacks c =
     let ready = c.requires.ready in
     let serial : c.len-serial.result ≡ length ready.changes = c.len-serial.ensures ready.changes ready.kept.indexed in
     subst (λ (n : ℕ). ¬ (IsThere (table c.args.inodes c.args.volume.now.seen) (expiry_name (n + 1)))) (sym serial)
     (subst (λ (bs : List Octets). ¬ (IsThere (table c.args.inodes bs) (expiry_name (length ready.changes + 1)))) (sym ready.kept.seen)
     (lacks_expiry ready.host c.args.inodes c.args.volume.now.cache ready.changes ready.kept.is))
 
-pub make_expiry-requires-clause-free : goal.make_expiry-requires-clause-free
-make_expiry-requires-clause-free c =
+pub put_expiry-requires-clause-free : goal.put_expiry-requires-clause-free
+put_expiry-requires-clause-free c =
     let ready = c.requires.ready in
     subst (λ (bs : List Octets). HasFree c.args.inodes 1 bs) (sym ready.kept.seen)
     (enough ready.host c.args.inodes c.args.volume.now.cache ready.changes ready.kept.is
@@ -58,29 +60,29 @@ pub returns-clause-grown : goal.returns-clause-grown
 returns-clause-grown c =
     let ready = c.requires.ready in
     let v = c.args.volume.now in
-    let m = c.make_expiry.new.blocks in
+    let m = c.put_expiry.new.blocks in
     let w = c.apply.new.self in
     let expiry : Expiry = record { group = c.args.name.now; number = c.args.number } in
     expiry_grown c.args.inodes v m w c.args.index.now c.push_expiry.new.self c.args.places.now c.push_change.new.self
-    expiry c.in-Ok.at (c.len-serial.result + 1) c.deref.result.now
-    ready.kept.seen c.in-Ok.ensures.made
-    (applied_dirties v m w ready.kept.seen c.in-Ok.ensures.kept c.in-Ok.ensures.made.calls.count c.in-Ok.ensures.touches
+    expiry (place_of c.in-Ok.at) (c.len-serial.result + 1) c.deref.result.now
+    ready.kept.seen c.in-Ok.ensures.puts
+    (applied_dirties v m w ready.kept.seen c.in-Ok.ensures.kept c.in-Ok.ensures.puts.made.count c.in-Ok.ensures.touches
     c.apply.ensures.cache c.apply.ensures.dirty c.apply.ensures.distinct)
     c.apply.ensures.cache c.apply.ensures.seen c.in-Ok-push_change.ensures.ok
     (λ S may indexed. c.in-Ok-push_expiry.ensures.ok ready.host S may indexed)
     (λ S indexed. ap (λ (n : ℕ). n + 1) (c.len-serial.ensures S indexed)) (c.deref.ensures.value ∙ c.in_ok-record.ensures)
 
-pub make_expiry-requires-clause-known : goal.make_expiry-requires-clause-known
-make_expiry-requires-clause-known c =
+pub put_expiry-requires-clause-known : goal.put_expiry-requires-clause-known
+put_expiry-requires-clause-known c =
     subst (λ (bs : List Octets). IsKnown c.args.inodes c.args.free bs) (sym c.requires.ready.kept.seen) c.requires.known
 
 pub seek_block-requires-clause-room : goal.seek_block-requires-clause-room
 seek_block-requires-clause-room c =
-    subst (λ (bs : List Octets). HasRoom c.args.inodes bs) (sym c.apply.ensures.seen) c.in-Ok.ensures.made.calls.room
+    subst (λ (bs : List Octets). HasRoom c.args.inodes bs) (sym c.apply.ensures.seen) c.in-Ok.ensures.puts.made.room
 
 pub seek_block-requires-clause-known : goal.seek_block-requires-clause-known
 seek_block-requires-clause-known c =
-    subst (λ (bs : List Octets). IsKnown c.args.inodes c.make_expiry.new.free bs) (sym c.apply.ensures.seen) c.in-Ok.ensures.known
+    subst (λ (bs : List Octets). IsKnown c.args.inodes c.put_expiry.new.free bs) (sym c.apply.ensures.seen) c.in-Ok.ensures.known
 
 pub returns-clause-known : goal.returns-clause-known
 returns-clause-known c =

@@ -6,8 +6,8 @@ use Rattle.model.specs.Spool.{news_group}
 use Rattle.model.specs.declared.change.Change.TheVariants.{Group}
 use Rattle.model.specs.declared.change.NewGroup.{NewGroup}
 use Rattle.model.proofs.Asking.{changes_ask_few}
-use Rattle.index.proofs.Callers.{no_head}
-use Rattle.filing.specs.Calls.{IsKnown}
+use Rattle.spool_index.proofs.Callers.{no_head}
+use Rattle.spool_growing.specs.Calls.{IsKnown}
 use Rattle.spool_growing.specs.Growing.{HasFree, LacksGroup}
 use Rattle.spool_growing.proofs.Grown.{applied_dirties, group_grown, lacks_group}
 use Rattle.spool_growing.proofs.Held.{changes_are_few, enough}

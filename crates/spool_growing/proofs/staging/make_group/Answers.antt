@@ -3,8 +3,9 @@ use Rattle.model.specs.Stream.{Octets}
 use Rattle.model.specs.SpoolFiles.{group_name}
 use Rattle.fs.specs.Touches.{touched_by_growth}
 use Rattle.fs_layout.proofs.Touching.{touches_more, touches_then}
-use Rattle.filing.specs.Calls.{MakesAt}
-use Rattle.spool_growing.proofs.Grown.{makes_group, one_empty_more, one_file_more}
+use Rattle.spool_growing.specs.Calls.{MakesAt}
+use Rattle.spool_growing.proofs.Grown.{makes_group}
+use Rattle.spool_growing.proofs.Taken.{one_empty_more, one_file_more}
 use Rattle.spool_growing.proofs.Touched.{few_reached}
 use Rattle.spool_growing.proofs.staging.make_group.Goals as goal
 

@@ -9,7 +9,7 @@ loop-done-init g c = none_replayed c.args.host.now c.args.inodes (g.B.Blocks.blo
 pub returns-in-Err-clause-damaged : goal.returns-in-Err-clause-damaged
 returns-in-Err-clause-damaged g c = λ e S held.
     let many = as_many c.args.host.now c.args.inodes (g.B.Blocks.blocks c.args.blocks.now) S c.args.files.now.slots.items
-    c.args.files.now.named c.args.count c.requires.room.few held c.requires.sorted c.requires.first in
+    c.args.files.now.named c.args.files.now.packed c.args.count c.requires.room.few held c.requires.sorted c.requires.first in
     c.in-Err.ensures.damaged e S held (omega (arith, many, c.loop-done-test.true))
 
 pub returns-clause-ok : goal.returns-clause-ok

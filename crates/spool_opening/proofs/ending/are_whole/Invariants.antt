@@ -1,7 +1,7 @@
 use Rattle.std.proofs.Common.{◌<◌, ℕ}
 use Rattle.model.specs.Files.{table}
 use Rattle.model.specs.Spool.{Spool}
-use Rattle.index.specs.View.{Indexes}
+use Rattle.spool_index.specs.View.{Indexes}
 use Rattle.spool_opening.specs.Ended.{IsWholeAt}
 use Rattle.spool_opening.proofs.ending.are_whole.Given as goal
 

@@ -1,5 +1,5 @@
 use Rattle.std.proofs.Common.{arith}
-use Rattle.index_groups.specs.Shown.{shown}
+use Rattle.spool_groups.specs.Shown.{shown}
 use Rattle.spool_opening.proofs.Sizes.{few_filed}
 use Rattle.spool_opening.proofs.Whole.{numbers_found}
 use Rattle.spool_opening.proofs.ending.numbers_size.Goals as goal

@@ -1,4 +1,4 @@
-use Rattle.index_groups.specs.Shown.{shown}
+use Rattle.spool_groups.specs.Shown.{shown}
 use Rattle.spool_opening.proofs.Whole.{overview_found}
 use Rattle.spool_opening.proofs.ending.overview_size.Goals as goal
 

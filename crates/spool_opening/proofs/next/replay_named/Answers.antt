@@ -1,12 +1,12 @@
 use Rattle.std.proofs.Common.{sym, ◌∙◌}
-use Rattle.index_groups.proofs.Steps.{ok_map}
+use Rattle.spool_groups.proofs.Steps.{ok_map}
 use Rattle.spool_opening.specs.Stored.{Numbers, Overview}
 use Rattle.spool_opening.proofs.Nexts.{group_named_there, named_at}
 use Rattle.spool_opening.proofs.next.replay_named.Goals as goal
 
 pub returns-in_default-clause-damaged : goal.returns-in_default-clause-damaged
 returns-in_default-clause-damaged c = λ e host inodes blocks R S sorted replayed held next.
-    group_named_there host inodes blocks R S c.args.files.now.slots.items c.args.files.now.named Numbers (record {
+    group_named_there host inodes blocks R S c.args.files.now.slots.items c.args.files.now.named c.args.files.now.packed Numbers (record {
       name = c.args.name.now;
       status = c.args.status;
       description = c.args.description.now;
@@ -16,7 +16,7 @@ returns-in_default-clause-damaged c = λ e host inodes blocks R S sorted replaye
 
 pub returns-in_default-get-clause-damaged : goal.returns-in_default-get-clause-damaged
 returns-in_default-get-clause-damaged c = λ e host inodes blocks R S sorted replayed held next.
-    group_named_there host inodes blocks R S c.args.files.now.slots.items c.args.files.now.named Overview (record {
+    group_named_there host inodes blocks R S c.args.files.now.slots.items c.args.files.now.named c.args.files.now.packed Overview (record {
       name = c.args.name.now;
       status = c.args.status;
       description = c.args.description.now;

@@ -1,16 +1,16 @@
 use Rattle.std.proofs.lemmas.Result.{IfErr-weaker}
-use Rattle.index_groups.proofs.Steps.{ok_map}
+use Rattle.spool_groups.proofs.Steps.{ok_map}
 use Rattle.spool_opening.proofs.Nexts.{all_go_on}
 use Rattle.spool_opening.proofs.next.replay_said.Goals as goal
 
-pub returns-in-Group-clause-ok : goal.returns-in-Group-clause-ok
-returns-in-Group-clause-ok g c =
-    rw c.in-Group.is (ok_map c.replay_named.result
+pub returns-in-Alone-clause-ok : goal.returns-in-Alone-clause-ok
+returns-in-Alone-clause-ok g c =
+    rw (c.in-Group.is, c.in-Alone.is) (ok_map c.replay_named.result
     (λ goes R replayed its. goes c.args.host.now c.args.inodes (g.B.Blocks.blocks c.args.blocks.now) R c.requires.sorted replayed its)
     c.replay_named.ensures.ok)
 
-pub returns-in-Group-clause-damaged : goal.returns-in-Group-clause-damaged
-returns-in-Group-clause-damaged g c =
+pub returns-in-Alone-clause-damaged : goal.returns-in-Alone-clause-damaged
+returns-in-Alone-clause-damaged g c =
     rw c.in-Group.is
     (IfErr-weaker c.replay_named.result _ _ (λ e none is R S replayed held next. none is c.args.host.now c.args.inodes
     (g.B.Blocks.blocks c.args.blocks.now) R S c.requires.sorted replayed held next) c.replay_named.ensures.damaged)

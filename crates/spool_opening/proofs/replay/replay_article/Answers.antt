@@ -2,7 +2,7 @@ use Rattle.std.proofs.Common.{◌≡◌, ◌+◌, ℕ, List, ap, arith, length, 
 use Rattle.model.specs.Article.{id}
 use Rattle.model.specs.Files.{table}
 use Rattle.model.specs.declared.change.Filing.{Filing}
-use Rattle.index.proofs.Callers.{few_groups}
+use Rattle.spool_index.proofs.Callers.{few_groups}
 use Rattle.spool_opening.proofs.Filed.{all_of_text, article_replayed, bounded, ends_below, filed_here, may_of_text}
 use Rattle.spool_opening.proofs.Filed.{no_cause_there, same_groups, sizes_of_text}
 use Rattle.spool_opening.proofs.replay.replay_article.Goals as goal
@@ -79,6 +79,6 @@ returns-clause-ok g c = λ R replayed its.
     (sizes_of_text R c.in-Ok.article c.args.text.now c.as_slice-filed.result.now e.groups c.in-Some.sizes.items
     c.as_slice-lengths.result.now text same c.as_slice-lengths.ensures.value both.1) is in
     article_replayed c.args.host.now c.args.inodes blocks R c.args.replay.now.index c.push_article.new.self c.args.replay.now.places
-    c.push_change.new.self c.args.at (record { text = c.args.text.now; envelope = e }) c.requires.rule replayed its may_text
+    c.push_change.new.self c.args.place (record { text = c.args.text.now; envelope = e }) c.requires.rule replayed its may_text
     (all_of_text (table c.args.inodes blocks) R c.in-Ok.article c.args.text.now c.as_slice-filed.result.now e.groups text same both.0)
     indexed c.in_ok-push_change.ensures.ok

@@ -1,6 +1,6 @@
 use Rattle.model.specs.Lawful.{MayMake}
 use Rattle.model.specs.declared.change.NewGroup.{NewGroup}
-use Rattle.index.proofs.Callers.{no_head}
+use Rattle.spool_index.proofs.Callers.{no_head}
 use Rattle.spool_opening.proofs.Replaying.{group_replayed}
 use Rattle.spool_opening.proofs.replay.replay_group.Goals as goal
 

@@ -7,9 +7,9 @@ use Rattle.model.specs.Files.{FileEntry, entry, size, content_of}
 use Rattle.model.specs.Stream.{dot_line}
 use Rattle.model.proofs.Owning.{content_size}
 use Rattle.fs_inodes.proofs.Contents.{piece_size, take_then, taken_all}
-use Rattle.replies.specs.Stuffing.{after, stuffed_from}
-use Rattle.replies.specs.declared.stuffing.Stuffing.{Stuffing}
-use Rattle.replies.proofs.Pieced.{pieces_follow, pieces_make}
+use Rattle.session_replies.specs.Stuffing.{after, stuffed_from}
+use Rattle.session_replies.specs.declared.stuffing.Stuffing.{Stuffing}
+use Rattle.session_replies.proofs.Pieced.{pieces_follow, pieces_make}
 use Rattle.spool_texts.proofs.sending.push_stuffed.Invariants.{fresh}
 use Rattle.spool_texts.proofs.sending.push_stuffed.Goals as goal
 

@@ -1,7 +1,7 @@
 use Rattle.std.proofs.Common.{◌≡◌, ◌⊎◌, ◌≤◌, ◌-◌, ◌++◌, ℕ, take, drop, true, false, List}
 use Rattle.model.specs.Files.{content_of, entry}
-use Rattle.replies.specs.Stuffing.{after, stuffed_from}
-use Rattle.replies.specs.declared.stuffing.Stuffing.{Stuffing}
+use Rattle.session_replies.specs.Stuffing.{after, stuffed_from}
+use Rattle.session_replies.specs.declared.stuffing.Stuffing.{Stuffing}
 use Rattle.spool_texts.proofs.sending.push_stuffed.Given as goal
 
 abbrev pub fresh : Stuffing

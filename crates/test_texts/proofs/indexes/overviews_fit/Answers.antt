@@ -3,8 +3,8 @@ use Rattle.std.specs.Prelude.{Some, option_map, slice_get}
 use Rattle.std.proofs.lemmas.Bool.{cases_lt}
 use Rattle.std.proofs.lemmas.List.{length-map}
 use Rattle.std.proofs.lemmas.Option.{same_Some, slice_get-get_or, slice_get-map, slice_get_within}
-use Rattle.index_groups.specs.Filing.{end_of}
-use Rattle.index_groups.specs.Shown.{shown}
+use Rattle.spool_groups.specs.Filing.{end_of}
+use Rattle.spool_groups.specs.Shown.{shown}
 use Rattle.test_texts.proofs.indexes.overviews_fit.Goals as goal
 
 pub loop-group-preserved : goal.loop-group-preserved

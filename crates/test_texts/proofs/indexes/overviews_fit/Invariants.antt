@@ -1,8 +1,8 @@
 use Rattle.std.proofs.Common.{◌≡◌, ◌<◌, ◌^◌, ℕ, map}
 use Rattle.std.specs.Prelude.{Some, slice_get}
 use Rattle.model.specs.Indexed.{GroupIndex}
-use Rattle.index_groups.specs.Filing.{end_of}
-use Rattle.index_groups.specs.Shown.{shown}
+use Rattle.spool_groups.specs.Filing.{end_of}
+use Rattle.spool_groups.specs.Shown.{shown}
 use Rattle.test_texts.proofs.indexes.overviews_fit.Given as goal
 
 abbrev pub invariant-loop-group : goal.invariant-loop-group

@@ -1,7 +1,7 @@
 use Rattle.std.proofs.Common.{◌≡◌, ◌^◌, ap, arith, get_or}
-use Rattle.index_groups.proofs.Steps.{end_at}
-use Rattle.index_groups.specs.Filing.{end_of}
-use Rattle.index_groups.specs.Shown.{shown}
+use Rattle.spool_groups.proofs.Steps.{end_at}
+use Rattle.spool_groups.specs.Filing.{end_of}
+use Rattle.spool_groups.specs.Shown.{shown}
 use Rattle.volume_states.proofs.contents.statuses.Goals as goal
 
 pub status_of-requires : goal.status_of-requires

@@ -1,5 +1,5 @@
 use Rattle.std.proofs.Common.{◌≡◌, map, take}
-use Rattle.index_groups.specs.Shown.{shown}
+use Rattle.spool_groups.specs.Shown.{shown}
 use Rattle.volume_states.specs.State.{of_index}
 use Rattle.volume_states.proofs.contents.statuses.Given as goal
 

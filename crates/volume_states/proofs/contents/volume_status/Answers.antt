@@ -1,6 +1,6 @@
 use Rattle.std.proofs.Common.{◌^◌, sym, ◌∙◌, ap, map, refl, subst}
-use Rattle.index_groups.specs.Filing.{EndBelow}
-use Rattle.index.proofs.Callers.{overviews_end}
+use Rattle.spool_groups.specs.Filing.{EndBelow}
+use Rattle.spool_index.proofs.Callers.{overviews_end}
 use Rattle.model.specs.Spool.{groups}
 use Rattle.volume_states.proofs.Groups.{of_groups}
 use Rattle.volume_states.specs.State.{of_index}
@@ -16,7 +16,7 @@ returns-clause-ok g c =
     let its = c.in-Ok.ensures.ok in
     record {
       changes = its.changes;
-      held = record { held = its.held; of_format = c.in-Ok.ensures.format its.changes its.held };
+      held = c.in-Ok.ensures.format its.changes its.held;
       host_is = c.new-host.ensures ∙ c.in_ok-from_slice.ensures.items;
       format_is = refl;
       blocks_are = c.block_share.ensures;

@@ -1,4 +1,4 @@
-use Rattle.index.specs.View.{Indexes}
+use Rattle.spool_index.specs.View.{Indexes}
 use Rattle.model.specs.Lawful.{IsLawful}
 use Rattle.model.specs.Spool.{Spool}
 use Rattle.model.specs.Stream.{Octets}

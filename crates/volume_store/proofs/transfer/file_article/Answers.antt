@@ -1,5 +1,5 @@
 use Rattle.std.proofs.Common.{refl, rules}
-use Rattle.lookups.specs.Held.{article_of}
+use Rattle.session_lookups.specs.Held.{article_of}
 use Rattle.volume_store.specs.Filing.{IsOffered}
 use Rattle.volume_store.proofs.Transfers.{is_here_by}
 use Rattle.volume_store.proofs.transfer.file_article.Goals as goal

@@ -1,10 +1,10 @@
 use Rattle.std.proofs.Common.{None, ap}
-use Rattle.traced_kernel.specs.Traced.{TracedView}
+use Rattle.kernel_trace.specs.Traced.{TracedView}
 use Rattle.world.specs.Fields.{news_in}
 use Rattle.world.specs.World.{WorldView, kernel_of}
-use Rattle.traced_kernel.specs.Errors.{of_arrive}
-use Rattle.traced_kernel.specs.Events.{arrive_refusal}
-use Rattle.traced_kernel.specs.declared.errors.ArriveError.TheVariants.{Memory}
+use Rattle.kernel_trace.specs.Errors.{of_arrive}
+use Rattle.kernel_trace.specs.Events.{arrive_refusal}
+use Rattle.kernel_trace.specs.declared.errors.ArriveError.TheVariants.{Memory}
 use Rattle.world.proofs.Sound.{Grows-seats, sound_tested, tested_or}
 use Rattle.world.proofs.World.arrive.Goals as goal
 

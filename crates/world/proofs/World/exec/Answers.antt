@@ -2,7 +2,7 @@ use Rattle.std.proofs.Common.{sym}
 use Rattle.world.specs.Fields.{news_in}
 use Rattle.world.specs.World.{WorldView, kernel_of}
 use Rattle.kernel.specs.Kernel.{mode_at}
-use Rattle.traced_kernel.specs.Traced.{next_of}
+use Rattle.kernel_trace.specs.Traced.{next_of}
 use Rattle.std.proofs.Common.{subst}
 use Rattle.std.specs.Prelude.{Result}
 use Rattle.world.specs.Events.{DidExec}

@@ -1,10 +1,10 @@
 use Rattle.std.proofs.Common.{None, ap}
-use Rattle.traced_kernel.specs.Traced.{TracedView}
+use Rattle.kernel_trace.specs.Traced.{TracedView}
 use Rattle.world.specs.Fields.{news_in}
 use Rattle.world.specs.World.{WorldView, kernel_of}
 use Rattle.kernel.specs.Errors.{of_join}
 use Rattle.kernel.specs.Kernel.{join_refusal}
-use Rattle.shared_kernel.specs.declared.errors.JoinError.TheVariants.{Memory}
+use Rattle.kernel_shared.specs.declared.errors.JoinError.TheVariants.{Memory}
 use Rattle.world.proofs.Sound.{Grows-seats, sound_tested, tested_or}
 use Rattle.world.proofs.World.join.Goals as goal
 

@@ -1,5 +1,5 @@
 use Rattle.std.proofs.Common.{ap}
-use Rattle.traced_kernel.specs.Traced.{TracedView}
+use Rattle.kernel_trace.specs.Traced.{TracedView}
 use Rattle.world.specs.Fields.{news_in}
 use Rattle.world.specs.World.{WorldView, kernel_of}
 use Rattle.world.proofs.Sound.{Grows-seats, sound_grows}

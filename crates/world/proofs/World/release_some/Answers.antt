@@ -1,7 +1,7 @@
 use Rattle.std.proofs.Common.{Result, Bool, Err, List, ap, length, subst, sym, ◌∙◌}
 use Rattle.std.specs.Prelude.{◌==◌, not}
 use Rattle.std.proofs.lemmas.Result.{err_from_is_err_and}
-use Rattle.outbox.specs.Queue.{ReadyEntry}
+use Rattle.kernel_outbox.specs.Queue.{ReadyEntry}
 use Rattle.world.specs.Draining.{ReleasesSome}
 use Rattle.world.specs.declared.events.StepError.{StepError}
 use Rattle.world.proofs.Releases.{release_refused, released_some}

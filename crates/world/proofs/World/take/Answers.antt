@@ -3,8 +3,8 @@ use Rattle.std.specs.Prelude.{map, slice_index_or, Ok}
 use Rattle.journal.specs.Journal.{IsReady, JournalView}
 use Rattle.kernel.specs.Kernel.{Takes, has_batch, taken}
 use Rattle.model.specs.Volume.{blocks_from}
-use Rattle.traced_kernel.specs.Events.{with_kernel}
-use Rattle.traced_kernel.specs.Traced.{TracedView}
+use Rattle.kernel_trace.specs.Events.{with_kernel}
+use Rattle.kernel_trace.specs.Traced.{TracedView}
 use Rattle.world.specs.Events.{DidTake, begun}
 use Rattle.world.specs.Fields.{IsSound, news_in}
 use Rattle.world.specs.World.{WorldView, kernel_of}
@@ -37,13 +37,9 @@ invariant_of-self-2 g c =
     let ready : IsReady c.self.inside.journal = c.is_idle.ensures.idle.0 (search rules) in
     let has : has_batch c.self.inside.served.kernel ≡ true = c.in-Some.ensures.when.0 refl in
     let journal : c.begin.new.self ≡ begun c.self.inside.journal c.self.inside.served.kernel =
-    is_begun c.self.inside.journal c.begin.new.self c.self.inside.served.kernel c.last.result c.numbers.result.now
-    (blocks_from 0 (length c.numbers.result.now) c.images.result.now)
-    c.begin.ensures.disk c.begin.ensures.label c.begin.ensures.format c.begin.ensures.size c.begin.ensures.segments c.begin.ensures.blocks
-    c.begin.ensures.next (c.begin.ensures.running ∙ sym ready.0)
-    c.begin.ensures.held c.begin.ensures.place c.begin.ensures.number c.begin.ensures.is_last c.begin.ensures.last c.begin.ensures.numbers
-    c.begin.ensures.images
-    (c.last.ensures ∙ takes.last_is) (c.numbers.ensures ∙ takes.numbers_are)
+    c.begin.ensures.begins ∙ is_begun c.self.inside.journal c.self.inside.served.kernel c.last.result c.numbers.result.now
+    (blocks_from 0 (length c.numbers.result.now) c.images.result.now) (c.last.ensures ∙ takes.last_is)
+    (c.numbers.ensures ∙ takes.numbers_are)
     ((λ i. blocks_from 0 (length (c.numbers.ensures i)) (c.images.ensures i))
     ∙ (takes.images_are ∙ ap (map (λ n. slice_index_or c.self.inside.served.kernel.blocks n [])) (sym c.numbers.ensures))) in
     let served : c.take_batch.new.self ≡ with_kernel c.self.inside.served (taken c.self.inside.served.kernel) = c.in-Some.ensures.same refl
@@ -73,13 +69,9 @@ returns g c =
     let ready : IsReady c.self.inside.journal = c.is_idle.ensures.idle.0 (search rules) in
     let has : has_batch c.self.inside.served.kernel ≡ true = c.in-Some.ensures.when.0 refl in
     let journal : c.begin.new.self ≡ begun c.self.inside.journal c.self.inside.served.kernel =
-    is_begun c.self.inside.journal c.begin.new.self c.self.inside.served.kernel c.last.result c.numbers.result.now
-    (blocks_from 0 (length c.numbers.result.now) c.images.result.now)
-    c.begin.ensures.disk c.begin.ensures.label c.begin.ensures.format c.begin.ensures.size c.begin.ensures.segments c.begin.ensures.blocks
-    c.begin.ensures.next (c.begin.ensures.running ∙ sym ready.0)
-    c.begin.ensures.held c.begin.ensures.place c.begin.ensures.number c.begin.ensures.is_last c.begin.ensures.last c.begin.ensures.numbers
-    c.begin.ensures.images
-    (c.last.ensures ∙ takes.last_is) (c.numbers.ensures ∙ takes.numbers_are)
+    c.begin.ensures.begins ∙ is_begun c.self.inside.journal c.self.inside.served.kernel c.last.result c.numbers.result.now
+    (blocks_from 0 (length c.numbers.result.now) c.images.result.now) (c.last.ensures ∙ takes.last_is)
+    (c.numbers.ensures ∙ takes.numbers_are)
     ((λ i. blocks_from 0 (length (c.numbers.ensures i)) (c.images.ensures i))
     ∙ (takes.images_are ∙ ap (map (λ n. slice_index_or c.self.inside.served.kernel.blocks n [])) (sym c.numbers.ensures))) in
     let served : c.take_batch.new.self ≡ with_kernel c.self.inside.served (taken c.self.inside.served.kernel) = c.in-Some.ensures.same refl

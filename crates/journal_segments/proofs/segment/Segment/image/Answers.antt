@@ -1,7 +1,7 @@
 use Rattle.std.proofs.Common.{◌<◌, ℕ, ◌*◌, length, take, sym, ◌∙◌, ap, subst, arith, length-take, zero-add}
 use Rattle.disk.proofs.Images.{length-part}
 use Rattle.model.specs.Volume.{block}
-use Rattle.segment_laws.proofs.Blocks.{get_or-blocks_from}
+use Rattle.journal_laws.proofs.Blocks.{get_or-blocks_from}
 use Rattle.journal_segments.specs.Staged.{Staged}
 use Rattle.journal_segments.proofs.segment.Segment.image.Goals as goal
 

@@ -1,7 +1,7 @@
 use Rattle.std.proofs.Common.{◌≡◌, ℕ, List, length, take, ◌∙◌, ap, refl}
 use Rattle.std.proofs.lemmas.List.{take_at}
 use Rattle.model.specs.Volume.{blocks_from}
-use Rattle.segment_laws.proofs.Blocks.{blocks_from_front}
+use Rattle.journal_laws.proofs.Blocks.{blocks_from_front}
 use Rattle.journal_segments.proofs.segment.Segment.take_batch.Goals as goal
 
 pub returns : goal.returns

@@ -1,6 +1,6 @@
 use Rattle.std.proofs.Common.{List, ℕ, ap, ◌∙◌}
 use Rattle.model.specs.Indexed.{value_of}
-use Rattle.index_groups.proofs.Places.{found_plain}
+use Rattle.spool_groups.proofs.Places.{found_plain}
 use Rattle.spool_reading.proofs.inodes.Inodes.get.Goals as goal
 
 pub returns : goal.returns

@@ -1,7 +1,7 @@
 use Rattle.std.proofs.Common.{List, ℕ, ap, ◌∙◌, cond}
 use Rattle.std.specs.Prelude.{Some, bytes_eq}
 use Rattle.model.specs.Indexed.{value_of}
-use Rattle.index_groups.proofs.Places.{found_inserted, plain}
+use Rattle.spool_groups.proofs.Places.{found_inserted, plain}
 use Rattle.spool_reading.proofs.inodes.Inodes.insert.Goals as goal
 
 pub returns : goal.returns

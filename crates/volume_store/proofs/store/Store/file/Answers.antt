@@ -1,4 +1,7 @@
-use Rattle.std.proofs.Common.{◌≤◌, length, refl, sym, subst}
+use Rattle.std.proofs.Common.{◌≤◌, IfOk, length, refl, sym, subst, ◌∙◌}
+use Rattle.model.specs.Stream.{Octets}
+use Rattle.text_rnews.specs.LineEnds.{with_crlf}
+use Rattle.volume_store.specs.Filing.{Becomes}
 use Rattle.volume_store.specs.Saved.{GoesOn, StoreView}
 use Rattle.volume_store.proofs.GoingOn as going
 use Rattle.kernel.specs.Kernel.{most_dirty}
@@ -21,3 +24,10 @@ returns-clause-goes_on g c =
     record { journal = c.self.inside.journal; spool = c.file_text.new.spool; durable = c.self.inside.durable } in
     subst (λ (was : StoreView g.row.D.Denot). GoesOn g.D.Disk.device was after) c.self.view_is
     (going.files g.D.Disk.device before after _ _ c.file_text.result refl refl c.file_text.ensures.ok c.file_text.ensures.err)
+
+pub returns-clause-ok : goal.returns-clause-ok
+returns-clause-ok g c =
+    subst (λ (was : StoreView g.row.D.Denot).
+    IfOk c.file_text.result (Becomes was.spool c.file_text.new.spool (with_crlf c.args.text.now) c.args.moment)) c.self.view_is
+    (subst (λ (text : Octets). IfOk c.file_text.result (Becomes c.self.inside.spool c.file_text.new.spool text c.args.moment))
+    (c.deref.ensures.value ∙ c.in_ok-text.ensures) c.file_text.ensures.ok)

@@ -1,6 +1,0 @@
-use Rattle.std.proofs.Common.{◌≡◌}
-use Rattle.std.specs.Prelude.{None}
-use Rattle.answering.proofs.answering.SessionThread.serve_messages.Given as goal
-
-abbrev pub invariant-messages : goal.invariant-messages
-invariant-messages g l = l.reader.awaits ≡ None

@@ -1,9 +1,0 @@
--- What a reading keeps of its text.
-use Rattle.header_fields.specs.Header.{IsHeader}
-use Rattle.article.specs.Parts.{AreParts}
-use Rattle.article.specs.declared.reading.Reading.TheInside.{Inside}
-
--- where the header ends, and its parts or the first cause in its lines
-pub record IsRead (r : Inside) : Type 0 where
-  pub header : IsHeader r.text.now r.header
-  pub parts : AreParts r.text.now r.parts

@@ -1,2 +1,0 @@
-pub mod Pace
-pub mod Reserve

@@ -1,5 +1,0 @@
-use Rattle.delivering.specs.Delivery.{Wrote}
-use Rattle.delivering.proofs.writing.write_patiently.Given as goal
-
-abbrev pub invariant-waits : goal.invariant-waits
-invariant-waits g l = Wrote l.octets l.fn.written l.written (g.W.Write.contents l.fn.stream) (g.W.Write.contents l.stream)

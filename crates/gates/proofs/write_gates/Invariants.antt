@@ -1,5 +1,0 @@
-use Rattle.gates.proofs.Writing.{IsWriting}
-use Rattle.gates.proofs.write_gates.Given as goal
-
-abbrev pub invariant-loop-i : goal.invariant-loop-i
-invariant-loop-i g l = IsWriting g.D.Disk.device l.gates l.i l.initial.disk l.disk

@@ -1,5 +1,0 @@
-use Rattle.grammar.proofs.ArgumentLaws.{lines_are_in_grammar}
-use Rattle.grammar.proofs.arguments_are_in_grammar.Goals as goal
-
-pub returns : goal.returns
-returns c = lines_are_in_grammar

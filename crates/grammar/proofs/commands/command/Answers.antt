@@ -1,5 +1,0 @@
-use Rattle.std.proofs.Common.{rules}
-use Rattle.grammar.proofs.commands.command.Goals as goal
-
-pub returns-in-Head : goal.returns-in-Head
-returns-in-Head c = search rules

@@ -1,6 +1,0 @@
-use Rattle.std.proofs.Common.{sym, ◌∙◌}
-use Rattle.header_fields.proofs.ContentLaws.{blank-empty}
-use Rattle.header_fields.proofs.contents.is_blank_text.Goals as goal
-
-pub returns : goal.returns
-returns c = sym (blank-empty c.loop-rest.rest.now (sym c.loop-rest-test.ensures)) ∙ c.loop-rest.invariant

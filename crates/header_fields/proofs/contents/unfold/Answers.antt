@@ -1,6 +1,0 @@
-use Rattle.std.proofs.Common.{rules}
-use Rattle.header_fields.proofs.SplitLaws.{unfolded-replaced}
-use Rattle.header_fields.proofs.contents.unfold.Goals as goal
-
-pub returns : goal.returns
-returns c = search (rules, unfolded-replaced)

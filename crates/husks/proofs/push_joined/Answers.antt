@@ -1,7 +1,0 @@
-use Rattle.std.proofs.Common.{arith}
-use Rattle.std.proofs.lemmas.Grind.{common_steps}
-use Rattle.husks.proofs.Joined.{joined_cons}
-use Rattle.husks.proofs.push_joined.Goals as goal
-
-pub returns : goal.returns
-returns c = grind (arith, common_steps, joined_cons)

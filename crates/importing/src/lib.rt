@@ -1,6 +1,0 @@
-//! Files the texts of a batch in a volume that no server serves, as transfers (IHAVE) would be, and makes them durable.
-#![tactic(auto)]
-
-mod batch;
-
-pub use batch::{ImportCounts, ImportError, ImportStop, Place, Report, Watcher, import};

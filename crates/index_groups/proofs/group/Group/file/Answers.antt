@@ -1,6 +1,0 @@
-use Rattle.std.proofs.Common.{arith}
-use Rattle.std.proofs.lemmas.Grind.{common_steps}
-use Rattle.index_groups.proofs.group.Group.file.Goals as goal
-
-pub returns-clause-filed : goal.returns-clause-filed
-returns-clause-filed c = grind (arith, common_steps)

@@ -1,9 +1,0 @@
-use Rattle.std.proofs.Common.{[], ◌∷◌, refl, ◌∙◌, ap}
-use Rattle.model.specs.Volume.{gate_place}
-use Rattle.journal.proofs.Made.{asked_at}
-use Rattle.journal.proofs.stepping.write_gate.Goals as goal
-
-pub returns-clause-asked : goal.returns-clause-asked
-returns-clause-asked g c =
-    asked_at c.gate_block.result (gate_place c.args.segment.now.place) (c.args.octet ∷ []) (c.args.octet ∷ []) c.write.result _ _
-    (c.gate_block.ensures ∙ ap gate_place c.place.ensures) refl c.write.ensures.asked

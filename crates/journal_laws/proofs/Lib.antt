@@ -1,0 +1,13 @@
+pub mod Blocks
+pub mod Carrying
+pub mod Gates
+pub mod Judging
+pub mod Laying
+pub mod Ordering
+pub mod Places
+pub mod Sorting
+pub mod Standing
+pub mod Whole
+pub mod Writing
+pub mod Formats
+pub mod Epochs

@@ -1,0 +1,5 @@
+use Rattle.std.proofs.Common.{rules}
+use Rattle.journal_layout.proofs.layout.descriptor_block.Goals as goal
+
+pub returns : goal.returns
+returns c = search rules

@@ -1,0 +1,135 @@
+//! The calls of the kernel that threads make.
+
+ghost use Rattle.std.specs.Prelude.{◌≡◌, ◌<◌, length};
+
+use crate::{AdminError, ExecError, ExpireError, JoinError, Receipt, Stale, Ticket};
+use journal_volume::BatchBuf;
+use kernel_expiring::{AgedGroup, GonePart};
+use kernel_outbox::ReadyBuf;
+use model::{Mark, Message, Mode, Moment, Text};
+use std::alloc::Global;
+use std::sync::Wait;
+use text_names::{GroupName, GroupRequest, Wildmat};
+
+/// The most sessions at a time, unless a server is told otherwise.
+pub const SESSIONS: usize = 64;
+
+/// The most sessions that a server can be told to have at a time.
+pub const MOST_SESSIONS: usize = 4_096;
+
+/// The outcome of a message that was served.
+#[derive(Clone, Copy)]
+pub struct ExecOutcome {
+    /// What the session sends next; `None` if it was closed.
+    pub next: Option<Mode>,
+    pub mark: Mark,
+    /// The serial of the message's change, if one was accepted. The change is durable once so many are.
+    pub accepted: Option<u64>,
+    /// Outputs of the session are still held.
+    pub is_held: bool,
+}
+
+/// The command that a block follows.
+#[derive(Clone, Copy, Debug, PartialEq, Eq)]
+pub enum Asked {
+    Post,
+    Ihave,
+}
+
+/// What of the accepted changes keeps an article from being filed.
+#[derive(Clone, Copy, Debug, PartialEq, Eq)]
+pub enum Obstacle {
+    /// An article with its message-id was filed, even if it is gone.
+    Repeat,
+    /// None of its groups exists.
+    NoGroup,
+    /// One of its groups takes no posts.
+    Closed,
+}
+
+/// What a kernel holds at one moment.
+#[derive(Clone, Copy, Debug, PartialEq, Eq)]
+pub struct KernelCounts {
+    /// The sessions that exist.
+    pub sessions: usize,
+    /// The inodes that the files of the accepted changes use.
+    pub inodes: u64,
+    /// The accepted changes.
+    pub accepted: u64,
+    /// The changes that are known to be durable.
+    pub durable: u64,
+}
+
+/// A kernel that threads share. Each call may wait for the lock, and answers what the kernel answers.
+pub trait Kern {
+    /// Begins a session and answers its number (`Kernel::join`).
+    fn join<R: Wait>(&self, rt: &R, alloc: Global) -> Result<u64, JoinError>;
+
+    /// What a session sends next; `None` if no session has this number, or it was closed (`Kernel::mode`).
+    fn mode<R: Wait>(&self, rt: &R, sid: u64) -> Option<Mode>;
+
+    /// Answers a message (`Kernel::exec`). Its text is read before the lock is taken. If it was served, what is ready of
+    /// its session is put after the content of the buffer, under the same lock. If it was not served, the buffer stays as
+    /// it was.
+    fn answer<R: Wait>(
+        &self,
+        rt: &R,
+        alloc: Global,
+        sid: u64,
+        message: &Message,
+        moment: Moment,
+        into: &mut ReadyBuf,
+    ) -> Result<ExecOutcome, ExecError>
+        requires { length into.old < 4096 };
+
+    /// What keeps an article with this message-id, if it has one, and these groups from being filed now.
+    fn obstacle<R: Wait>(&self, rt: &R, id: Option<&[u8]>, groups: &[Text]) -> Option<Obstacle>;
+
+    /// Puts what is ready of a session after the content of the buffer. Answers whether the session still holds
+    /// outputs.
+    fn give_ready<R: Wait>(&self, rt: &R, sid: u64, into: &mut ReadyBuf) -> bool
+        requires { length into.old < 4096 };
+
+    /// Makes a group for the operator and answers its serial, which says nothing about durability (`Kernel::admin`).
+    fn admin<R: Wait>(
+        &self,
+        rt: &R,
+        alloc: Global,
+        group: &GroupRequest,
+    ) -> Result<u64, AdminError>;
+
+    /// Removes the articles of a group up to a number for the operator, and answers the serial of that change, which
+    /// says nothing about durability (`Kernel::expire`).
+    fn expire<R: Wait>(&self, rt: &R, name: &GroupName, number: u32) -> Result<u64, ExpireError>;
+
+    /// What an expiry by age takes out of the group at this place now, from 0, in rising serial: the articles before its
+    /// first one that was filed at `since` or later, in seconds since 1970 (`kernel_expiring::aged_group`). Nothing changes.
+    fn aged<R: Wait>(&self, rt: &R, place: usize, wildmat: &Wildmat, since: u64) -> AgedGroup;
+
+    /// How many articles are in none of their groups any more, among the changes from this serial on. One part of them is
+    /// looked at, and its answer says where the next one begins, so that the lock is never held for long
+    /// (`kernel_expiring::gone_part`). Nothing changes.
+    fn gone_part<R: Wait>(&self, rt: &R, first: u64) -> GonePart;
+
+    /// Drops a session and its held outputs; does nothing if it does not exist (`Kernel::leave`).
+    fn leave<R: Wait>(&self, rt: &R, sid: u64);
+
+    /// Copies the dirty blocks into the buffer as the batch in flight. `None` if there is nothing to take
+    /// (`Kernel::take_batch`).
+    fn take_batch<R: Wait>(&self, rt: &R, into: &mut BatchBuf) -> Option<Ticket>;
+
+    /// Notes that the batch in flight is on disk, of which its journal gave a receipt. `Stale` (E13) if the ticket is not
+    /// that of the batch in flight or the kernel is halted (`Kernel::committed`).
+    fn committed<R: Wait>(&self, rt: &R, ticket: Ticket, receipt: Receipt) -> Result<(), Stale>
+        requires { receipt.last ≡ ticket.last };
+
+    /// Halts the kernel for good (`Kernel::halt`).
+    fn halt<R: Wait>(&self, rt: &R);
+
+    /// Halts if every accepted change is durable, and answers whether it did. So no change is accepted between the last
+    /// batch and the halt. Otherwise nothing changes.
+    fn halt_if_clean<R: Wait>(&self, rt: &R) -> bool;
+
+    /// What the kernel holds, counted under one lock.
+    fn counts<R: Wait>(&self, rt: &R) -> KernelCounts;
+}

@@ -1,5 +1,0 @@
-use Rattle.std.proofs.Common.{rules}
-use Rattle.locked_kernel.proofs.locked.fits.Goals as goal
-
-pub returns-in-Some-Line-Line : goal.returns-in-Some-Line-Line
-returns-in-Some-Line-Line c = search rules

@@ -1,7 +1,0 @@
-use Rattle.std.proofs.Common.{◌≡◌, ◌++◌, ◌∷◌, [], map}
-use Rattle.log_lines.specs.Line.{shown}
-use Rattle.log_lines.proofs.Plain.{all_are_plain}
-use Rattle.log_lines.proofs.lines.end_line.Goals as goal
-
-pub returns-clause-plain : goal.returns-clause-plain
-returns-clause-plain c = (map shown c.args.text.now, cc (c.in_ok-push.ensures.items, c.in_ok-line.ensures), all_are_plain c.args.text.now)

@@ -1,8 +1,0 @@
-use Rattle.std.proofs.Common.{◌*◌}
-use Rattle.memdisk.specs.Picks.{picked_from}
-use Rattle.memdisk.proofs.Picking.{IsSettledTo}
-use Rattle.memdisk.proofs.blocks.settle_marked.Given as goal
-
-abbrev pub invariant-loop-block : goal.invariant-loop-block
-invariant-loop-block l = IsSettledTo l.picks l.count (l.block * 4096) l.touched l.synced
-    (picked_from l.picks 0 l.touched l.synced l.initial.present.items) l.initial.present.items l.present.items

@@ -1,5 +1,0 @@
-use Rattle.memdisk.proofs.Syncing.{IsSyncedTo}
-use Rattle.memdisk.proofs.blocks.sync_marked.Given as goal
-
-abbrev pub invariant-loop-block : goal.invariant-loop-block
-invariant-loop-block l = IsSyncedTo l.block l.marks.blocks.items l.present l.synced.items l.touched.items

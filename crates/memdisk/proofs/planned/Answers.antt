@@ -1,5 +1,0 @@
-use Rattle.std.proofs.Common.{rules}
-use Rattle.memdisk.proofs.planned.Goals as goal
-
-pub returns-else-n-eq0 : goal.returns-else-n-eq0
-returns-else-n-eq0 c = search rules

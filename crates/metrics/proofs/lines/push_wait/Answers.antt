@@ -1,7 +1,0 @@
-use Rattle.metrics.specs.Text.{wait}
-use Rattle.metrics.proofs.Chains.{last}
-use Rattle.metrics.proofs.lines.push_wait.Goals as goal
-
-pub returns : goal.returns
-unfolding wait
-returns c = last c.push_seconds.result _ _ _ _ _ c.in_ok-push_head.ensures c.push_seconds.ensures

@@ -1,5 +1,0 @@
-use Rattle.std.proofs.Common.{rules}
-use Rattle.names.proofs.checks.has_brackets.Goals as goal
-
-pub returns : goal.returns
-returns c = search rules

@@ -1,5 +1,0 @@
-use Rattle.std.proofs.Common.{rules}
-use Rattle.names.proofs.checks.is_host_octet.Goals as goal
-
-pub returns-else-is_ascii_alphanumeric : goal.returns-else-is_ascii_alphanumeric
-returns-else-is_ascii_alphanumeric c = search rules

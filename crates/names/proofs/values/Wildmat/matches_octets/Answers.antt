@@ -1,5 +1,0 @@
-use Rattle.std.proofs.Common.{rules}
-use Rattle.names.proofs.values.Wildmat.matches_octets.Goals as goal
-
-pub returns : goal.returns
-returns c = search rules

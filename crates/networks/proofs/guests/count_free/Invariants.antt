@@ -1,6 +1,0 @@
-use Rattle.std.proofs.Common.{◌≡◌, ◌≤◌, count_by, take}
-use Rattle.networks.specs.Guests.{is_free}
-use Rattle.networks.proofs.guests.count_free.Given as goal
-
-abbrev pub invariant-loop-seat : goal.invariant-loop-seat
-invariant-loop-seat l = (l.count ≡ count_by is_free (take l.seat-index l.seats)) × (l.count ≤ l.seat-index)

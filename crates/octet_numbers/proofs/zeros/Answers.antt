@@ -1,6 +1,0 @@
-use Rattle.std.proofs.Common.{arith}
-use Rattle.std.proofs.lemmas.Grind.{common_steps}
-use Rattle.octet_numbers.proofs.zeros.Goals as goal
-
-pub returns-clause-zero : goal.returns-clause-zero
-returns-clause-zero c = grind (arith, common_steps)

@@ -1,5 +1,0 @@
-use Rattle.std.proofs.Common.{rules}
-use Rattle.posting_commands.proofs.posts.mark_of.Goals as goal
-
-pub returns-in-Long : goal.returns-in-Long
-returns-in-Long c = search rules

@@ -1,0 +1,7 @@
+//! The command line of `newsd`: the request that its words make.
+#![tactic(auto)]
+
+mod word_reading;
+
+pub use program_command_table::VERSION;
+pub use word_reading::{AgedExpiry, Asked, Export, NewVolume, Renewal, ServeOptions, read_words};

@@ -1,0 +1,11 @@
+//! The script language of `newsd sim`: one event per line, and the printed form of octets. `specs/Script.antt` says
+//! what each line means, `specs/Words.antt` what its words are, `specs/Printed.antt` how octets are printed.
+#![tactic(auto)]
+
+mod printed;
+mod script_lines;
+mod words;
+
+pub use printed::escaped;
+pub use script_lines::{Line, ParseError, parse, read_expiry, read_group};
+pub use words::{MOST_DAYS, days, moment, number, split_word, status};

@@ -1,5 +1,0 @@
-use Rattle.std.proofs.Common.{rules}
-use Rattle.reading_commands.proofs.overviews.current_in.Goals as goal
-
-pub returns-in-Some-find_number : goal.returns-in-Some-find_number
-returns-in-Some-find_number c = search rules

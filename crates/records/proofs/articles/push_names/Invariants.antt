@@ -1,6 +1,0 @@
-use Rattle.std.proofs.Common.{◌≡◌, ◌∷◌, ◌++◌, length, take}
-use Rattle.std.specs.Prelude.{flat_map}
-use Rattle.records.proofs.articles.push_names.Given as goal
-
-abbrev pub invariant-loop-name : goal.invariant-loop-name
-invariant-loop-name l = l.octets.items ≡ l.initial.octets.items ++ flat_map (λ g. length g ∷ g) (take l.name-index l.names)

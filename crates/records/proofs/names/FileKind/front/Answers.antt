@@ -1,5 +1,0 @@
-use Rattle.std.proofs.Common.{rules}
-use Rattle.records.proofs.names.FileKind.front.Goals as goal
-
-pub returns-in-Expiry : goal.returns-in-Expiry
-returns-in-Expiry c = search rules

@@ -1,5 +1,0 @@
-use Rattle.renewing.proofs.Ways.{HasCopied}
-use Rattle.renewing.proofs.copying.copy_all.Given as goal
-
-abbrev pub invariant-loop-done : goal.invariant-loop-done
-invariant-loop-done g l = HasCopied g.D.Disk.device l.old l.fn.new l.new l.done

@@ -1,6 +1,0 @@
-use Rattle.std.proofs.Common.{◌≡◌, ◌∷◌, map, take}
-use Rattle.reporting.specs.Table.{heading, row_of}
-use Rattle.reporting.proofs.table.rows_of.Given as goal
-
-abbrev pub invariant-loop-group : goal.invariant-loop-group
-invariant-loop-group l = l.rows.items ≡ heading ∷ map row_of (take l.group-index l.groups)

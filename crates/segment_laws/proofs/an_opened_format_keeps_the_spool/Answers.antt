@@ -1,8 +1,0 @@
-use Rattle.segment_laws.proofs.Formats.{first_stands, opened_stands}
-use Rattle.segment_laws.proofs.an_opened_format_keeps_the_spool.Goals as goal
-
-pub returns-clause-opened : goal.returns-clause-opened
-returns-clause-opened c host image S stands = opened_stands host image S stands
-
-pub returns-clause-torn : goal.returns-clause-torn
-returns-clause-torn c host old new S stands first tears = first_stands host old new S stands first tears

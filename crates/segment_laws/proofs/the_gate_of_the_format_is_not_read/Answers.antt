@@ -1,8 +1,0 @@
-use Rattle.segment_laws.proofs.Standing.{format_open, format_unread}
-use Rattle.segment_laws.proofs.the_gate_of_the_format_is_not_read.Goals as goal
-
-pub returns-clause-stands : goal.returns-clause-stands
-returns-clause-stands c old new label blocks stands tears = format_unread old new label blocks stands tears
-
-pub returns-clause-open : goal.returns-clause-open
-returns-clause-open c old new label blocks held stands tears are = format_open old new label blocks stands tears held are

@@ -1,6 +1,0 @@
-use Rattle.segment_laws.proofs.Gates.{carried_home}
-use Rattle.segment_laws.proofs.Standing.{full_open}
-use Rattle.segment_laws.proofs.what_lies_at_home_is_carried.Goals as goal
-
-pub returns : goal.returns
-returns c image first is = carried_home image first (full_open image) is

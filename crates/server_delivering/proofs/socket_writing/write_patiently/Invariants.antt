@@ -1,0 +1,5 @@
+use Rattle.server_delivering.specs.Delivery.{Wrote}
+use Rattle.server_delivering.proofs.socket_writing.write_patiently.Given as goal
+
+abbrev pub invariant-waits : goal.invariant-waits
+invariant-waits g l = Wrote l.octets l.fn.written l.written (g.W.Write.contents l.fn.stream) (g.W.Write.contents l.stream)

@@ -1,0 +1,10 @@
+use Rattle.server_metrics.specs.Text.{changes}
+use Rattle.server_metrics.proofs.Chains.{last, then}
+use Rattle.server_metrics.proofs.metrics_text.push_changes.Goals as goal
+
+pub returns : goal.returns
+unfolding changes
+returns c =
+    last c.push_gauge.result _ _ _ _ _
+    (then _ _ _ _ _ c.in_ok-push_counter.ensures c.in_ok-push_counter-2.ensures)
+    c.push_gauge.ensures

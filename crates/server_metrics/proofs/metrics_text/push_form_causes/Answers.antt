@@ -1,0 +1,11 @@
+use Rattle.server_metrics.specs.Text.{form_causes}
+use Rattle.server_metrics.proofs.Chains.{last, then}
+use Rattle.server_metrics.proofs.metrics_text.push_form_causes.Goals as goal
+
+pub returns : goal.returns
+unfolding form_causes
+returns c =
+    last c.push_labelled-5.result _ _ _ _ _
+    (then _ _ _ _ _ (then _ _ _ _ _ (then _ _ _ _ _ c.in_ok-push_labelled.ensures c.in_ok-push_labelled-2.ensures)
+    c.in_ok-push_labelled-3.ensures) c.in_ok-push_labelled-4.ensures)
+    c.push_labelled-5.ensures

@@ -1,0 +1,10 @@
+use Rattle.server_metrics.specs.Text.{other_callers}
+use Rattle.server_metrics.proofs.Chains.{last, then}
+use Rattle.server_metrics.proofs.metrics_text.push_other_callers.Goals as goal
+
+pub returns : goal.returns
+unfolding other_callers
+returns c =
+    last c.push_labelled-4.result _ _ _ _ _
+    (then _ _ _ _ _ (then _ _ _ _ _ c.in_ok-push_labelled.ensures c.in_ok-push_labelled-2.ensures) c.in_ok-push_labelled-3.ensures)
+    c.push_labelled-4.ensures

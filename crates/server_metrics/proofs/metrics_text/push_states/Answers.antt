@@ -1,0 +1,10 @@
+use Rattle.server_metrics.specs.Text.{states}
+use Rattle.server_metrics.proofs.Chains.{last, then}
+use Rattle.server_metrics.proofs.metrics_text.push_states.Goals as goal
+
+pub returns : goal.returns
+unfolding states
+returns c =
+    last c.push_labelled-3.result _ _ _ _ _
+    (then _ _ _ _ _ (then _ _ _ _ _ c.in_ok-push_head.ensures c.in_ok-push_labelled.ensures) c.in_ok-push_labelled-2.ensures)
+    c.push_labelled-3.ensures

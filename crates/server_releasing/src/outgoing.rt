@@ -1,0 +1,214 @@
+//! The octets of one session that have left the kernel, on their way into its socket.
+
+use crate::Shared;
+use kernel_outbox::{RELEASE_ENTRIES, RELEASE_OCTETS, ReadyBuf};
+use kernel_shared::{Asked, ExecError, ExecOutcome, Hooks, Kern};
+use model::{Message, Moment};
+use server_delivering::{Written, deliver};
+use std::alloc::{AllocError, Global};
+use std::net::{Shutdown, TcpStream};
+use std::sync::{Arc, Wait};
+use std::time::Duration;
+
+/// Whether a write may wait until its socket takes more.
+#[derive(Clone, Copy, PartialEq, Eq)]
+pub(crate) enum Patience {
+    /// The thread has other sessions to serve. Octets that the socket does not take at once are left.
+    None,
+    /// The thread serves only this session, and waits until the socket has taken nothing for `Limits::stall`.
+    Long,
+}
+
+/// Why nothing more is written to a caller.
+#[derive(Clone, Copy, Debug, PartialEq, Eq)]
+pub enum Cut {
+    /// The socket took nothing for `Limits::stall`.
+    Stalled,
+    /// The socket failed.
+    Failed,
+    /// The operator ended the session.
+    Dropped,
+}
+
+/// What was written to a caller.
+#[derive(Clone, Copy, Debug, PartialEq, Eq)]
+pub struct Delivery {
+    pub octets: u64,
+    /// `None` if all that was released to the caller was written, and the operator did not end the session.
+    pub cut: Option<Cut>,
+}
+
+/// A block that a session's thread has left to the thread that flushes, the command that it follows, and when it came.
+#[derive(Drop)]
+pub(crate) struct LeftBlock {
+    pub(crate) block: Message,
+    pub(crate) asked: Asked,
+    pub(crate) moment: Moment,
+}
+
+/// The octets taken from the kernel for a session, and how many of them are written.
+#[derive(Drop)]
+pub(crate) struct Outgoing {
+    pub(crate) sid: u64,
+    /// `None` if there is no caller.
+    pub(crate) stream: Option<Arc<TcpStream, Global>>,
+    pub(crate) ready: ReadyBuf,
+    written: usize,
+    /// A block that waits for the thread that flushes. As long as there is one, nothing is ready, and the kernel holds no
+    /// output of the session.
+    left: Option<LeftBlock>,
+    /// What became of the last block that was left, until the session's thread asks.
+    filed: Option<Result<ExecOutcome, ExecError>>,
+    /// What was written to this caller so far.
+    sent: Delivery,
+}
+
+impl Outgoing {
+    pub(crate) fn new(alloc: Global) -> Result<Outgoing, AllocError> {
+        Ok(Outgoing {
+            sid: 0,
+            stream: None,
+            ready: ReadyBuf::new(alloc)?,
+            written: 0,
+            left: None,
+            filed: None,
+            sent: Delivery {
+                octets: 0,
+                cut: None,
+            },
+        })
+    }
+
+    /// Begins a session with a caller.
+    pub(crate) fn begin(&mut self, sid: u64, stream: Arc<TcpStream, Global>) {
+        self.sid = sid;
+        self.stream = Some(stream);
+        self.sent = Delivery {
+            octets: 0,
+            cut: None,
+        };
+    }
+
+    /// Ends the session, discards what was taken, and answers what was written to the caller.
+    pub(crate) fn end(&mut self) -> Delivery {
+        self.stream = None;
+        self.left = None;
+        self.filed = None;
+        self.clear();
+        self.sent
+    }
+
+    /// The octets that were written to this caller so far.
+    pub(crate) fn octets_out(&self) -> u64 {
+        self.sent.octets
+    }
+
+    /// Leaves a block. It is given back if something is ready.
+    pub(crate) fn leave(&mut self, block: LeftBlock) -> Result<(), LeftBlock> {
+        if !self.ready.is_empty() {
+            return Err(block);
+        }
+        self.left = Some(block);
+        Ok(())
+    }
+
+    /// Takes a block that was left.
+    pub(crate) fn take_left(&mut self) -> Option<LeftBlock> {
+        self.left.take()
+    }
+
+    /// Notes what became of a block that was left. If the session is closed, or a refusal ends it, nothing more is read from
+    /// the caller: so the session's thread, which may wait for octets, meets that end.
+    pub(crate) fn note_filed(&mut self, answer: Result<ExecOutcome, ExecError>) {
+        self.filed = Some(answer);
+        let goes_on = match answer {
+            Ok(answered) => answered.next.is_some(),
+            Err(_) => false,
+        };
+        if !goes_on {
+            self.shut_down(Shutdown::Read);
+        }
+    }
+
+    /// What became of the last block that was left. It is answered once.
+    pub(crate) fn take_filed(&mut self) -> Option<Result<ExecOutcome, ExecError>> {
+        self.filed.take()
+    }
+
+    /// Whether what was taken must be written before more is taken.
+    pub(crate) fn is_full(&self) -> bool {
+        self.ready.len() >= RELEASE_ENTRIES || self.ready.octets().len() >= RELEASE_OCTETS
+    }
+
+    /// Discards what was taken.
+    pub(crate) fn clear(&mut self) {
+        self.ready.clear();
+        self.written = 0;
+    }
+
+    /// Writes what was taken and discards it, unless the socket takes no more and the patience runs out. If the socket
+    /// fails, the session ends. After the last reply of a session nothing more is written to its socket.
+    pub(crate) fn write<R: Wait, K: Kern, H: Hooks>(
+        &mut self,
+        shared: &Shared<'_, R, K, H>,
+        patience: Patience,
+    ) {
+        if self.ready.is_empty() {
+            return;
+        }
+        shared.hooks.before_release(self.sid);
+        let before = self.written;
+        let written = self.write_rest(shared.rt, shared.limits.stall, patience);
+        let count = self.written.saturating_sub(before) as u64;
+        self.sent.octets = self.sent.octets.saturating_add(count);
+        shared.hooks.after_release(self.sid);
+        match written {
+            Written::Part => return,
+            Written::All if !self.ends() => {}
+            Written::All => self.shut_down(Shutdown::Write),
+            Written::Stalled => self.cut_off(shared, Cut::Stalled),
+            Written::Failed => self.cut_off(shared, Cut::Failed),
+        }
+        self.clear();
+    }
+
+    /// Ends the session and the socket, since nothing more can be written.
+    fn cut_off<R: Wait, K: Kern, H>(&mut self, shared: &Shared<'_, R, K, H>, cut: Cut) {
+        self.sent.cut = Some(cut);
+        self.shut_down(Shutdown::Both);
+        shared.kern.leave(shared.rt, self.sid);
+    }
+
+    /// Whether the session ends with what was taken.
+    fn ends(&self) -> bool {
+        let count = self.ready.len();
+        if count == 0 {
+            return false;
+        }
+        let (_, _, ends) = self.ready.entry(count - 1);
+        ends
+    }
+
+    fn shut_down(&self, how: Shutdown) {
+        if let Some(stream) = &self.stream {
+            let _ = stream.shutdown(how);
+        }
+    }
+
+    /// Writes what is not written yet, as long as the patience lasts.
+    fn write_rest<R: Wait>(&mut self, rt: &R, stall: Duration, patience: Patience) -> Written {
+        let Outgoing {
+            stream,
+            ready,
+            written,
+            ..
+        } = self;
+        match stream {
+            Some(stream) => {
+                let stall = (patience == Patience::Long).then_some(stall);
+                deliver(rt, stream, ready.octets(), written, stall)
+            }
+            None => Written::Failed,
+        }
+    }
+}

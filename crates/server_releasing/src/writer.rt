@@ -1,0 +1,304 @@
+//! The way of one session's replies from the kernel to its socket. Only the holder of the lock on a desk takes what is
+//! ready, so the order on the socket is that of the kernel. The lock is taken before the kernel's, and no thread
+//! holds two of these locks.
+
+use crate::Shared;
+use crate::outgoing::{Cut, Delivery, Outgoing, Patience};
+use crate::turns::{Desk, Turn};
+use kernel_outbox::RELEASE_ENTRIES;
+use kernel_shared::{ExecError, ExecOutcome, Hooks, Kern, Look};
+use model::{Message, Moment};
+use server_roster::{Chosen, Guest, ListedSession, Place};
+use std::alloc::{AllocError, Global};
+use std::net::{Shutdown, TcpStream};
+use std::sync::{Arc, Wait};
+use std::thread::Parker;
+use std::time::{Clock, Instant};
+
+/// Writes the replies of one session's thread, which serves one caller after another.
+#[derive(Drop)]
+pub struct ReplyWriter {
+    pub(crate) desk: Desk,
+    /// Wakes the thread that finishes a write that was cut short.
+    rest: Parker,
+    /// Wakes the session's thread when it waits for a release.
+    session: Parker,
+    /// Who calls. Any thread may shut the socket down there.
+    place: Place,
+}
+
+/// What a release found.
+#[derive(Clone, Copy)]
+pub struct Released {
+    /// Something was taken.
+    pub has_taken: bool,
+    /// The session still holds outputs, or a part of what was taken is not written.
+    pub is_held: bool,
+}
+
+impl ReplyWriter {
+    /// A writer without a caller.
+    pub fn new(alloc: Global) -> Result<ReplyWriter, AllocError> {
+        Ok(ReplyWriter {
+            desk: Desk::new(alloc)?,
+            rest: Parker::new(),
+            session: Parker::new(),
+            place: Place::new(),
+        })
+    }
+
+    /// Begins a new session for a guest. The handle is one more of its socket.
+    pub fn begin<R: Wait + Clock>(&self, rt: &R, guest: Guest, writing: Arc<TcpStream, Global>) {
+        let session = guest.session;
+        self.place.begin(rt, guest);
+        self.desk.note_slow(false);
+        let mut turn = self.desk.turn(rt);
+        turn.outgoing().begin(session, writing);
+        turn.end_before_send();
+    }
+
+    /// Where the session's thread notes what it does.
+    pub fn place(&self) -> &Place {
+        &self.place
+    }
+
+    /// The session as the operator sees it, if there is one. It waits for no write.
+    pub fn look<R: Wait + Clock>(&self, rt: &R) -> Option<ListedSession> {
+        self.place
+            .look(rt, self.desk.octets_out(), self.is_waiting())
+    }
+
+    /// Ends the session if it is one of these, and answers whether it is.
+    pub fn let_go<R: Wait>(&self, rt: &R, chosen: &Chosen) -> bool {
+        self.place.let_go(rt, chosen)
+    }
+
+    /// Lets the caller go, drops what is left of its session, and answers what was written to it.
+    pub fn end<R: Wait, K: Kern>(&self, rt: &R, kern: &K) -> Delivery {
+        let mut turn = self.desk.turn(rt);
+        kern.leave(rt, turn.outgoing().sid);
+        let mut sent = turn.outgoing().end();
+        turn.note_left(false);
+        self.desk.note_waiting(false);
+        if self.place.end(rt) {
+            sent.cut = Some(Cut::Dropped);
+        }
+        turn.end_before_send();
+        sent
+    }
+
+    /// Has a message answered, and takes what is ready. What does not fit is written before anything else is served.
+    /// The thread that calls this has no block left, and calls `send` or `release` before it waits.
+    pub fn answer<R: Wait + Clock, K: Kern, H: Hooks>(
+        &self,
+        shared: &Shared<'_, R, K, H>,
+        message: &Message,
+        moment: Moment,
+    ) -> Result<ExecOutcome, ExecError> {
+        let mut turn = self.desk.turn(shared.rt);
+        if turn.outgoing().is_full() {
+            self.release_ready(shared, turn.outgoing(), Patience::Long);
+        }
+        shared.asking.begin();
+        let answered = self.answer_into(shared, &mut turn, message, moment);
+        shared.asking.end();
+        if answered.is_ok() && turn.outgoing().is_full() {
+            self.release_ready(shared, turn.outgoing(), Patience::Long);
+        }
+        turn.end_before_send();
+        answered
+    }
+
+    /// Has the kernel answer a message, and takes what is ready. How long that took is noted.
+    pub(crate) fn answer_into<R: Wait + Clock, K: Kern, H: Hooks>(
+        &self,
+        shared: &Shared<'_, R, K, H>,
+        turn: &mut Turn<'_>,
+        message: &Message,
+        moment: Moment,
+    ) -> Result<ExecOutcome, ExecError> {
+        let outgoing = turn.outgoing();
+        if outgoing.ready.len() >= RELEASE_ENTRIES {
+            return Err(ExecError::NoSession);
+        }
+        self.desk.note_taking();
+        let since = Instant::now(shared.rt).ok();
+        let answer = shared.kern.answer(
+            shared.rt,
+            shared.alloc,
+            outgoing.sid,
+            message,
+            moment,
+            &mut outgoing.ready,
+        );
+        shared.note_answered(since);
+        match answer {
+            Ok(answered) => self.desk.note_waiting(answered.is_held),
+            // nothing was taken, whatever a commit found before
+            Err(_) => self.desk.note_missed(),
+        }
+        answer
+    }
+
+    /// Writes what was taken. A session's thread calls this before it waits.
+    pub fn send<R: Wait, K: Kern, H: Hooks>(&self, shared: &Shared<'_, R, K, H>) {
+        let mut turn = self.desk.turn(shared.rt);
+        turn.outgoing().write(shared, Patience::Long);
+        if turn.end() {
+            self.release(shared);
+        }
+    }
+
+    /// Takes all that is ready and writes it. A session's thread calls this before it waits.
+    pub fn release<R: Wait, K: Kern, H: Hooks>(&self, shared: &Shared<'_, R, K, H>) -> Released {
+        let mut has_taken = false;
+        for _ in shared.rt.forever() {
+            let mut turn = self.desk.turn(shared.rt);
+            let released = self.release_ready(shared, turn.outgoing(), Patience::Long);
+            has_taken |= released.has_taken;
+            if !turn.end() {
+                return Released {
+                    has_taken,
+                    is_held: released.is_held,
+                };
+            }
+        }
+        unreachable!()
+    }
+
+    /// Whether outputs may be held until a commit.
+    pub(crate) fn is_waiting(&self) -> bool {
+        self.desk.is_waiting()
+    }
+
+    /// Whether a write to the caller was once cut short in this session.
+    pub(crate) fn is_slow(&self) -> bool {
+        self.desk.is_slow()
+    }
+
+    /// Called after a commit. Releases what waited for it, or leaves that to the thread that holds the lock. Never blocks.
+    pub fn release_waiting<R: Wait, K: Kern, H: Hooks>(&self, shared: &Shared<'_, R, K, H>) {
+        if !self.is_waiting() {
+            return;
+        }
+        self.desk.note_missed();
+        self.catch_up(shared);
+        self.session.unpark();
+    }
+
+    /// Waits until the session no longer holds an output, as for a caller that sends nothing more. At the server's end it
+    /// releases what is ready, and waits for nothing.
+    pub fn finish<R: Wait, K: Kern, H: Hooks>(&self, shared: &Shared<'_, R, K, H>) {
+        for _ in shared.rt.forever() {
+            if self.finish_pass(shared, shared.closing.look()) {
+                return;
+            }
+            shared.bells.flush_now();
+            self.wait_for_release(shared.rt);
+        }
+    }
+
+    /// Releases what is ready, after a look at the server's end. Whether nothing is held any more, or nothing becomes ready.
+    fn finish_pass<R: Wait, K: Kern, H: Hooks>(
+        &self,
+        shared: &Shared<'_, R, K, H>,
+        look: Look,
+    ) -> bool {
+        let released = self.release(shared);
+        look.was_last() || !released.is_held
+    }
+
+    /// Waits until something was released, or the server's end begins. It may return earlier.
+    pub fn wait_for_release<R: Wait>(&self, rt: &R) {
+        self.session.park(rt);
+    }
+
+    /// Finishes each write that was cut short, until the server's end begins. It runs in a thread of its own.
+    pub fn write_rests<R: Wait, K: Kern, H: Hooks>(&self, shared: &Shared<'_, R, K, H>) {
+        for _ in shared.rt.forever() {
+            self.rest.park(shared.rt);
+            if shared.closing.has_begun() {
+                return;
+            }
+            self.release(shared);
+            self.session.unpark();
+        }
+    }
+
+    /// Whether there is no caller.
+    pub(crate) fn is_free<R: Wait>(&self, rt: &R) -> bool {
+        self.place.is_free(rt)
+    }
+
+    /// Shuts down the caller's socket, whichever thread writes.
+    pub(crate) fn shut_down<R: Wait>(&self, rt: &R, how: Shutdown) {
+        self.place.shut_down(rt, how);
+    }
+
+    /// Wakes its two threads.
+    pub(crate) fn wake_all(&self) {
+        self.rest.unpark();
+        self.session.unpark();
+    }
+
+    /// Takes and writes what a holder of the lock has missed, unless another thread has the lock by now.
+    pub(crate) fn catch_up<R: Wait, K: Kern, H: Hooks>(&self, shared: &Shared<'_, R, K, H>) {
+        for _ in shared.rt.forever() {
+            if !self.desk.is_missed() {
+                return;
+            }
+            let Some(mut turn) = self.desk.try_turn() else {
+                return;
+            };
+            self.release_ready(shared, turn.outgoing(), Patience::None);
+            if !self.end_written(turn) {
+                return;
+            }
+        }
+    }
+
+    /// Ends a turn in which something was written that could not wait. What was cut short is left to the thread that
+    /// finishes it. Answers whether something was missed meanwhile that no other thread takes.
+    pub(crate) fn end_written(&self, mut turn: Turn<'_>) -> bool {
+        let is_done = turn.outgoing().ready.is_empty();
+        if !is_done {
+            self.desk.note_slow(true);
+        }
+        let is_missed = turn.end();
+        if !is_done {
+            self.rest.unpark();
+        }
+        is_done && is_missed
+    }
+
+    /// Writes what was taken, and takes and writes what is ready, until nothing is ready or the socket takes no more.
+    fn release_ready<R: Wait, K: Kern, H: Hooks>(
+        &self,
+        shared: &Shared<'_, R, K, H>,
+        outgoing: &mut Outgoing,
+        patience: Patience,
+    ) -> Released {
+        let mut has_taken = false;
+        let mut is_held = true;
+        for _ in shared.rt.forever() {
+            outgoing.write(shared, patience);
+            let is_stuck = !outgoing.ready.is_empty() || outgoing.ready.len() >= RELEASE_ENTRIES;
+            if is_stuck || !is_held {
+                return Released {
+                    has_taken,
+                    is_held: is_stuck,
+                };
+            }
+            self.desk.note_taking();
+            is_held = shared
+                .kern
+                .give_ready(shared.rt, outgoing.sid, &mut outgoing.ready);
+            self.desk.note_waiting(is_held);
+            if outgoing.ready.is_empty() {
+                return Released { has_taken, is_held };
+            }
+            has_taken = true;
+        }
+        unreachable!()
+    }
+}

@@ -1,0 +1,5 @@
+use Rattle.std.proofs.Common.{rules}
+use Rattle.session_reading.proofs.overviews.current_in.Goals as goal
+
+pub returns-in-Some-find_number : goal.returns-in-Some-find_number
+returns-in-Some-find_number c = search rules

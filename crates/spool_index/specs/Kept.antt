@@ -1,0 +1,16 @@
+-- What the index keeps of a change, stated in terms of the spool.
+use Rattle.std.specs.Prelude.{length}
+use Rattle.model.specs.Article.{id}
+use Rattle.model.specs.Spool.{SpoolEntry}
+use Rattle.model.specs.declared.change.Change.{Change}
+use Rattle.model.specs.declared.change.Change.TheVariants.{Group, Article, Expire}
+use Rattle.spool_index.specs.declared.note.Note.{Note}
+use Rattle.spool_index.specs.declared.note.Note.TheVariants as note
+
+-- what is kept of a change; the fields of a group are kept with the group
+abbrev pub kept : SpoolEntry → Note
+kept e = kept_of e.change where
+  kept_of : Change → Note
+  kept_of (Group g) = note.Group
+  kept_of (Article f) = note.Article (id f.text) (length f.text) f.envelope.groups f.envelope.moment
+  kept_of (Expire e) = note.Expiry e.group e.number

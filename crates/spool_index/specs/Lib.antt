@@ -1,0 +1,9 @@
+pub mod Kept
+pub mod View
+pub mod Notes
+pub mod Finding
+pub mod Latest
+pub mod Ids
+pub mod Viewed
+pub mod Places
+pub mod Laws

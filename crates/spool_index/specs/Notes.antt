@@ -1,0 +1,27 @@
+-- The note of an article.
+use Rattle.std.specs.Prelude.{ℕ, List, Option, Some, None}
+use Rattle.model.specs.Stream.{Octets}
+use Rattle.spool_index.specs.declared.note.Note.{Note}
+use Rattle.spool_index.specs.declared.note.Note.TheVariants as note
+
+-- its message-id
+abbrev pub id_in : Note → Option Octets
+id_in note.Group = None
+id_in (note.Article id size groups moment) = Some id
+id_in (note.Expiry group number) = None
+
+-- the number of octets in its text
+abbrev pub size_in : Note → Option ℕ
+size_in note.Group = None
+size_in (note.Article id size groups moment) = Some size
+size_in (note.Expiry group number) = None
+
+abbrev pub groups_in : Note → Option (List Octets)
+groups_in note.Group = None
+groups_in (note.Article id size groups moment) = Some groups
+groups_in (note.Expiry group number) = None
+
+abbrev pub moment_in : Note → Option ℕ
+moment_in note.Group = None
+moment_in (note.Article id size groups moment) = Some moment
+moment_in (note.Expiry group number) = None

@@ -1,5 +1,0 @@
-use Rattle.std.proofs.Common.{rules}
-use Rattle.spool_opening.proofs.lines.goes_on.Goals as goal
-
-pub returns : goal.returns
-returns c = search rules

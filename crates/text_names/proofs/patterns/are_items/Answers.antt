@@ -1,0 +1,12 @@
+use Rattle.std.proofs.Common.{rules, tests, sym, ◌∙◌}
+use Rattle.std.proofs.lemmas.Iterator.{YieldsList-from_slice}
+use Rattle.std.proofs.lemmas.Iterator.Search.{all_from_yields_List}
+use Rattle.model.specs.Names.{is_pattern_octet}
+use Rattle.text_names.proofs.Runs.{run_of}
+use Rattle.text_names.proofs.patterns.are_items.Goals as goal
+
+pub returns-then-not-is_empty : goal.returns-then-not-is_empty
+returns-then-not-is_empty c =
+    run_of is_pattern_octet c.args.text.now c.all.result (sym c.if-not-is_empty.true ∙ c.is_empty.ensures)
+    (all_from_yields_List is_pattern_octet _ _ c.all.result c.all.ensures.ran (YieldsList-from_slice c.args.text.now cc)
+    (λ x b q k. search (rules, tests)))

@@ -1,5 +1,0 @@
-use Rattle.std.proofs.Common.{rules}
-use Rattle.traced_kernel.proofs.TracedKernel.trace.Goals as goal
-
-pub returns : goal.returns
-returns c = search rules

@@ -1,5 +1,0 @@
-use Rattle.traced_kernel.proofs.Room.{Files}
-use Rattle.traced_kernel.proofs.peer.file.Given as goal
-
-abbrev pub invariant-loop-index : goal.invariant-loop-index
-invariant-loop-index l = Files l.ready l.fn.peers.items l.peers.items l.index

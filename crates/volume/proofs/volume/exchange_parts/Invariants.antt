@@ -1,5 +1,0 @@
-use Rattle.volume.proofs.Exchanged.{IsExchanged}
-use Rattle.volume.proofs.volume.exchange_parts.Given as goal
-
-abbrev pub invariant-loop-place : goal.invariant-loop-place
-invariant-loop-place l = IsExchanged l.place l.numbers l.initial.blocks l.blocks l.initial.octets l.octets

@@ -1,6 +1,0 @@
-use Rattle.volume.proofs.Keeping.{IsKeeping}
-use Rattle.volume.proofs.volume.keep_parts.Given as goal
-
-abbrev pub invariant-loop-number : goal.invariant-loop-number
-invariant-loop-number l =
-    IsKeeping l.first l.end l.number l.blocks.blocks l.initial.kept l.initial.octets.items l.kept l.octets.items

@@ -1,5 +1,0 @@
-use Rattle.volume.proofs.Marked.{IsMarked}
-use Rattle.volume.proofs.volume.mark_changed.Given as goal
-
-abbrev pub invariant-loop-place : goal.invariant-loop-place
-invariant-loop-place l = IsMarked l.place l.blocks.blocks l.numbers l.octets l.initial.dirty l.dirty

@@ -1,5 +1,0 @@
-use Rattle.std.proofs.Common.{rules}
-use Rattle.volume_format.proofs.descriptor.are_distinct.Goals as goal
-
-pub loop-j-preserved : goal.loop-j-preserved
-loop-j-preserved c = search rules

@@ -1,5 +1,0 @@
-use Rattle.std.proofs.Common.{rules}
-use Rattle.wcache.proofs.WCache.into_inner.Goals as goal
-
-pub returns : goal.returns
-returns c = search rules
