@@ -3,7 +3,7 @@
 #![tactic(auto)]
 
 ghost use Rattle.std.specs.Prelude.{◌≡◌, ◌+◌, ◌-◌, ◌<◌, ◌≤◌, ◌||◌, ◌&&◌, nat_lt, ℕ, List, [], Some, false, None, length, replicate};
-ghost use Rattle.std.specs.Prelude.{slice_index_or, IsTrue, OnErr, OnOk};
+ghost use Rattle.std.specs.Prelude.{slice_index_or, IfOk, IsTrue, OnErr, OnOk};
 ghost use Rattle.std.specs.List.{All, flat_map};
 ghost use Rattle.model.specs.Lawful.{MayExpire, MayFile, MayMake};
 ghost use Rattle.model.specs.Layout.{Holds};
@@ -30,7 +30,7 @@ pub use errors::{AddError, ExpireError};
 use fs::{free_block_count, free_inode_count};
 use fs_blocks::Blocks;
 use journal_volume::{BatchBuf, Volume};
-use model::{Change, Envelope, Moment, Status, Text};
+use model::{Change, Envelope, NewGroup, Text};
 use session_lookups::{FilingError, LookUps};
 use spool_groups::Group;
 use spool_growing::{
@@ -96,6 +96,18 @@ impl Model for Spool {
 
     ghost invariant = { λ s. IsKept s.host s.inodes s.volume s.index s.places s.stands.changes
         × IsKnown s.inodes s.free s.volume.cache };
+}
+
+/// The group that is asked for, with its own copies of the octets. Refused only for want of memory.
+fn group_asked(alloc: Global, request: &GroupRequest) -> Result<NewGroup, AllocError>
+    ensures { IfOk result (λ group. group ≡ group_of request.now) }
+{
+    Ok(NewGroup {
+        name: Text::new(Vec::from_slice(alloc, request.name.as_slice())?),
+        status: request.status,
+        description: Text::new(Vec::from_slice(alloc, request.description.as_slice())?),
+        moment: request.moment,
+    })
 }
 
 impl Spool {
@@ -261,17 +273,19 @@ impl Spool {
             self.old self.new result
             (λ serial. (serial ≡ length self.old.changes + 1) × Adds self.old self.new (changed.Group (group_of group.now))) }
     {
-        let name = group.name.as_slice();
-        let description = group.description.as_slice();
-        if self.is_here(name) {
+        if self.is_here(group.name.as_slice()) {
             return Err(AddError::Exists);
         }
         if self.is_full_for_group() {
             return Err(AddError::Full);
         }
-        // for the proof: the moment is before the year 10000
+        // for the proof: the description is printable, the moment before the year 10000
+        let _description = group.description.as_slice();
         let _seconds = group.moment.seconds();
-        match self.push_group(name, group.status, description, group.moment) {
+        let Ok(asked) = group_asked(self.alloc, group) else {
+            return Err(AddError::Memory);
+        };
+        match self.push_group(asked) {
             Ok(()) => Ok(self.len()),
             Err(_) => Err(AddError::Memory),
         }
@@ -279,19 +293,10 @@ impl Spool {
 
     /// Adds a group that may be made and for which there is room. Refused only for want of memory, and then nothing
     /// changes.
-    fn push_group(
-        &mut self,
-        name: &[u8],
-        status: Status,
-        description: &[u8],
-        moment: Moment,
-    ) -> Result<(), AllocError>
-        requires may { MayMake self.old.changes
-            (record { name = name.now; status = status; description = description.now; moment = moment }) }
-        requires room { is_full_for self.old (changed.Group
-            (record { name = name.now; status = status; description = description.now; moment = moment })) ≡ false }
-        ensures ok { OnOk result (Adds self.old self.new (changed.Group
-            (record { name = name.now; status = status; description = description.now; moment = moment }))) }
+    fn push_group(&mut self, group: NewGroup) -> Result<(), AllocError>
+        requires may { MayMake self.old.changes group }
+        requires room { is_full_for self.old (changed.Group group) ≡ false }
+        ensures ok { OnOk result (Adds self.old self.new (changed.Group group)) }
         ensures err { OnErr result (self.new ≡ self.old) }
     {
         let free = grow_by_group(
@@ -301,10 +306,7 @@ impl Spool {
             &mut self.volume,
             &mut self.index,
             &mut self.places,
-            name,
-            status,
-            description,
-            moment,
+            group,
         )?;
         self.free = free;
         Ok(())

@@ -8,7 +8,7 @@ ghost use Rattle.model.specs.Spool as spool;
 ghost use Rattle.spool_groups.specs.Shown.{shown};
 ghost use Rattle.spool_index.specs.View.{Indexes};
 
-use model::{Moment, Status, Text};
+use model::{NewGroup, Text};
 use spool_groups::Group;
 use spool_index::Index;
 use std::alloc::{AllocError, Global};
@@ -29,22 +29,17 @@ fn is_here(index: &Index, name: &[u8]) -> bool
     find_group(index, name).is_some()
 }
 
-/// Whether a group with these fields may be made. Each status and each moment is allowed.
-pub fn may_make(
-    index: &Index,
-    name: &[u8],
-    status: Status,
-    description: &[u8],
-    moment: Moment,
-) -> bool
-    ensures { (S : Spool) → Indexes S index.now → (IsTrue result
-        ↔ MayMake S (record { name = name.now; status = status; description = description.now; moment = moment })) }
+/// Whether a group may be made. Each status and each moment is allowed.
+pub fn may_make(index: &Index, group: &NewGroup) -> bool
+    ensures { (S : Spool) → Indexes S index.now → (IsTrue result ↔ MayMake S group.now) }
 {
-    let _seconds = moment.seconds();
+    let name = group.name.as_slice();
+    // for the proof: the moment is before the year 10000
+    let _seconds = group.moment.seconds();
     if !is_group_name(name) {
         return false;
     }
-    if !is_description(description) {
+    if !is_description(group.description.as_slice()) {
         return false;
     }
     !is_here(index, name)

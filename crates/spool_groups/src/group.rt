@@ -4,12 +4,12 @@ ghost use Rattle.std.specs.Prelude.{◌≡◌, ◌+◌, ◌-◌, ◌^◌, ◌<�
 ghost use Rattle.std.specs.Prelude.{slice_index, IfOk, OnOk, OnErr, vec_len, vec_capacity};
 ghost use Rattle.std.specs.List.Sorted.{IsPartitionPoint, IsPartitionedBy};
 ghost use Rattle.model.specs.Indexed.{line_start};
-ghost use Rattle.model.specs.Spool.{serial_of};
+ghost use Rattle.model.specs.Spool.{news_group, serial_of};
 ghost use Rattle.spool_groups.specs.Shown.{shown};
 ghost use Rattle.spool_groups.specs.Filing.{end_of, with_line};
 ghost use Rattle.spool_groups.specs.Finding.{Rise, filed_at};
 
-use model::{Moment, Status, Text};
+use model::{Moment, NewGroup, Status, Text};
 use std::alloc::{AllocError, Global};
 
 /// What is kept of an article filed in a group: its serial, and where its overview line ends.
@@ -42,34 +42,33 @@ pub struct Group {
 
 impl Group {
     /// A group with no articles, made by the change with this serial.
-    pub fn new(
-        alloc: Global,
-        serial: u64,
-        name: &[u8],
-        status: Status,
-        description: &[u8],
-        moment: Moment,
-    ) -> Result<Group, AllocError>
-        ensures { IfOk result (λ g. shown g ≡ record {
-          group = record { serial = serial; name = name.now; status = status; description = description.now; moment = moment };
+    pub fn new(alloc: Global, serial: u64, group: NewGroup) -> Group
+        ensures { shown result ≡ record {
+          group = news_group serial group;
           filed = [];
           ends = [];
           low = 1;
           expired = [];
           last = serial;
-        }) }
+        } }
     {
-        Ok(Group {
-            serial,
-            name: Text::new(Vec::from_slice(alloc, name)?),
+        let NewGroup {
+            name,
             status,
-            description: Text::new(Vec::from_slice(alloc, description)?),
+            description,
+            moment,
+        } = group;
+        Group {
+            serial,
+            name,
+            status,
+            description,
             moment,
             lines: Vec::new(alloc),
             expired: Vec::new(alloc),
             low: 1,
             last: serial,
-        })
+        }
     }
 
     /// The serial of the change that made it.

@@ -13,7 +13,7 @@ use crate::{Free, PlaceKind};
 use fs_blocks::Blocks;
 use fs_layout::bitmap::lowest_free;
 use journal_volume::Volume;
-use model::{Envelope, Moment, Status};
+use model::{Envelope, NewGroup};
 use spool_admission::id_of;
 use spool_index::{Index, Places};
 use spool_records::{article_record, expiry_record, group_record};
@@ -42,26 +42,28 @@ pub fn grow_by_group(
     volume: &mut Volume,
     index: &mut Index,
     places: &mut Places,
-    name: &[u8],
-    status: Status,
-    description: &[u8],
-    moment: Moment,
+    group: NewGroup,
 ) -> Result<Free, AllocError>
-    requires ready { IsReady inodes volume.old index.old places.old (Change.Group
-        (record { name = name.now; status = status; description = description.now; moment = moment })) }
+    requires ready { IsReady inodes volume.old index.old places.old (Change.Group group) }
     requires known { IsKnown inodes free volume.old.cache }
     ensures grown { OnOk result (IsGrown inodes volume.old volume.new index.old index.new places.old places.new
-        (Change.Group
-        (record { name = name.now; status = status; description = description.now; moment = moment }))) }
+        (Change.Group group)) }
     ensures known { IfOk result (λ next. IsKnown inodes next volume.new.cache) }
     ensures volume { OnErr result (volume.new ≡ volume.old) }
     ensures index { OnErr result (index.new ≡ index.old) }
     ensures places { OnErr result (places.new ≡ places.old) }
 {
     let serial = index.len() + 1;
-    let record = group_record(alloc, serial, moment, status, description)?;
+    let record = group_record(alloc, serial, &group)?;
     let mut next = free;
-    let Ok(made) = make_group(alloc, volume, inodes, &mut next, name, &record) else {
+    let Ok(made) = make_group(
+        alloc,
+        volume,
+        inodes,
+        &mut next,
+        group.name.as_slice(),
+        &record,
+    ) else {
         volume.drop_stage();
         return Err(AllocError);
     };
@@ -69,7 +71,7 @@ pub fn grow_by_group(
         volume.drop_stage();
         return Err(AllocError);
     };
-    let Ok(()) = index.push_group(name, status, description, moment) else {
+    let Ok(()) = index.push_group(group) else {
         places.pop_group();
         volume.drop_stage();
         return Err(AllocError);

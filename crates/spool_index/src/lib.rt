@@ -29,7 +29,7 @@ mod views;
 use ids::Ids;
 use latest::push_latest;
 pub use laws::{places_are_by_name, places_grow_with_the_spool};
-use model::{Envelope, Moment, Status, Text};
+use model::{Envelope, NewGroup, Text};
 pub use note::Note;
 pub use places::{ChangePlace, Places};
 use spool_groups::{Group, Keys, expire_one, place_of, push_lines, reserve_lines};
@@ -148,27 +148,18 @@ impl Index {
     }
 
     /// Adds a group. Refused only for want of memory, and then nothing changes.
-    pub fn push_group(
-        &mut self,
-        name: &[u8],
-        status: Status,
-        description: &[u8],
-        moment: Moment,
-    ) -> Result<(), AllocError>
-        requires { list_any (bytes_eq name.now) (heads self.old.groups) ≡ false }
-        ensures ok { OnOk result ((host : Octets) (S : Spool) → IsLawful host S
-            → MayMake S (record { name = name.now; status = status; description = description.now; moment = moment })
-            → Indexes S self.old
-            → Indexes (S ++ Change.Group (record { name = name.now; status = status; description = description.now; moment = moment }) ∷ [])
-            self.new) }
+    pub fn push_group(&mut self, group: NewGroup) -> Result<(), AllocError>
+        requires { list_any (bytes_eq group.name) (heads self.old.groups) ≡ false }
+        ensures ok { OnOk result ((host : Octets) (S : Spool) → IsLawful host S → MayMake S group → Indexes S self.old
+            → Indexes (S ++ Change.Group group ∷ []) self.new) }
         ensures err { OnErr result (self.new ≡ self.old) }
     {
         let serial = self.notes.len() as u64 + 1;
-        let group = Group::new(self.alloc, serial, name, status, description, moment)?;
+        let group = Group::new(self.alloc, serial, group);
         self.notes.reserve(1)?;
         self.latest.reserve(1)?;
         self.groups.reserve(1)?;
-        self.places.insert(name, self.groups.len() as u64)?;
+        self.places.insert(group.name(), self.groups.len() as u64)?;
         let Ok(()) = self.groups.push(group) else {
             unreachable!()
         };

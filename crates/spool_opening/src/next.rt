@@ -12,7 +12,7 @@ ghost use Rattle.spool_reading.specs.Sorted.{AreSorted};
 
 use crate::replay::{Replay, replay_article, replay_expiry, replay_group};
 use fs_blocks::Blocks;
-use model::{Moment, Status};
+use model::NewGroup;
 use spool_index::ChangePlace;
 use spool_reading::{Files, ReadSpoolError, StoredChange, file_in, read_change};
 use spool_records::{FileKind, file_name};
@@ -25,25 +25,21 @@ fn replay_named(
     files: &Files,
     replay: &mut Replay,
     at: u32,
-    name: &[u8],
-    status: Status,
-    description: &[u8],
-    moment: Moment,
+    group: NewGroup,
 ) -> Result<(), ReadSpoolError>
     requires { AreReplayed replay.old.index replay.old.places }
     ensures ok { OnOk result ((host : List ℕ) (inodes : ℕ) (blocks : List (List ℕ)) (R : Spool)
         → AreSorted (table inodes blocks) files.now.slots.items files.now.named files.now.packed
         → IsReplayed host inodes blocks replay.old.index replay.old.places R
-        → IsItsFile inodes blocks (ChangePlace.Alone at) (length R + 1)
-        (Change.Group (record { name = name.now; status = status; description = description.now; moment = moment }))
+        → IsItsFile inodes blocks (ChangePlace.Alone at) (length R + 1) (Change.Group group)
         → IsReplayed host inodes blocks replay.new.index replay.new.places
-        (R ++ Change.Group (record { name = name.now; status = status; description = description.now; moment = moment }) ∷ [])) }
+        (R ++ Change.Group group ∷ [])) }
     ensures damaged { IfErr result (λ e. e ≡ ReadSpoolError.Damaged → (host : List ℕ) (inodes : ℕ) (blocks : List (List ℕ)) (R S : Spool)
         → AreSorted (table inodes blocks) files.now.slots.items files.now.named files.now.packed
         → IsReplayed host inodes blocks replay.old.index replay.old.places R → Holds host inodes blocks S
-        → IsNext host R S
-        (Change.Group (record { name = name.now; status = status; description = description.now; moment = moment })) → ⊥) }
+        → IsNext host R S (Change.Group group) → ⊥) }
 {
+    let name = group.name.as_slice();
     let numbers = file_name(alloc, FileKind::Numbers, name)?;
     let overview = file_name(alloc, FileKind::Overview, name)?;
     let Some(first) = files.named.get(&numbers) else {
@@ -52,7 +48,7 @@ fn replay_named(
     let Some(second) = files.named.get(&overview) else {
         return Err(ReadSpoolError::Damaged);
     };
-    replay_group(replay, at, first, second, name, status, description, moment)
+    replay_group(replay, at, first, second, group)
 }
 
 /// Replays the contents of the file at a place. `Damaged` only if they are not the next change of a spool that the blocks
@@ -80,16 +76,11 @@ fn replay_said<B: Blocks>(
         → Holds host.now inodes (B.blocks blocks.now) S → IsNext host.now R S (change_of said.entry) → ⊥) }
 {
     match said {
-        StoredChange::Group {
-            name,
-            status,
-            description,
-            moment,
-        } => {
+        StoredChange::Group(group) => {
             let ChangePlace::Alone(at) = place else {
                 unreachable!()
             };
-            replay_named(alloc, files, replay, at, name, status, description, moment)
+            replay_named(alloc, files, replay, at, group)
         }
         StoredChange::Article { text, envelope } => replay_article(
             alloc, blocks, inodes, host, files, replay, place, text, envelope,

@@ -14,7 +14,7 @@ ghost use Rattle.spool_opening.specs.Stored.{IsFileAt};
 
 use crate::continued_lines::line_sizes;
 use fs_blocks::Blocks;
-use model::{Envelope, Moment, Status, Text};
+use model::{Envelope, NewGroup, Text};
 use spool_admission::{groups_here, id_of, may_expire, may_file, may_make};
 use spool_index::{ChangePlace, Index, Places};
 use spool_reading::{Files, ReadSpoolError};
@@ -57,27 +57,23 @@ pub fn replay_group(
     at: u32,
     numbers: u32,
     overview: u32,
-    name: &[u8],
-    status: Status,
-    description: &[u8],
-    moment: Moment,
+    group: NewGroup,
 ) -> Result<(), ReadSpoolError>
     requires { AreReplayed replay.old.index replay.old.places }
     ensures ok { OnOk result ((host : List ℕ) (inodes : ℕ) (blocks : List (List ℕ)) (R : Spool)
         → IsReplayed host inodes blocks replay.old.index replay.old.places R
-        → IsItsFile inodes blocks (ChangePlace.Alone at) (length R + 1)
-        (Change.Group (record { name = name.now; status = status; description = description.now; moment = moment }))
-        → ((content : List ℕ) × IsFileAt (table inodes blocks) numbers (numbers_name name.now) content)
-        → ((content : List ℕ) × IsFileAt (table inodes blocks) overview (overview_name name.now) content)
+        → IsItsFile inodes blocks (ChangePlace.Alone at) (length R + 1) (Change.Group group)
+        → ((content : List ℕ) × IsFileAt (table inodes blocks) numbers (numbers_name group.name) content)
+        → ((content : List ℕ) × IsFileAt (table inodes blocks) overview (overview_name group.name) content)
         → IsReplayed host inodes blocks replay.new.index replay.new.places
-        (R ++ Change.Group (record { name = name.now; status = status; description = description.now; moment = moment }) ∷ [])) }
+        (R ++ Change.Group group ∷ [])) }
     ensures damaged { IfErr result (λ e. e ≡ ReadSpoolError.Damaged → (S : Spool) → Indexes S replay.old.index
-        → MayMake S (record { name = name.now; status = status; description = description.now; moment = moment }) → ⊥) }
+        → MayMake S group → ⊥) }
 {
-    if !may_make(&replay.index, name, status, description, moment) {
+    if !may_make(&replay.index, &group) {
         return Err(ReadSpoolError::Damaged);
     }
-    replay.index.push_group(name, status, description, moment)?;
+    replay.index.push_group(group)?;
     replay.places.push_group(at, numbers, overview)?;
     Ok(())
 }

@@ -12,8 +12,7 @@ use Rattle.spool_reading.specs.declared.change_contents.StoredChange.TheVariants
 
 -- the change that the contents describe
 abbrev pub change_of : StoredChange → Change
-change_of (said.Group name status description moment) =
-    change.Group (record { name = name.now; status = status; description = description.now; moment = moment })
+change_of (said.Group group) = change.Group group
 change_of (said.Article text envelope) = change.Article (record { text = text.now; envelope = envelope })
 change_of (said.Expiry group number) = change.Expire (record { group = group.now; number = number })
 

@@ -6,27 +6,16 @@ ghost use Rattle.model.specs.SpoolFiles.{group_name};
 ghost use Rattle.model.specs.declared.change.Change.{Change};
 ghost use Rattle.spool_reading.specs.StoredChanges.{IsFileOf, change_of};
 
-use model::{Envelope, Moment, Status};
+use model::{Envelope, Moment, NewGroup, Status, Text};
 use spool_records::{FileKind, kind_of, read_article, read_expiry, read_group, serial_digits};
 use std::alloc::{AllocError, Global};
 
 /// The contents of a change's file.
 #[derive(Drop)]
 pub enum StoredChange<'a> {
-    Group {
-        name: &'a [u8],
-        status: Status,
-        description: &'a [u8],
-        moment: Moment,
-    },
-    Article {
-        text: &'a [u8],
-        envelope: Envelope,
-    },
-    Expiry {
-        group: &'a [u8],
-        number: u32,
-    },
+    Group(NewGroup),
+    Article { text: &'a [u8], envelope: Envelope },
+    Expiry { group: &'a [u8], number: u32 },
 }
 
 /// The contents of the file with this name, if it is that of the change with this serial and the change's moment is
@@ -43,7 +32,7 @@ pub fn read_change<'a>(
         (λ s. IsFileOf serial (change_of s) name.now content.now)) }
 {
     match kind_of(name) {
-        Some((FileKind::Group, group)) => Ok(group_said(group, content, serial)),
+        Some((FileKind::Group, group)) => group_said(alloc, group, content, serial),
         Some((FileKind::Article, digits)) => article_said(alloc, digits, content, serial),
         Some((FileKind::Expiry, digits)) => Ok(expiry_said(digits, content, serial)),
         Some((FileKind::Numbers, _)) => Ok(None),
@@ -53,29 +42,34 @@ pub fn read_change<'a>(
 }
 
 /// The contents of a group's file.
-fn group_said<'a>(group: &'a [u8], content: &'a [u8], serial: u64) -> Option<StoredChange<'a>>
-    ensures { MatchOption result
+fn group_said<'a>(
+    alloc: Global,
+    group: &'a [u8],
+    content: &'a [u8],
+    serial: u64,
+) -> Result<Option<StoredChange<'a>>, AllocError>
+    ensures { IfOk result (λ said. MatchOption said
         ((c : Change) → IsFileOf serial c (group_name group.now) content.now → ⊥)
-        (λ s. IsFileOf serial (change_of s) (group_name group.now) content.now) }
+        (λ s. IsFileOf serial (change_of s) (group_name group.now) content.now)) }
 {
     let Some(said) = read_group(content) else {
-        return None;
+        return Ok(None);
     };
     if said.serial != serial {
-        return None;
+        return Ok(None);
     }
     let Some(status) = Status::of(said.status) else {
-        return None;
+        return Ok(None);
     };
     let Some(moment) = Moment::at(said.moment) else {
-        return None;
+        return Ok(None);
     };
-    Some(StoredChange::Group {
-        name: group,
+    Ok(Some(StoredChange::Group(NewGroup {
+        name: Text::new(Vec::from_slice(alloc, group)?),
         status,
-        description: said.description,
+        description: Text::new(Vec::from_slice(alloc, said.description)?),
         moment,
-    })
+    })))
 }
 
 /// The contents of the file of an article whose name has these digits.

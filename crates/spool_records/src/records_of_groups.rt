@@ -3,10 +3,10 @@
 ghost use Rattle.std.specs.Prelude.{◌≡◌, ◌∷◌, ◌++◌, List, ℕ, IfOk, MatchOption};
 ghost use Rattle.byteorder.specs.Endian.{little_bytes};
 ghost use Rattle.model.specs.Records as model_records;
-ghost use Rattle.model.specs.Spool.{NewsGroup};
+ghost use Rattle.model.specs.Spool.{NewsGroup, news_group};
 
 use crate::cutting::{cut8, cut64};
-use model::{Moment, Status};
+use model::NewGroup;
 use std::alloc::{AllocError, Global};
 
 /// The octets of a group's record before its description.
@@ -23,28 +23,16 @@ pub struct GroupRecord<'a> {
     pub description: &'a [u8],
 }
 
-/// The record of a group.
-pub fn group_record(
-    alloc: Global,
-    serial: u64,
-    moment: Moment,
-    status: Status,
-    description: &[u8],
-) -> Result<Vec<u8>, AllocError>
-    ensures { IfOk result (λ octets. (name : List ℕ)
-        → octets.items ≡ model_records.group_record (record {
-          serial = serial;
-          name = name;
-          status = status;
-          description = description.now;
-          moment = moment;
-        })) }
+/// The record of a group, which the change with this serial makes. Refused only for want of memory.
+pub fn group_record(alloc: Global, serial: u64, group: &NewGroup) -> Result<Vec<u8>, AllocError>
+    ensures { IfOk result (λ octets. octets.items ≡ model_records.group_record (news_group serial group.now)) }
 {
+    let description = group.description.as_slice();
     let size = GROUP_HEAD.saturating_add(description.len());
     let mut octets = Vec::with_capacity(alloc, size)?;
     octets.extend_from_slice(&serial.to_le_bytes())?;
-    octets.extend_from_slice(&moment.seconds().to_le_bytes())?;
-    octets.push(status.octet())?;
+    octets.extend_from_slice(&group.moment.seconds().to_le_bytes())?;
+    octets.push(group.status.octet())?;
     octets.extend_from_slice(description)?;
     Ok(octets)
 }

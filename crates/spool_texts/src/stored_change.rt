@@ -32,5 +32,5 @@ pub fn change<B: Blocks>(
     let Some(said) = read_change(alloc, &file.name, &file.content, serial)? else {
         unreachable!()
     };
-    change_said(alloc, &said)
+    change_said(alloc, said)
 }

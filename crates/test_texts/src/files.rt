@@ -1,7 +1,7 @@
 //! Records of a spool, written and read back, and the names of their files.
 
 use crate::moments::moment_at;
-use model::{Envelope, Names, Status, Text};
+use model::{Envelope, Names, NewGroup, Status, Text};
 use spool_records::{
     ArticleRecord, FileKind, article_record, expiry_record, file_name, group_record, kind_of,
     number_record, read_article, read_expiry, read_group, serial_digits, serial_of,
@@ -90,8 +90,13 @@ fn answer_group(
     let serial = arguments.number()?;
     let moment = moment_at(arguments.number()?)?;
     let status = status_of(arguments.word()?)?;
-    let description = arguments.octets()?;
-    let record = group_record(alloc, serial, moment, status, description.as_slice())?;
+    let group = NewGroup {
+        name: Text::new(Vec::new(alloc)),
+        status,
+        description: Text::new(arguments.octets()?),
+        moment,
+    };
+    let record = group_record(alloc, serial, &group)?;
     Ok(answer.octets(record.as_slice())?)
 }
 

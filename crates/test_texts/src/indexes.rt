@@ -7,7 +7,7 @@ ghost use Rattle.spool_groups.specs.Shown.{shown};
 
 use crate::files::read_names;
 use crate::moments::moment_at;
-use model::{Envelope, Names, Status, Text};
+use model::{Envelope, Names, NewGroup, Status, Text};
 use spool_groups::Group;
 use spool_index::{Index, Note};
 use std::alloc::{AllocError, Global};
@@ -76,7 +76,7 @@ fn change(
 ) -> Result<bool, RowError> {
     let text = arguments.octets()?;
     match call {
-        "make" => make(index, text.as_slice()),
+        "make" => make(alloc, index, text.as_slice()),
         "file" => file(alloc, index, text.as_slice(), arguments),
         "file_at" => file_at(alloc, index, text.as_slice(), arguments.number()?),
         _ => expire(index, text.as_slice(), arguments.number()?),
@@ -84,11 +84,16 @@ fn change(
 }
 
 /// `make GROUP`.
-fn make(index: &mut Index, name: &[u8]) -> Result<bool, RowError> {
+fn make(alloc: Global, index: &mut Index, name: &[u8]) -> Result<bool, RowError> {
     if index.place(name).is_some() {
         return Ok(false);
     }
-    index.push_group(name, Status::Open, b"a group", moment_at(MOMENT)?)?;
+    index.push_group(NewGroup {
+        name: Text::new(Vec::from_slice(alloc, name)?),
+        status: Status::Open,
+        description: Text::new(Vec::from_slice(alloc, b"a group".as_slice())?),
+        moment: moment_at(MOMENT)?,
+    })?;
     Ok(true)
 }
 

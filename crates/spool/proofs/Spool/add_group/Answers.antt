@@ -1,14 +1,10 @@
-use Rattle.std.proofs.Common.{◌≡◌, Some, inl, inr, true, false, length, refl, ◌∙◌, sym, ap, subst, arith}
-use Rattle.std.specs.Prelude.{IsTrue}
-use Rattle.std.specs.List.{list_all}
-use Rattle.model.specs.Lawful.{is_description_octet}
-use Rattle.model.specs.Names.{is_group_name}
+use Rattle.std.proofs.Common.{◌≡◌, Some, inl, inr, true, false, refl, ◌∙◌, sym, ap, subst}
 use Rattle.model.specs.Room.{is_full}
 use Rattle.model.specs.Spool.{group_named, is_here}
-use Rattle.model.specs.Stream.{Octets}
 use Rattle.model.specs.declared.change.Change.{Change}
 use Rattle.model.specs.declared.change.Change.TheVariants.{Group}
 use Rattle.model.specs.declared.change.NewGroup.{NewGroup}
+use Rattle.model.specs.Lawful.{MayMake}
 use Rattle.model.proofs.LawfulLaws.{none_by_test}
 use Rattle.text_names.specs.Requests.{group_of}
 use Rattle.spool.specs.View.{Adds}
@@ -21,7 +17,7 @@ returns-then-is_here c =
     let name = c.args.group.now.name in
     let its : Change = Group (group_of c.args.group.now) in
     let here : is_here s.changes name ≡ true =
-    ap (is_here s.changes) (sym c.as_slice-name.ensures.value) ∙ sym c.is_here.ensures ∙ c.if-is_here.true in
+    ap (is_here s.changes) (sym c.as_slice.ensures.value) ∙ sym c.is_here.ensures ∙ c.if-is_here.true in
     (inr (group_refused s name its true (is_full s.blocks s.inodes s.changes (Some its)) here refl), refl)
 
 pub returns-then-is_full_for_group : goal.returns-then-is_full_for_group
@@ -30,33 +26,39 @@ returns-then-is_full_for_group c =
     let name = c.args.group.now.name in
     let asked : NewGroup = group_of c.args.group.now in
     let here : is_here s.changes name ≡ false =
-    ap (is_here s.changes) (sym c.as_slice-name.ensures.value) ∙ sym c.is_here.ensures ∙ c.if-is_here.false in
+    ap (is_here s.changes) (sym c.as_slice.ensures.value) ∙ sym c.is_here.ensures ∙ c.if-is_here.false in
     let full : is_full s.blocks s.inodes s.changes (Some (Group asked)) ≡ true =
     sym (c.is_full_for_group.ensures asked) ∙ c.if-is_full_for_group.true in
     (inr (group_refused s name (Group asked) false true here full), refl)
 
+pub returns-in_default : goal.returns-in_default
+returns-in_default c =
+    let s = c.args.self.now in
+    let name = c.args.group.now.name in
+    let asked : NewGroup = group_of c.args.group.now in
+    let here : is_here s.changes name ≡ false =
+    ap (is_here s.changes) (sym c.as_slice.ensures.value) ∙ sym c.is_here.ensures ∙ c.if-is_here.false in
+    let room : is_full s.blocks s.inodes s.changes (Some (Group asked)) ≡ false =
+    sym (c.is_full_for_group.ensures asked) ∙ c.if-is_full_for_group.false in
+    (inl (refl, group_refused s name (Group asked) false false here room), refl)
+
 pub push_group-requires-clause-may : goal.push_group-requires-clause-may
 push_group-requires-clause-may c =
     let s = c.args.self.now in
-    let name = c.as_slice-name.ensures in
+    let name = c.as_slice.ensures in
     let description = c.as_slice-description.ensures in
-    record {
-      is_name = subst (λ (n : Octets). IsTrue (is_group_name n)) (sym name.value) name.is;
-      new = none_by_test (group_named s.changes c.as_slice-name.result.now) (sym c.is_here.ensures ∙ c.if-is_here.false);
-      short = omega (arith, ap (λ (d : Octets). length d) description.value, description.short);
-      printable = subst (λ (d : Octets). IsTrue (list_all is_description_octet d)) (sym description.value) description.printable;
+    let here : is_here s.changes c.args.group.now.name ≡ false =
+    ap (is_here s.changes) (sym name.value) ∙ sym c.is_here.ensures ∙ c.if-is_here.false in
+    subst (MayMake s.changes) (sym c.in-Ok.ensures) (record {
+      is_name = name.is;
+      new = none_by_test (group_named s.changes c.args.group.now.name) here;
+      short = description.short;
+      printable = description.printable;
       in_time = c.seconds-seconds.ensures.limit;
-    }
+    })
 
 pub push_group-requires-clause-room : goal.push_group-requires-clause-room
-push_group-requires-clause-room c =
-    let created : NewGroup = record {
-      name = c.as_slice-name.result.now;
-      status = c.args.group.now.status;
-      description = c.as_slice-description.result.now;
-      moment = c.args.group.now.moment;
-    } in
-    sym (c.is_full_for_group.ensures created) ∙ c.if-is_full_for_group.false
+push_group-requires-clause-room c = sym (c.is_full_for_group.ensures c.in-Ok.asked) ∙ c.if-is_full_for_group.false
 
 pub returns-in-Err : goal.returns-in-Err
 returns-in-Err c =
@@ -64,34 +66,22 @@ returns-in-Err c =
     let name = c.args.group.now.name in
     let asked : NewGroup = group_of c.args.group.now in
     let here : is_here s.changes name ≡ false =
-    ap (is_here s.changes) (sym c.as_slice-name.ensures.value) ∙ sym c.is_here.ensures ∙ c.if-is_here.false in
+    ap (is_here s.changes) (sym c.as_slice.ensures.value) ∙ sym c.is_here.ensures ∙ c.if-is_here.false in
     let room : is_full s.blocks s.inodes s.changes (Some (Group asked)) ≡ false =
     sym (c.is_full_for_group.ensures asked) ∙ c.if-is_full_for_group.false in
     (inl (refl, group_refused s name (Group asked) false false here room), c.in-Err.ensures.err)
 
-pub returns-in-Ok : goal.returns-in-Ok
-returns-in-Ok c =
+pub returns-in-Ok-push_group : goal.returns-in-Ok-push_group
+returns-in-Ok-push_group c =
     let s = c.args.self.now in
     let n = c.push_group.new.self in
-    let group = c.args.group.now in
-    let asked : NewGroup = group_of group in
-    let created : NewGroup = record {
-      name = c.as_slice-name.result.now;
-      status = group.status;
-      description = c.as_slice-description.result.now;
-      moment = group.moment;
-    } in
-    let same : created ≡ asked = λ i. record {
-      name = c.as_slice-name.ensures.value i;
-      status = group.status;
-      description = c.as_slice-description.ensures.value i;
-      moment = group.moment;
-    } in
-    let adds : Adds s n (Group asked) = subst (λ (g : NewGroup). Adds s n (Group g)) same c.in-Ok.ensures.ok in
-    let here : is_here s.changes group.name ≡ false =
-    ap (is_here s.changes) (sym c.as_slice-name.ensures.value) ∙ sym c.is_here.ensures ∙ c.if-is_here.false in
+    let name = c.args.group.now.name in
+    let asked : NewGroup = group_of c.args.group.now in
+    let adds : Adds s n (Group asked) = subst (λ (g : NewGroup). Adds s n (Group g)) c.in-Ok.ensures c.in-Ok-push_group.ensures.ok in
+    let here : is_here s.changes name ≡ false =
+    ap (is_here s.changes) (sym c.as_slice.ensures.value) ∙ sym c.is_here.ensures ∙ c.if-is_here.false in
     let room : is_full s.blocks s.inodes s.changes (Some (Group asked)) ≡ false =
     sym (c.is_full_for_group.ensures asked) ∙ c.if-is_full_for_group.false in (
-      group_refused s group.name (Group asked) false false here room,
+      group_refused s name (Group asked) false false here room,
       (last_serial s n (Group asked) c.len.result adds c.len.ensures, adds),
     )

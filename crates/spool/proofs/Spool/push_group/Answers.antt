@@ -3,7 +3,6 @@ use Rattle.spool_growing.specs.Calls.{IsKnown}
 use Rattle.model.specs.Lawful.{MayMake}
 use Rattle.model.specs.declared.change.Change.{Change}
 use Rattle.model.specs.declared.change.Change.TheVariants.{Group}
-use Rattle.model.specs.declared.change.NewGroup.{NewGroup}
 use Rattle.journal_volume.specs.Volume.{VolumeView}
 use Rattle.spool.specs.View.{SpoolView}
 use Rattle.spool.proofs.Held.{added, if_err, kept_same, kept_stands, kept_view, the_changes}
@@ -33,12 +32,7 @@ returns-in_err-free-clause-err c =
 pub invariant_of-self-inside-2 : goal.invariant_of-self-inside-2
 invariant_of-self-inside-2 c =
     let s = c.self.inside in
-    let created : NewGroup = record {
-      name = c.args.name.now;
-      status = c.args.status;
-      description = c.args.description.now;
-      moment = c.args.moment;
-    } in
+    let created = c.args.group in
     let its : Change = Group created in
     let may : MayMake s.stands.changes created =
     subst (λ (x : SpoolView). MayMake x.changes created) (sym c.self.view_is) c.requires.may in
@@ -49,12 +43,7 @@ pub invariant_of-self-2 : goal.invariant_of-self-2
 invariant_of-self-2 c =
     let s = c.self.inside in
     let n = c.grow_by_group.new in
-    let created : NewGroup = record {
-      name = c.args.name.now;
-      status = c.args.status;
-      description = c.args.description.now;
-      moment = c.args.moment;
-    } in
+    let created = c.args.group in
     let its : Change = Group created in
     let may : MayMake s.stands.changes created =
     subst (λ (x : SpoolView). MayMake x.changes created) (sym c.self.view_is) c.requires.may in
@@ -66,12 +55,7 @@ pub returns-clause-ok : goal.returns-clause-ok
 returns-clause-ok c =
     let s = c.self.inside in
     let n = c.grow_by_group.new in
-    let created : NewGroup = record {
-      name = c.args.name.now;
-      status = c.args.status;
-      description = c.args.description.now;
-      moment = c.args.moment;
-    } in
+    let created = c.args.group in
     let its : Change = Group created in
     let may : MayMake s.stands.changes created =
     subst (λ (x : SpoolView). MayMake x.changes created) (sym c.self.view_is) c.requires.may in

@@ -3,6 +3,7 @@ use Rattle.std.specs.Prelude.{Some, bytes_eq}
 use Rattle.std.specs.List.{list_any}
 use Rattle.std.proofs.lemmas.List.{map_push}
 use Rattle.model.specs.Indexed.{GroupIndex, value_of}
+use Rattle.model.specs.Spool.{news_group}
 use Rattle.spool_groups.specs.Naming.{heads}
 use Rattle.spool_groups.specs.Shown.{shown}
 use Rattle.spool_groups.specs.declared.group.Group.{Group}
@@ -19,18 +20,21 @@ use Rattle.spool_index.proofs.Index.push_group.Goals as goal
 pub invariant_of-self-2 : goal.invariant_of-self-2
 invariant_of-self-2 c =
     let view : map shown c.self.inside.groups.items ≡ c.args.self.now.groups = ap (λ (x : IndexView). x.groups) c.self.view_is in
-    let name : (shown c.in_ok-group.group).group.name ≡ c.args.name.now = ap (λ (i : GroupIndex). i.group.name) c.in_ok-group.ensures in
-    let groups : c.push.new.self.items ≡ c.self.inside.groups.items ++ c.in_ok-group.group ∷ [] =
-    c.in-Ok.ensures.items ∙ ap (λ (gs : List Group). gs ++ c.in_ok-group.group ∷ []) c.in_ok-reserve-3.ensures.items in
+    let made = c.new-group.result in
+    let named : (shown made).group.name ≡ c.args.group.name = ap (λ (i : GroupIndex). i.group.name) c.new-group.ensures in
+    let name : c.name.result.now ≡ (shown made).group.name = c.name.ensures in
+    let groups : c.push.new.self.items ≡ c.self.inside.groups.items ++ made ∷ [] =
+    c.in-Ok.ensures.items ∙ ap (λ (gs : List Group). gs ++ made ∷ []) c.in_ok-reserve-3.ensures.items in
     let count : c.len-2.result ≡ length c.self.inside.groups.items =
     omega (arith, c.len-2.ensures, c.reserve-3.new.self.ok, ap (λ (gs : List Group). length gs) c.in_ok-reserve-3.ensures.items) in
     let notes : c.push-2.new.self.items ≡ c.self.inside.notes.items ++ note.Group ∷ [] =
     c.in-Ok-push.ensures.items ∙ ap (λ (ns : List Note). ns ++ note.Group ∷ []) c.in_ok-reserve.ensures.items in (
-      named_pushed shown c.self.inside.groups.items c.push.new.self.items c.in_ok-group.group c.self.inside.places c.insert.new.self
-          c.args.name.now c.self.invariant.0 groups name
-          (ap (λ (gs : List GroupIndex). list_any (bytes_eq c.args.name.now) (heads gs)) view ∙ c.requires)
+      named_pushed shown c.self.inside.groups.items c.push.new.self.items made c.self.inside.places c.insert.new.self
+          c.name.result.now c.self.invariant.0 groups (sym name)
+          (ap (λ (o : List ℕ). list_any (bytes_eq o) (heads (map shown c.self.inside.groups.items))) (name ∙ named)
+          ∙ ap (λ (gs : List GroupIndex). list_any (bytes_eq c.args.group.name) (heads gs)) view ∙ c.requires)
           (λ q. c.in_ok-insert.ensures.ok q
-          ∙ ap (λ (n : ℕ). cond (bytes_eq q c.args.name.now) (Some n) (value_of c.self.inside.places q)) count),
+          ∙ ap (λ (n : ℕ). cond (bytes_eq q c.name.result.now) (Some n) (value_of c.self.inside.places q)) count),
       subst (AreLatest c.push_latest.new.latest.items)
           (sym notes)
           (c.push_latest.ensures c.self.inside.notes.items
@@ -44,25 +48,14 @@ returns-clause-ok c = λ host S lawful may is.
     let serial : c.len.result + 1 ≡ length S + 1 =
     new_serial S c.args.self.now c.self.inside.notes.items c.len.result (ap (λ (x : IndexView). x.notes) c.self.view_is) is
     (omega (arith, c.len.ensures, c.self.inside.notes.ok)) in
-    group_indexed host S c.args.self.now _ (record {
-      name = c.args.name.now;
-      status = c.args.status;
-      description = c.args.description.now;
-      moment = c.args.moment;
-    }) (shown c.in_ok-group.group) note.Group lawful may is
+    group_indexed host S c.args.self.now _ c.args.group (shown c.new-group.result) note.Group lawful may is
     (c.in-Ok-push.ensures.items ∙ ap (λ (ns : List Note). ns ++ note.Group ∷ []) (c.in_ok-reserve.ensures.items
     ∙ ap (λ (x : IndexView). x.notes) c.self.view_is)) refl
-    (ap (map shown) (c.in-Ok.ensures.items ∙ ap (λ (gs : List Group). gs ++ c.in_ok-group.group ∷ []) c.in_ok-reserve-3.ensures.items)
-    ∙ map_push shown c.self.inside.groups.items c.in_ok-group.group
-    ∙ ap (λ (gs : List GroupIndex). gs ++ shown c.in_ok-group.group ∷ []) (ap (λ (x : IndexView). x.groups) c.self.view_is))
-    (c.in_ok-group.ensures ∙ ap (λ (n : ℕ). record {
-      group = record {
-        serial = n;
-        name = c.args.name.now;
-        status = c.args.status;
-        description = c.args.description.now;
-        moment = c.args.moment;
-      };
+    (ap (map shown) (c.in-Ok.ensures.items ∙ ap (λ (gs : List Group). gs ++ c.new-group.result ∷ []) c.in_ok-reserve-3.ensures.items)
+    ∙ map_push shown c.self.inside.groups.items c.new-group.result
+    ∙ ap (λ (gs : List GroupIndex). gs ++ shown c.new-group.result ∷ []) (ap (λ (x : IndexView). x.groups) c.self.view_is))
+    (c.new-group.ensures ∙ ap (λ (n : ℕ). record {
+      group = news_group n c.args.group;
       filed = [];
       ends = [];
       low = 1;
