@@ -1,8 +1,11 @@
-"""The edits of a crate: what each changes, and which of them one run of the prover can try.
+"""The edits of a crate: what each changes, and the texts over which it is tried.
+
+Most are tried on copies: beside a function stands a copy of it for each of its edits, under a name of its own, with the function's
+contract, the edited body and copies of its proof files. So nothing that is there changes, and one run tries all of them. The others change
+the function itself, in place, and have a run each.
 
 An edit is a file `FUNCTION.WHAT_IT_DOES.edit` with a line `file: src/lib.rt` and then pairs of lines `old: TEXT` and `new: TEXT`. Each
 old text stands exactly once in the file as the pairs before it left it."""
-import functools
 import os
 import re
 
@@ -10,11 +13,10 @@ FOLDERS = ("must-fail", "edits")
 FN = re.compile(r"( *)(?:pub(?:\([a-z]+\))? )?(?:const )?(?:unsafe )?fn (\w+)")
 BLOCK = re.compile(r"(?:unsafe )?(?:impl|(?:pub(?:\([a-z]+\))? )?trait)\b")
 CLAUSE = re.compile(r" *(?:requires|ensures|ghost|decreases)\b")
-SELF = re.compile(r"\(\s*(?:&(?:'\w+ )?)?(?:mut )?self\b")
-# a call, with what stands before its name, and a function that is handed on as a value
-CALL, VALUE = re.compile(r"(\.|::)?\b(\w+)(?:::<[^>(]*>)?\("), re.compile(r"(?<=[(,]) ?(\w+)(?=[,)])")
-# a macro that calls the `fmt` of what it writes
-FORMATTING = re.compile(r"\b(?:write|writeln|format)!")
+# what makes a function one that no copy can stand for: a name that others know it by, or a proof that it shares
+BOUND = re.compile(r"no_mangle|cycle\(")
+# what an `impl` converts, of which a check makes a part of the name of `from`, as in `FailureFromIoError::from`
+CONVERSION = re.compile(r"impl(?:<.*?>)? From<([\w:]+)")
 
 
 class Bad(Exception):
@@ -24,15 +26,15 @@ class Bad(Exception):
 class Function:
     """A function of a crate: the lines of its file from its name to its end, and the lines of its body, if it isn't only declared."""
 
-    def __init__(self, path, lines, first, owner):
-        self.path, self.first, self.owner = path, first, owner
+    def __init__(self, path, lines, first, owner, is_of_trait=False):
+        self.path, self.first, self.owner, self.is_of_trait = path, first, owner, is_of_trait
         self.indent, self.name = FN.match(lines[first]).groups()
         self.body = next(at for at in range(first, len(lines)) if self.begins_or_ends(lines, at))
         is_short = not lines[self.body].endswith("{")
         self.is_declared = lines[self.body].endswith(";")
         self.last = self.body if is_short else lines.index(self.indent + "}", self.body)
         self.code = "\n".join(lines[self.body : self.last + 1])
-        self.is_method = bool(SELF.search(" ".join(lines[first : first + 3])))
+        self.head = [it for it in lines[self.head_of(lines) : first] if not it.lstrip().startswith("//")]
 
     def begins_or_ends(self, lines, at):
         """Whether the body begins on this line, or a declaration, which has none, ends on it."""
@@ -42,20 +44,25 @@ class Function:
             return len(after) - len(after.lstrip()) <= len(self.indent)
         return line in (self.indent + "{", self.indent + "{}") or not has_clauses and line.endswith(("{", "{}", " }"))
 
+    def head_of(self, lines):
+        """The first line of the attributes and comments above it."""
+        at = self.first
+        while at and lines[at - 1].strip() and not lines[at - 1].endswith(("{", " }")) and lines[at - 1] != self.indent + "}":
+            at -= 1
+        return at
+
+    def calls_itself(self):
+        """Whether it may call itself: the wrong body of a copy would call the right one."""
+        before = {"self.", "Self::", "%s::" % self.owner} if self.owner else {""}
+        return any(re.search(r"(?<![\w.:])%s%s\(" % (re.escape(it), self.name), self.code) for it in before)
+
+    def may_be_copied(self):
+        """Whether a copy under another name can stand beside it. A method of a trait has the trait's name and contract."""
+        return not (self.is_of_trait or self.name == "main" or self.calls_itself() or BOUND.search("\n".join(self.head)))
+
     def ending(self):
         """The end of the name that a check prints: of a method `Type::name`, or `TypeTrait::name` where an impl of a trait has it."""
         return "::".join(filter(None, (self.owner or module_of(self.path), self.name)))
-
-    def calls(self, others):
-        """Those of the other functions that this one may call: at least those that it does call."""
-        called = {*CALL.findall(self.code), *(("", it) for it in VALUE.findall(self.code))}
-        if FORMATTING.search(self.code):
-            called.add((".", "fmt"))
-        return [it for it in others if it is not self and any((before, it.name) in called for before in it.ways())]
-
-    def ways(self):
-        """What may stand before its name where it is called."""
-        return (".", "::") if self.is_method else ("::",) if self.owner else ("::", "")
 
 
 def module_of(path):
@@ -64,27 +71,38 @@ def module_of(path):
     return "::".join(it for it in words if it not in ("lib", "main", "mod"))
 
 
-def owner_of(lines, first):
-    """What a check calls the block that begins on this line: `Type`, or `TypeTrait` of the impl of a trait."""
+def words_of(lines, first):
+    """The words of the block that begins on this line, without those in angle brackets and behind them."""
     last = next(at for at in range(first, len(lines)) if lines[at].endswith("{") or lines[at] == "where")
     header, before = " ".join(lines[first : last + 1]), None
     while before != header:
         header, before = re.sub(r"<[^<>]*>", "", header.replace("->", "")), header
     words = re.findall(r"(?:\w+::)*(\w+)", re.split(r"\bwhere\b|:(?!:)|\{", header)[0].replace("pub ", ""))
-    names = [it for it in words if it not in ("unsafe", "impl", "trait")]
+    return [it for it in words if it != "unsafe"]
+
+
+def owner_of(lines, first):
+    """What a check calls the block that begins on this line: `Type`, or `TypeTrait` of the impl of a trait."""
+    names = words_of(lines, first)[1:]
     return names[2] + names[0] if "for" in names[1:2] else names[0]
+
+
+def is_trait(lines, first):
+    """Whether the block that begins on this line is a trait or the impl of one."""
+    words = words_of(lines, first)
+    return "trait" in words[:1] or "for" in words[2:3]
 
 
 def functions_of(path, text):
     """The functions of a file of src/."""
-    lines, found, owner = text.split("\n"), [], None
+    lines, found, owner, is_of_trait = text.split("\n"), [], None, False
     for at, line in enumerate(lines):
         if BLOCK.match(line):
-            owner = None if line.endswith("}") else owner_of(lines, at)
+            owner, is_of_trait = (None, False) if line.endswith("}") else (owner_of(lines, at), is_trait(lines, at))
         elif line == "}":
             owner = None
         elif FN.match(line) and len(FN.match(line).group(1)) == (4 if owner else 0):
-            found.append(Function(path, lines, at, owner))
+            found.append(Function(path, lines, at, owner, bool(owner) and is_of_trait))
     return found
 
 
@@ -134,13 +152,37 @@ class Edit:
         return found
 
 
+class Copied:
+    """A copy of a function under a name of its own, with the body that an edit gives it; with no edit the function's own body."""
+
+    def __init__(self, function, name, edit=None):
+        self.function, self.name, self.edit, self.owner, self.path = function, name, edit, function.owner, function.path
+
+    def ending(self):
+        return Function.ending(self)
+
+    def lines(self, text):
+        """Its lines, made of those of the function's file."""
+        lines, changed = text.split("\n"), self.edit.lines if self.edit else {}
+        code = [changed.get(at, lines[at]) for at in range(self.function.first, self.function.last + 1)]
+        code[0] = re.sub(r"\bfn %s\b" % self.function.name, "fn " + self.name, code[0], count=1)
+        return ["", *self.function.head, *code]
+
+
 class Crate:
     """The texts, functions and edits of a crate."""
 
     def __init__(self, top, name):
         self.name, self.folder = name, os.path.join(top, "crates", name)
         self.texts = {it: text for part in ("src", "specs", "proofs") for it, text in self.files_of(part)}
-        self.functions = [it for path, text in self.texts.items() if path.endswith(".rt") for it in functions_of(path, text)]
+        found = [it for path, text in self.texts.items() if path.endswith(".rt") for it in functions_of(path, text)]
+        # a check names no declaration of a trait, which has no body
+        self.functions = [it for it in found if it.code.endswith("}")]
+        for it in self.functions:
+            above = self.texts[it.path].split("\n")[: it.first]
+            given = next(filter(None, map(CONVERSION.match, reversed(above))), None) if it.name == "from" else None
+            if given:
+                it.owner += "".join(word[0].upper() + word[1:] for word in given.group(1).split("::"))
         self.edits = [Edit(self, folder, it) for folder in FOLDERS for it in self.edits_in(folder)]
 
     def files_of(self, part):
@@ -158,49 +200,71 @@ class Crate:
         """The function whose body has this line."""
         return next((it for it in self.functions if it.path == path and it.body <= line <= it.last), None)
 
-    def controls(self, changed):
-        """A function that a run over these changed ones has to call proved: a short one, if there is one, that rests on none of them."""
-        resting, endings = self.resting, [it.ending() for it in self.functions]
-        edited = {it for edit in self.edits for it in edit.changed or ()}
-        proved = [it for it in self.functions if not it.is_declared and endings.count(it.ending()) == 1]
-        may_be = [it for it in proved if it not in changed and not resting[it] & changed]
-        return sorted(may_be, key=lambda it: (it not in edited, len(it.code)))[:1]
+    def edited(self, edit):
+        """The crate's texts, by their paths, with this edit in place."""
+        lines = self.texts[edit.file].split("\n")
+        for line, new in edit.lines.items():
+            lines[line] = new
+        return {**self.texts, edit.file: "\n".join(lines)}
 
-    @functools.cached_property
-    def resting(self):
-        """Of each function all those that it may call, directly or through others."""
-        calls = {it: it.calls(self.functions) for it in self.functions}
-        return {it: reached(it, calls) for it in self.functions}
+    def outlines(self, *whole):
+        """The crate's texts without the bodies of its functions, which no proof of another function reads. These files are whole."""
+        made = dict(self.texts)
+        for path in [it for it in made if it.endswith(".rt") and it not in whole]:
+            lines = made[path].split("\n")
+            for it in reversed([it for it in self.functions if it.path == path]):
+                # the line on which a body begins may have the function's name and types
+                del lines[it.body + 1 : it.last + 1]
+            made[path] = "\n".join(lines)
+        return made
 
-    def edited(self, edits):
-        """The crate's texts, by their paths, with these edits."""
+    def may_be_copied(self, edit):
+        """Whether an edit can be tried on a copy: it changes one function, and no other's proof rests on what is made of that one."""
+        function = min(edit.changed, key=Function.ending)
+        beside = "\n".join(text for path, text in self.texts.items() if "/%s/" % function.name not in path)
+        is_cited = re.search(r"\bRattle\.%s\.proofs\.(?:\w+\.)*%s\.[A-Z]" % (self.name, function.name), beside)
+        return len(edit.changed) == 1 and function.may_be_copied() and not is_cited
+
+    def copies(self, edits):
+        """A copy for each of these edits, and by each a control: a copy of its function as it stands, which has to be proved. Where a
+        function has no proof files, which its copy might lack, another's control may stand for it."""
+        text = "\n".join(self.texts.values())
+        stem = next(it for it in ("edit%s" % ("x" * more) for more in range(99)) if "_" + it not in text)
+        made = [Copied(min(it.changed, key=Function.ending), "", it) for it in edits]
+        for number, it in enumerate(made):
+            it.name = "%s_%s%d" % (it.function.name, stem, number)
+        controlled = {it.function for it in made if self.proofs_of(it.function)}
+        shared = min((it.function for it in made), key=lambda it: (it not in controlled, len(it.code)))
+        controls = {it: Copied(it, "%s_%s" % (it.name, stem)) for it in {shared, *controlled}}
+        return {it: controls.get(it.function, controls[shared]) for it in made}
+
+    def leaf(self, changed):
+        """A function that rests on none of these changed ones, if there is one: of those that name the fewest others the shortest."""
+        names, endings = {it.name for it in self.functions}, [it.ending() for it in self.functions]
+        named = {it: names & {*re.findall(r"\w+", it.code)} for it in self.functions}
+        above, before = {it.name for it in changed}, set()
+        while above != before:
+            above, before = above | {it.name for it in self.functions if named[it] & above}, above
+        may_be = [it for it in self.functions if it.name not in above and endings.count(it.ending()) == 1]
+        return sorted(may_be, key=lambda it: (len(named[it]), len(it.code)))[:1]
+
+    def proofs_of(self, function):
+        """The folders of a function's proof files: one, or none. A method's stands under the module that declares its type."""
+        end = "/".join(["", *function.ending().split("::")[-2 if function.owner else 0 :]])
+        found = {os.path.dirname(it) for it in self.texts if it.startswith("proofs/") and os.path.dirname("/" + it).endswith(end)}
+        return [it for it in found if function.owner or "/".join(it.split("/")[1:]) == end[1:]]
+
+    def with_copies(self, copies):
+        """The crate's texts, by their paths, with these copies and their proof files."""
         made = {path: text.split("\n") for path, text in self.texts.items()}
-        for edit in edits:
-            for line, new in edit.lines.items():
-                made[edit.file][line] = new
-        return {path: "\n".join(lines) for path, lines in made.items()}
-
-    def rounds(self, edits):
-        """These edits in lists, each for one run: no function is changed twice in it, and none rests on another that is changed."""
-        resting = self.resting
-        most = lambda edit: max(len(resting[it]) for it in edit.changed)
-        rounds = []
-        for edit in sorted(edits, key=lambda it: (-most(it), it.where)):
-            is_apart = lambda one, other: one is not other and one not in resting[other] and other not in resting[one]
-            fits = lambda them: all(is_apart(one, other) for it in them for one in it.changed for other in edit.changed)
-            place = next(filter(fits, rounds), None)
-            if place is None:
-                rounds.append([edit])
-            else:
-                place.append(edit)
-        return rounds
-
-
-def reached(first, calls):
-    """What a function leads to by these calls."""
-    found, left = set(), [first]
-    while left:
-        new = [it for it in calls[left.pop()] if it not in found]
-        found.update(new)
-        left += new
-    return found
+        for it in sorted(copies, key=lambda it: -it.function.last):
+            after = it.function.last + 1
+            made[it.path][after:after] = it.lines(self.texts[it.path])
+        found = {path: "\n".join(lines) for path, lines in made.items()}
+        for it in copies:
+            for folder in self.proofs_of(it.function):
+                to = os.path.join(os.path.dirname(folder), it.name)
+                old, new = ("Rattle.%s.%s" % (self.name, at.replace("/", ".")) for at in (folder, to))
+                for path in [one for one in self.texts if os.path.dirname(one) == folder]:
+                    found[os.path.join(to, os.path.basename(path))] = re.sub(re.escape(old) + r"(?![\w'-])", new, self.texts[path])
+        return found

@@ -10,7 +10,7 @@ IS_GONE = re.compile(r"has no field|is not in scope|has no `|was not admitted")
 UNANSWERED = re.compile(r"no proof: expected answers in .*; `\w+` did not prove `")
 # what is said of an edit, whatever other edits are tried beside it
 PROVED, GONE = "NOT REFUSED, and the crate is proved", "NOT REFUSED by a goal, as only its proof names what the edit took away"
-FINAL = (PROVED, GONE)
+NOT_TRIED = "NOT TRIED: "
 ENDED = re.compile(r"^only=\d+ proved=\d+$", re.M)
 
 
@@ -33,15 +33,15 @@ class Judgement:
         """The verdicts on these functions, and on the closures in them."""
         return {name: it for name, it in self.verdicts.items() if any(is_part(name, one) for one in functions)}
 
-    def why_not(self, edit, changed, controls):
-        """Why this run doesn't show that the edit is refused; nothing where it does. The run asked for the functions that its edits change,
-        and for controls."""
-        own, changed = self.of(edit.changed), self.of(changed)
+    def why_not(self, functions, changed, controls):
+        """Why this run doesn't show that the edit of these functions is refused; nothing where it does. The run asked for the functions
+        that its edits change, and for controls."""
+        own, changed = self.of(functions), self.of(changed)
         bad = [name for name, it in self.verdicts.items() if it != "proved" and name not in changed]
         if not self.has_ended:
-            return "NOT TRIED: " + next((it for it in self.said.split("\n") if "error" in it), self.said[-200:].strip())[:300]
+            return NOT_TRIED + next((it for it in self.said.split("\n") if "error" in it), self.said[-200:].strip())[:300]
         if not own or not all(self.of([it]) for it in controls):
-            return "NOT TRIED: the run says nothing of a function that it was asked for"
+            return NOT_TRIED + "the run says nothing of a function that it was asked for"
         if all(it == "proved" for it in own.values()):
             return PROVED
         if any(map(self.fails_itself, own)):

@@ -3,6 +3,8 @@ import functools
 import os
 import re
 import subprocess
+import threading
+import time
 
 from toolchain import keeps, loaded, path_of_rt
 
@@ -12,8 +14,16 @@ MEMORY = 2_500_000_000
 MAY_WAIT = re.compile(r"^(fn \S+: proved), may .*$", re.M)
 
 
+# the moment at which checks end, by time.monotonic(), if there is one
+ends = None
+
+
 class Missing(Exception):
     """What of the toolchain isn't there."""
+
+
+class Late(Exception):
+    """A check that hadn't ended when the time was over."""
 
 
 @functools.lru_cache(maxsize=None)
@@ -51,11 +61,20 @@ class Ran:
 
 
 def check(crate, folder, more):
-    """Checks the texts in a folder as those of the crate."""
+    """Checks the texts in a folder as those of the crate. Where the time is over before it ended it is Late."""
     rt = toolchain()
+    left = 0 if ends is None else ends - time.monotonic()
+    if left < 0:
+        raise Late
     words = [*rt.rtlib.guarded(), rt.rtlib.RATTLE, "check", *crate.words(["--jobs", "1"], keeps=False), *more]
     with subprocess.Popen(words, cwd=folder, stdin=subprocess.DEVNULL, stdout=subprocess.PIPE, stderr=subprocess.STDOUT) as running:
+        clock = threading.Timer(left, running.kill)
+        if ends is not None:
+            clock.start()
         said = MAY_WAIT.sub(r"\1", running.stdout.read().decode(errors="replace"))
         _, status, spent = os.wait4(running.pid, 0)
         running.returncode = os.waitstatus_to_exitcode(status)
+        clock.cancel()
+    if ends is not None and time.monotonic() >= ends:
+        raise Late
     return Ran(running.returncode, said, spent.ru_utime + spent.ru_stime)

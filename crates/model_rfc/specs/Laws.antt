@@ -1,0 +1,138 @@
+-- What RFC 3977 says of the answers.
+use Rattle.std.specs.Prelude.{◌≡◌, ◌⊎◌, ℕ, ◌<◌, ◌≤◌, true, false, List, [], ◌∷◌, length, map, Option, Some, None, codes, decimal, is_some}
+use Rattle.std.specs.Prelude.{◌||◌, ◌++◌, bytes_eq, take}
+use Rattle.std.specs.List.{concat, list_all}
+use mathlib.Core.List.{IsPrefix}
+use Rattle.model.specs.Stream.{Octets, line}
+use Rattle.model.specs.Calendar.{moment_limit}
+use Rattle.model.specs.Names.{is_group_name}
+use Rattle.model.specs.Replies.{greeting}
+use Rattle.model.specs.Spool.{Spool, by_number, contents, count, high, is_here, low, numbered_articles}
+use Rattle.model.specs.Answer.{answer, command_answer, new_session}
+use Rattle.model.specs.declared.command.Command.{Command}
+use Rattle.model.specs.declared.command.Command.TheVariants.{Date, Fetch, Group, Last, ListGroup, Next}
+use Rattle.model.specs.declared.command.Part.{Part}
+use Rattle.model.specs.declared.command.Range.{Range}
+use Rattle.model.specs.declared.command.Selector.TheVariants.{Id, Number}
+use Rattle.model.specs.Service.{news_service}
+use Rattle.model.specs.declared.change.Change.{Change}
+use Rattle.model.specs.declared.message.Mark.{Mark}
+use Rattle.model.specs.declared.message.Mark.TheVariants as mark
+use Rattle.model.specs.declared.message.Message.TheVariants as message
+use Rattle.model.specs.declared.session.Awaits.TheVariants as awaits
+use Rattle.model.specs.declared.session.Session.{Session}
+use Rattle.synchrony.specs.Server.{Entry, opened, sync}
+use Rattle.synchrony.specs.Synchrony.{IsExternallySynchronous}
+use Rattle.model_rfc.specs.Commands.{Asked, begins_blank, greeted, is_bad, is_one_of, plainly, row_of, words}
+use Rattle.model_rfc.specs.Grammar.{is_blank, is_printable}
+use Rattle.model_rfc.specs.Syntax.{is_keyword_in}
+use Rattle.model_rfc.specs.Reading.{IsReadSoFar, Response, read_all}
+use Rattle.model_rfc.specs.Serving.{turns_of}
+use Rattle.model_rfc.specs.Times.{IsTimeOf}
+use Rattle.model_rfc.specs.States.{AreTurns, EachMayCome, FollowsTheRfc, IsNearest, IsReader, IsReported, IsSelected, IsSpool, MayCome}
+use Rattle.model_rfc.specs.States.{MovesTo, Refuses, Stays, Turn, answered, asked, numbers_listed}
+use Rattle.model_rfc.specs.Responses.{sent}
+
+-- Each answer has the form that the RFC gives its command.
+abbrev pub AnswersFollow : Type 0
+AnswersFollow = (host : Octets) (turn : Turn) → MayCome host turn → IsReader turn.spool turn.session → FollowsTheRfc host turn
+
+-- A command that is recognized, with words that aren't its arguments, is answered 501, and nothing changes (3.2.1).
+abbrev pub BadArgumentsAre501 : Type 0
+BadArgumentsAre501 = (host : Octets) (S : Spool) (x : Session) (text : Octets) (t : ℕ) → x.awaits ≡ awaits.Line → is_bad text ≡ true →
+    Refuses x (codes "501 Syntax error") (answer host S x (message.Line text) t mark.Served)
+
+-- And a command that is recognized, with words that are its arguments, isn't answered 501, but for these lines: those with an octet that
+-- isn't SP, TAB or printable; GROUP and LISTGROUP of a name that no group can have here; NEWGROUPS and NEWNEWS, whose digits may be no
+-- date.
+abbrev pub GoodArgumentsArent501 : Type 0
+GoodArgumentsArent501 = (host : Octets) (S : Spool) (x : Session) (text word : Octets) (arguments : List Octets) (t : ℕ) →
+    x.awaits ≡ awaits.Line → begins_blank text ≡ false → words text ≡ word ∷ arguments → is_one_of 500 (row_of word).single ≡ false →
+    (row_of word).syntax arguments ≡ true → list_all (λ c. is_blank c || is_printable c) text ≡ true →
+    (is_keyword_in (codes "GROUP" ∷ codes "LISTGROUP" ∷ []) (row_of word).keyword ≡ true → list_all is_group_name (take 1 arguments)
+    ≡ true) →
+    is_keyword_in (codes "NEWGROUPS" ∷ codes "NEWNEWS" ∷ []) (row_of word).keyword ≡ false →
+    bytes_eq (take 3 (answer host S x (message.Line text) t mark.Served).reply) (codes "501") ≡ false
+
+-- A client that knows the RFC alone asked this, and these are the replies: it reads one response for each of them. Of whatever octets have
+-- come so far it reads the first responses whole, and a part of the next one is left.
+pub record KeepsStep (asked : List Asked) (replies : List Octets) : Type 0 where
+  pub responses : List Response
+  pub one_each : length responses ≡ length replies
+  pub read : read_all asked (concat replies) ≡ (responses, [])
+  pub read_so_far : (came : Octets) → IsPrefix came (concat replies) → IsReadSoFar asked replies responses came
+
+-- So it is of the greeting and any turns.
+abbrev pub ClientsKeepStep : Type 0
+ClientsKeepStep = (host : Octets) (S : Spool) (turns : List Turn) → IsSpool host S → AreTurns host S new_session turns →
+    KeepsStep (plainly greeted ∷ map asked turns) (greeting host ∷ map (λ turn. (answered host turn).reply) turns)
+
+-- So it is of what the plain server replies to a session, whatever other sessions and the operator do meanwhile.
+abbrev pub SessionsKeepStep : Type 0
+SessionsKeepStep = (host : Octets) (spool : Spool) (inputs : ℕ → Octets) (trace : List (Entry Change Mark)) (session : ℕ) →
+    let turns = turns_of host (opened (news_service host) spool inputs) trace session in
+    IsSpool host spool → EachMayCome host turns →
+    KeepsStep (plainly greeted ∷ map asked turns) ((sync (news_service host) spool inputs trace).connections session).replies
+
+-- And so it reads what was released to a session, whatever a crash left: whole responses, and at most a part of one more (docs/THEOREM.md
+-- says what is released).
+abbrev pub ReleasesAreRead : Type 0
+ReleasesAreRead = (host : Octets) (spool : Spool) (inputs : ℕ → Octets) (trace : List (Entry Change Mark)) (session : ℕ)
+    (released : ℕ → Octets) (p : ℕ) (recovered : Spool) →
+    length spool ≤ p → IsExternallySynchronous (news_service host) spool inputs trace released p recovered →
+    let turns = turns_of host (opened (news_service host) spool inputs) trace session in
+    let asked = plainly greeted ∷ map asked turns in
+    let replies = ((sync (news_service host) spool inputs trace).connections session).replies in
+    IsSpool host spool → EachMayCome host turns →
+    (keeps : KeepsStep asked replies) × IsReadSoFar asked replies keeps.responses (released session)
+
+-- The numbers of a group are as GROUP must report them (6.1.1.2).
+abbrev pub GroupsAreReported : Type 0
+GroupsAreReported = (host : Octets) (S : Spool) (g : Octets) → IsSpool host S →
+    IsReported (length (numbered_articles (contents S g))) (low S g) (high S g) (count (contents S g))
+
+-- GROUP of a group that is here selects it; of any other it is refused, and nothing changes (6.1.1.2).
+abbrev pub GroupSelects : Type 0
+GroupSelects = (host : Octets) (S : Spool) (x : Session) (t : ℕ) (g : Octets) → IsSpool host S → is_here S g ≡ true →
+    IsSelected S g [] [] (command_answer host S x t (Group g))
+
+abbrev pub GroupRefuses : Type 0
+GroupRefuses = (host : Octets) (S : Spool) (x : Session) (t : ℕ) (g : Octets) → is_here S g ≡ false →
+    Refuses x (codes "411 No such group") (command_answer host S x t (Group g))
+
+-- LISTGROUP of a group that is here, or of the selected one, lists the numbers of the range, and selects as GROUP does (6.1.2.2).
+abbrev pub ListGroupLists : Type 0
+ListGroupLists = (host : Octets) (S : Spool) (x : Session) (t : ℕ) (g : Octets) (r : Range) (asked : Option Octets) → IsSpool host S →
+    is_here S g ≡ true → (asked ≡ Some g) ⊎ ((asked ≡ None) × (x.group ≡ Some g)) →
+    IsSelected S g (codes " list follows") (sent (map decimal (numbers_listed S g r))) (command_answer host S x t (ListGroup asked r))
+
+-- By its id an article is fetched, and nothing changes (6.2.1.2). By a number that has one it becomes the current one; of any other number
+-- the command is refused, and nothing changes.
+abbrev pub ByIdStays : Type 0
+ByIdStays = (host : Octets) (S : Spool) (x : Session) (t : ℕ) (p : Part) (id : Octets) →
+    Stays x (command_answer host S x t (Fetch p (Id id)))
+
+abbrev pub ByNumberSelects : Type 0
+ByNumberSelects = (host : Octets) (S : Spool) (x : Session) (t : ℕ) (p : Part) (g : Octets) (n : ℕ) → x.group ≡ Some g →
+    ((is_some (by_number S g n) ≡ true) × Stays (record x { current = Some n }) (command_answer host S x t (Fetch p (Number n))))
+    ⊎ ((by_number S g n ≡ None) × Refuses x (codes "423 No such article number") (command_answer host S x t (Fetch p (Number n))))
+
+-- DATE tells the moment (7.1.2).
+abbrev pub DateTells : Type 0
+DateTells = (host : Octets) (S : Spool) (x : Session) (t : ℕ) → t < moment_limit →
+    (text : Octets) × ((command_answer host S x t Date).reply ≡ line (codes "111 " ++ text)) × IsTimeOf t text
+
+-- A command goes to the nearest article of the current one; where there is none, it is refused. A current number below the group's lowest
+-- counts as no current article.
+abbrev pub Moves : Command → Octets → (ℕ → ℕ → Type 0) → Type 0
+Moves command refusal Beyond = (host : Octets) (S : Spool) (x : Session) (t : ℕ) (g : Octets) (n : ℕ) → IsSpool host S → IsReader S x →
+    x.group ≡ Some g → x.current ≡ Some n → low S g ≤ n →
+    ((m : ℕ) × IsNearest S g Beyond n m × MovesTo x m (command_answer host S x t command))
+    ⊎ (((m : ℕ) → Beyond n m → by_number S g m ≡ None) × Refuses x refusal (command_answer host S x t command))
+
+-- NEXT goes up (6.1.4), and LAST down (6.1.3).
+abbrev pub NextMoves : Type 0
+NextMoves = Moves Next (codes "421 No next article") (λ n m. n < m)
+
+abbrev pub LastMoves : Type 0
+LastMoves = Moves Last (codes "422 No previous article") (λ n m. m < n)

@@ -1,0 +1,10 @@
+pub mod Grammar
+pub mod Syntax
+pub mod Commands
+pub mod Contents
+pub mod Responses
+pub mod Reading
+pub mod States
+pub mod Serving
+pub mod Times
+pub mod Laws
