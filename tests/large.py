@@ -21,7 +21,7 @@ LITTLE_MEMORY = 2 << 30
 # one group's articles with long headers, whose overview is larger than all files of a volume of 65,536 blocks
 LONG_ONES, LONG_HEADER = 37_000, 7_600
 SMALL_FILE = 65_536 * BLOCK
-# an opening of the largest volume may take so many seconds where others keep the processors busy
+# an opening of the largest volume, and an import of a hundred megabytes, may take so many seconds where others keep the processors busy
 LONG = 100
 
 
@@ -133,7 +133,7 @@ def an_overview_larger_than_every_file_of_before(volume):
     at.make_group()
     half = LONG_ONES // 2
     for first, last in ((1, half), (half + 1, LONG_ONES)):
-        done = at.run("import", at.path, given=b"".join(map(long_headed, range(first, last + 1))))
+        done = at.run("import", at.path, given=b"".join(map(long_headed, range(first, last + 1))), seconds=LONG)
         assert done.stdout.startswith(b"filed %d\n" % (last - first + 1)), done
     overview = state(at)["groups"][0]["overview"]["used"]
     print("  an overview of %d octets" % overview, flush=True)
