@@ -11,7 +11,7 @@ import tempfile
 import threading
 import time
 
-from newsd import FAULT, SECONDS, article, end_with_parent, message_id
+from newsd import FAULT, SECONDS, SECONDS_OF_WORK, article, end_with_parent, message_id
 from playing import Skipped, main, side_by_side
 from refusals import compile_library
 
@@ -42,7 +42,7 @@ class Dated:
 
     def run(self, moment, *words, given=b""):
         settings = {**os.environ, "LD_PRELOAD": self.library, "NOW": str(moment)}
-        return subprocess.run([self.volume.program, *words], input=given, capture_output=True, timeout=SECONDS, env=settings)
+        return subprocess.run([self.volume.program, *words], input=given, capture_output=True, timeout=SECONDS_OF_WORK, env=settings)
 
     def kill_after(self, seconds, moment, *words):
         """The whole lines of a command that is killed after these seconds."""

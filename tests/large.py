@@ -22,7 +22,7 @@ LITTLE_MEMORY = 2 << 30
 LONG_ONES, LONG_HEADER = 37_000, 7_600
 SMALL_FILE = 65_536 * BLOCK
 # an opening of the largest volume, and an import of a hundred megabytes, may take so many seconds where others keep the processors busy
-LONG = 100
+LONG = 240
 
 
 def state(volume, **given):

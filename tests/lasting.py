@@ -342,7 +342,7 @@ class Lived:
         assert inodes <= OTHER_FILES + POSTS * (DAYS_KEPT + 2), (day, inodes)
         before = self.spool()
         for words in (["expire", self.at.path, "--older-than", str(DAYS_KEPT)], ["renew", self.at.path, "--in-place"]):
-            done = subprocess.run([*self.dated(day), self.at.program, *words], capture_output=True, timeout=SECONDS)
+            done = subprocess.run([*self.dated(day), self.at.program, *words], capture_output=True, timeout=LONG)
             assert (done.returncode, done.stderr) == (0, b""), (day, done)
         after = self.spool()
         # what was there is there, and the expiries behind it

@@ -9,8 +9,9 @@ import traceback
 
 from newsd import Volume
 
-SECONDS_OF_A_TEST = 180
-SECONDS_OF_A_LONG_ONE = 300
+# a machine may be some times slower than the one on which the tests were written
+SECONDS_OF_A_TEST = 360
+SECONDS_OF_A_LONG_ONE = 900
 TRIES = 3
 # seconds between two tries
 PAUSE = 2
