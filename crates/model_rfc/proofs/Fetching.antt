@@ -25,7 +25,7 @@ use Rattle.model_rfc.proofs.Groups.{at_below, at_there}
 use Rattle.model_rfc.proofs.Moving.{first_of_group, shown_line}
 
 -- a number from 1 to the high has an article just where it isn't below the low
-has_article : (c : Contents) (n : ℕ) → 1 ≤ n → n ≤ length c.filed → is_some (article_at c n) ≡ nat_le c.low n
+pub has_article : (c : Contents) (n : ℕ) → 1 ≤ n → n ≤ length c.filed → is_some (article_at c n) ≡ nat_le c.low n
 has_article c n some to = elim (cases_lt n c.low) [
   | inl below ↦ ap (λ (o : Option NewsArticle). is_some o) (at_below c n below) ∙ sym (lt-leb c.low n below)
   | inr from ↦ ap (λ (o : Option NewsArticle). is_some o) (at_there c n some from to).1 ∙ sym (le-leb c.low n from)

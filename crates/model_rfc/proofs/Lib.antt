@@ -8,6 +8,7 @@ pub mod Forms
 pub mod Texts
 pub mod Parts
 pub mod Overviews
+pub mod Showing
 pub mod Headers
 pub mod Answering
 pub mod Lines
@@ -15,8 +16,11 @@ pub mod Cutting
 pub mod Sessions
 pub mod Moving
 pub mod Fetching
+pub mod OverAnswers
 pub mod Serving
 pub mod Refusing
 pub mod Taking
 pub mod Dating
+pub mod Since
+pub mod News
 pub mod Released

@@ -25,7 +25,7 @@ use Rattle.model_rfc.proofs.Blocks.{lines_of}
 use Rattle.model_rfc.proofs.Texts.{text_is}
 use Rattle.model_rfc.proofs.Words.{digit_high, digits_of, high_clean, is_other, number_of, split_joined}
 
-abbrev AllClean : List Octets → Type 0
+abbrev pub AllClean : List Octets → Type 0
 AllClean ls = list_all (list_all is_line_octet) ls ≡ true
 
 -- ---- lines without their ends
@@ -37,7 +37,7 @@ line_kept xs =
     ∙ ap (λ n. take n (line xs)) size
     ∙ take_at xs crlf (length xs) refl
 
-all_kept : (ls : List Octets) → flat_map line_text (map line ls) ≡ concat ls
+pub all_kept : (ls : List Octets) → flat_map line_text (map line ls) ≡ concat ls
 all_kept [] = refl
 all_kept (l ∷ ls) = ap (λ s. s ++ flat_map line_text (map line ls)) (line_kept l) ∙ ap (λ s. l ++ s) (all_kept ls)
 
@@ -52,7 +52,7 @@ unfolded_clean ls clean =
     ap (λ ws. list_all is_line_octet (flat_map line_text ws)) (lines_of ls clean) ∙ ap (list_all is_line_octet) (all_kept ls)
     ∙ joined_clean ls clean
 
-drop_clean : (n : ℕ) (l : Octets) → list_all is_line_octet l ≡ true → list_all is_line_octet (drop n l) ≡ true
+pub drop_clean : (n : ℕ) (l : Octets) → list_all is_line_octet l ≡ true → list_all is_line_octet (drop n l) ≡ true
 drop_clean zero l clean = clean
 drop_clean (suc n) [] clean = refl
 drop_clean (suc n) (x ∷ l) clean = drop_clean n l (and_parts (is_line_octet x) _ clean).1
@@ -156,7 +156,7 @@ prefix_within (x ∷ l) more is = by_test (is_named_octet x) l is (prefix_within
   by_test false [] found later = absurd (both_false (x == 58) found)
   by_test false (y ∷ k) found later = omega arith
 
-name_within : (l more : Octets) → begins_field (line l) ≡ true → length (name_of (line l ++ more)) + 2 ≤ length l
+pub name_within : (l more : Octets) → begins_field (line l) ≡ true → length (name_of (line l ++ more)) + 2 ≤ length l
 name_within l more is =
     let second = (and_parts (is_run_of is_visible (name_of (line l))) _ is).1 in
     let size : length (name_of (line l)) ≡ prefix_len is_named_octet (line l) =

@@ -1,19 +1,24 @@
 -- What RFC 3977 says of the answers.
 use Rattle.std.specs.Prelude.{◌≡◌, ◌⊎◌, ℕ, ◌<◌, ◌≤◌, true, false, List, [], ◌∷◌, length, map, Option, Some, None, codes, decimal, is_some}
 use Rattle.std.specs.Prelude.{◌||◌, ◌++◌, bytes_eq, take}
-use Rattle.std.specs.List.{concat, list_all}
+use Rattle.std.specs.List.{concat, list_all, list_any}
 use mathlib.Core.List.{IsPrefix}
 use Rattle.model.specs.Stream.{Octets, line}
-use Rattle.model.specs.Calendar.{moment_limit}
+use Rattle.model.specs.Calendar.{Date, IsDateAt, moment_limit}
 use Rattle.model.specs.Names.{is_group_name}
 use Rattle.model.specs.Replies.{greeting}
 use Rattle.model.specs.Spool.{Spool, by_number, contents, count, high, is_here, low, numbered_articles}
 use Rattle.model.specs.Answer.{answer, command_answer, new_session}
 use Rattle.model.specs.declared.command.Command.{Command}
-use Rattle.model.specs.declared.command.Command.TheVariants.{Date, Fetch, Group, Last, ListGroup, Next}
+use Rattle.model.specs.declared.command.Command.TheVariants.{Fetch, Group, Last, ListGroup, NewGroups, NewNews, Next, Over}
+use Rattle.model.specs.declared.command.Command.TheVariants as command
 use Rattle.model.specs.declared.command.Part.{Part}
+use Rattle.model.specs.declared.command.Part.TheVariants.{Whole}
 use Rattle.model.specs.declared.command.Range.{Range}
-use Rattle.model.specs.declared.command.Selector.TheVariants.{Id, Number}
+use Rattle.model.specs.declared.command.Selector.{Selector}
+use Rattle.model.specs.declared.command.Selector.TheVariants.{Current, Id, Number}
+use Rattle.model.specs.declared.command.Wanted.{Wanted}
+use Rattle.model.specs.declared.command.Wanted.TheVariants as wanted
 use Rattle.model.specs.Service.{news_service}
 use Rattle.model.specs.declared.change.Change.{Change}
 use Rattle.model.specs.declared.message.Mark.{Mark}
@@ -25,13 +30,15 @@ use Rattle.synchrony.specs.Server.{Entry, opened, sync}
 use Rattle.synchrony.specs.Synchrony.{IsExternallySynchronous}
 use Rattle.model_rfc.specs.Commands.{Asked, begins_blank, greeted, is_bad, is_one_of, plainly, row_of, words}
 use Rattle.model_rfc.specs.Grammar.{is_blank, is_printable}
-use Rattle.model_rfc.specs.Syntax.{is_keyword_in}
+use Rattle.model_rfc.specs.Syntax.{is_keyword_in, is_since}
 use Rattle.model_rfc.specs.Reading.{IsReadSoFar, Response, read_all}
 use Rattle.model_rfc.specs.Serving.{turns_of}
 use Rattle.model_rfc.specs.Times.{IsTimeOf}
+use Rattle.model_rfc.specs.News.{ListsGroups, ListsNews, Since}
 use Rattle.model_rfc.specs.States.{AreTurns, EachMayCome, FollowsTheRfc, IsNearest, IsReader, IsReported, IsSelected, IsSpool, MayCome}
 use Rattle.model_rfc.specs.States.{MovesTo, Refuses, Stays, Turn, answered, asked, numbers_listed}
 use Rattle.model_rfc.specs.Responses.{sent}
+use Rattle.model_rfc.specs.Overviews.{IsOverview, Overviews}
 
 -- Each answer has the form that the RFC gives its command.
 abbrev pub AnswersFollow : Type 0
@@ -117,10 +124,43 @@ ByNumberSelects = (host : Octets) (S : Spool) (x : Session) (t : ℕ) (p : Part)
     ((is_some (by_number S g n) ≡ true) × Stays (record x { current = Some n }) (command_answer host S x t (Fetch p (Number n))))
     ⊎ ((by_number S g n ≡ None) × Refuses x (codes "423 No such article number") (command_answer host S x t (Fetch p (Number n))))
 
+-- OVER by a range shows the articles of the listed numbers, each by what ARTICLE sends of it; 423 where there are none (8.3.2).
+abbrev pub RangesAreShown : Type 0
+RangesAreShown = (host : Octets) (S : Spool) (x : Session) (t : ℕ) (g : Octets) (r : Range) → IsSpool host S → x.group ≡ Some g →
+    Overviews x (λ n. command_answer host S x t (Fetch Whole (Number n))) (numbers_listed S g r)
+    (command_answer host S x t (Over (wanted.Range r)))
+
+-- OVER of one article shows the one that ARTICLE would send. It is refused just where ARTICLE is, by the same line, which is one of these
+-- (8.3.2).
+abbrev pub OneIsShown : Wanted → Selector → List Octets → Type 0
+OneIsShown which selector refusals = (host : Octets) (S : Spool) (x : Session) (t : ℕ) → IsSpool host S →
+    let article = command_answer host S x t (Fetch Whole selector) in
+    let over = command_answer host S x t (Over which) in
+    ((n : ℕ) × IsOverview x (λ m. article) (n ∷ []) over)
+    ⊎ ((refusal : Octets) × (list_any (bytes_eq refusal) refusals ≡ true) × Refuses x refusal article × Refuses x refusal over)
+
+-- By an id, and of the current article.
+abbrev pub IdsAreShown : Type 0
+IdsAreShown = (id : Octets) → OneIsShown (wanted.Id id) (Id id) (codes "430 No such article" ∷ [])
+
+abbrev pub CurrentIsShown : Type 0
+CurrentIsShown = OneIsShown wanted.Current Current (codes "412 No group selected" ∷ codes "420 No current article" ∷ [])
+
+-- NEWGROUPS and NEWNEWS of digits that their grammar has list just what is since, as seen at a moment of this date (7.3.2, 7.4.2).
+abbrev pub NewGroupsAreListed : Type 0
+NewGroupsAreListed = (host : Octets) (S : Spool) (x : Session) (t : ℕ) (today : Date) (date time : Octets) → IsDateAt t today →
+    is_since (date ∷ time ∷ []) ≡ true →
+    Since (ListsGroups S x) x today date time (command_answer host S x t (NewGroups date time))
+
+abbrev pub NewsIsListed : Type 0
+NewsIsListed = (host : Octets) (S : Spool) (x : Session) (t : ℕ) (today : Date) (wildmat date time : Octets) → IsDateAt t today →
+    is_since (date ∷ time ∷ []) ≡ true →
+    Since (ListsNews S x wildmat) x today date time (command_answer host S x t (NewNews wildmat date time))
+
 -- DATE tells the moment (7.1.2).
 abbrev pub DateTells : Type 0
 DateTells = (host : Octets) (S : Spool) (x : Session) (t : ℕ) → t < moment_limit →
-    (text : Octets) × ((command_answer host S x t Date).reply ≡ line (codes "111 " ++ text)) × IsTimeOf t text
+    (text : Octets) × ((command_answer host S x t command.Date).reply ≡ line (codes "111 " ++ text)) × IsTimeOf t text
 
 -- A command goes to the nearest article of the current one; where there is none, it is refused. A current number below the group's lowest
 -- counts as no current article.

@@ -5,6 +5,8 @@ pub mod Contents
 pub mod Responses
 pub mod Reading
 pub mod States
+pub mod Overviews
 pub mod Serving
 pub mod Times
+pub mod News
 pub mod Laws

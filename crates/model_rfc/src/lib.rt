@@ -1,6 +1,6 @@
 //! What RFC 3977 says of a server's answers, written from the RFC, each definition with its section; and that the
 //! definitions of the service (`model`) meet it. Read them in this order: Grammar, Syntax, Commands, Contents, Responses,
-//! Reading, States, Serving, Times, Laws. Each function does nothing, and its contract is the laws.
+//! Reading, States, Overviews, Serving, Times, News, Laws. Each function does nothing, and its contract is the laws.
 //!
 //! - Each answer is one response of the form that the RFC gives its command: one of the command's own codes or a generic one,
 //!   never 500 where the command is recognized; the code's arguments by their grammar, at most 512 octets; and just where the
@@ -14,6 +14,8 @@
 //!   plain server, and of what is released to it, whatever a crash left.
 //! - GROUP's numbers, the group and the article that it selects; where NEXT and LAST lead, and when they are refused; the
 //!   numbers that LISTGROUP lists; the current article after a command by id or by number; DATE's moment.
+//! - OVER's lines are what the RFC makes of the articles that ARTICLE sends: the headers that LIST OVERVIEW.FMT names, :bytes and
+//!   :lines. NEWGROUPS and NEWNEWS list just the groups and the articles that are since the date and time.
 //!
 //! The laws are of lawful spools of fewer than 2,147,483,647 changes (section 6 ends the numbers there), of messages before the
 //! year 10000, and of marks that the message may have (`MayCome`). Where the server differs from the RFC, a comment at the
@@ -22,8 +24,8 @@
 
 ghost use Rattle.model_rfc.specs.Laws.{AnswersFollow, BadArgumentsAre501, ByIdStays, ByNumberSelects, ClientsKeepStep, DateTells};
 ghost use Rattle.model_rfc.specs.Laws.{GoodArgumentsArent501, GroupRefuses, GroupSelects, GroupsAreReported};
-ghost use Rattle.model_rfc.specs.Laws.{LastMoves, ListGroupLists, NextMoves, ReleasesAreRead};
-ghost use Rattle.model_rfc.specs.Laws.{SessionsKeepStep};
+ghost use Rattle.model_rfc.specs.Laws.{CurrentIsShown, IdsAreShown, LastMoves, ListGroupLists, NewGroupsAreListed, NewsIsListed};
+ghost use Rattle.model_rfc.specs.Laws.{NextMoves, RangesAreShown, ReleasesAreRead, SessionsKeepStep};
 
 /// Each answer has the form that RFC 3977 gives its command, and a client that reads by the RFC alone keeps step.
 pub fn answers_follow_the_rfc()
@@ -51,7 +53,16 @@ pub fn articles_follow_the_rfc()
     ensures by_number { ByNumberSelects }
 {}
 
-/// DATE tells the moment, as RFC 3977 says.
+/// OVER shows the headers and the sizes of the articles that ARTICLE sends, as RFC 3977 says.
+pub fn overviews_follow_the_rfc()
+    ensures shown { RangesAreShown }
+    ensures shown_by_id { IdsAreShown }
+    ensures shown_current { CurrentIsShown }
+{}
+
+/// DATE tells the moment, and NEWGROUPS and NEWNEWS list just what is since then, as RFC 3977 says.
 pub fn dates_follow_the_rfc()
     ensures date { DateTells }
+    ensures new_groups { NewGroupsAreListed }
+    ensures news { NewsIsListed }
 {}
