@@ -21,7 +21,7 @@ LITTLE_MEMORY = 2 << 30
 # one group's articles with long headers, whose overview is larger than all files of a volume of 65,536 blocks
 LONG_ONES, LONG_HEADER = 37_000, 7_600
 SMALL_FILE = 65_536 * BLOCK
-# an opening of the largest volume, and an import of a hundred megabytes, may take so many seconds where others keep the processors busy
+# an opening of the largest volume may take so many seconds where others keep the processors busy
 LONG = 240
 
 
