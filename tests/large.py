@@ -21,8 +21,6 @@ LITTLE_MEMORY = 2 << 30
 # one group's articles with long headers, whose overview is larger than all files of a volume of 65,536 blocks
 LONG_ONES, LONG_HEADER = 37_000, 7_600
 SMALL_FILE = 65_536 * BLOCK
-# an opening of the largest volume, and an import of a hundred megabytes, may take so many seconds where others keep the processors busy
-LONG = 240
 
 
 def state(volume, **given):
@@ -93,7 +91,7 @@ def make_the_largest(path):
 
 def the_largest_volume_is_served(volume):
     before = make_the_largest(volume.path)
-    of = state(volume, most_memory=LITTLE_MEMORY, seconds=LONG)
+    of = state(volume, most_memory=LITTLE_MEMORY)
     assert of["blocks"] == {"all": MOST_BLOCKS, "used": before, "free": MOST_BLOCKS - before}, of
     assert of["inodes"] == {"all": MOST_INODES, "used": 0, "free": MOST_INODES}, of
     with volume.serve() as server, server.call() as caller:
@@ -103,7 +101,7 @@ def the_largest_volume_is_served(volume):
         print("  with 5 articles the server has %d MB" % (server.memory() >> 20), flush=True)
         assert server.memory() < LITTLE_MEMORY
         server.kill()
-    done = volume.run("dump", volume.path, seconds=LONG)
+    done = volume.run("dump", volume.path)
     assert done.stdout.startswith(b"spool 6\n"), done
 
 
@@ -133,7 +131,7 @@ def an_overview_larger_than_every_file_of_before(volume):
     at.make_group()
     half = LONG_ONES // 2
     for first, last in ((1, half), (half + 1, LONG_ONES)):
-        done = at.run("import", at.path, given=b"".join(map(long_headed, range(first, last + 1))), seconds=LONG)
+        done = at.run("import", at.path, given=b"".join(map(long_headed, range(first, last + 1))))
         assert done.stdout.startswith(b"filed %d\n" % (last - first + 1)), done
     overview = state(at)["groups"][0]["overview"]["used"]
     print("  an overview of %d octets" % overview, flush=True)

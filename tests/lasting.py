@@ -17,7 +17,7 @@ import threading
 import time
 
 from ages import DATING, DAY, FIRST, answers
-from newsd import SECONDS, Caller, article, end_with_parent, message_id
+from newsd import SECONDS, SECONDS_OF_WORK, Caller, article, end_with_parent, message_id
 from playing import Skipped, main
 from refusals import compile_library
 
@@ -36,8 +36,6 @@ SITE = {"blocks": 3072, "inodes": 192}
 OTHER_FILES = 7
 # the night of a large volume, and the days on which its articles were filed
 NIGHT, DAYS_FILED = 40, range(0, 40, 5)
-# seconds for a command on a large volume where others keep the processors busy
-LONG = 240
 
 
 # ---- a large volume
@@ -91,7 +89,7 @@ def make_large(at, count):
         at.make_group(name)
     for first in range(0, count, 5000):
         numbers = range(first, min(first + 5000, count))
-        done = at.run("import", at.path, given=b"".join(map(entry, numbers)), seconds=LONG)
+        done = at.run("import", at.path, given=b"".join(map(entry, numbers)))
         assert done.stdout.startswith(b"filed %d\n" % len(numbers)), done
     last = count - count // LEFT
     for name in GROUPS:
@@ -125,7 +123,7 @@ def asked_of(count):
 def digest(at, count):
     """Of all that the server answers. Each id was here once, so that none of them is asked for again."""
     sum_of, octets = hashlib.sha256(), 0
-    with at.serve() as server, Caller(server.port, seconds=LONG) as caller:
+    with at.serve() as server, Caller(server.port, seconds=SECONDS_OF_WORK) as caller:
         lines = "".join(line + "\r\n" for line in asked_of(count)).encode()
         sender = threading.Thread(target=caller.send, args=(lines,), daemon=True)
         sender.start()
@@ -145,7 +143,7 @@ def spool_of(at):
 
 
 def words_of(at, *words):
-    done = at.run(words[0], at.path, *words[1:], seconds=LONG)
+    done = at.run(words[0], at.path, *words[1:])
     assert (done.returncode, done.stderr) == (0, b""), (words, done)
     return done.stdout
 
@@ -247,7 +245,7 @@ class Night:
         for place, day in enumerate(DAYS_FILED):
             numbers = range(count * place // len(DAYS_FILED), count * (place + 1) // len(DAYS_FILED))
             done = subprocess.run([*self.dated(day), at.program, "import", at.path], input=b"".join(map(small_entry, numbers)),
-                                  capture_output=True, timeout=LONG)
+                                  capture_output=True, timeout=SECONDS_OF_WORK)
             assert done.stdout.startswith(b"filed %d\n" % len(numbers)), done
 
     def dated(self, day):
@@ -256,7 +254,7 @@ class Night:
     def run(self, at, *words):
         """How long a command takes."""
         start = time.monotonic()
-        done = subprocess.run([*self.dated(NIGHT), at.program, *words], capture_output=True, timeout=LONG)
+        done = subprocess.run([*self.dated(NIGHT), at.program, *words], capture_output=True, timeout=SECONDS_OF_WORK)
         assert (done.returncode, done.stderr) == (0, b""), done
         return time.monotonic() - start
 
@@ -342,7 +340,7 @@ class Lived:
         assert inodes <= OTHER_FILES + POSTS * (DAYS_KEPT + 2), (day, inodes)
         before = self.spool()
         for words in (["expire", self.at.path, "--older-than", str(DAYS_KEPT)], ["renew", self.at.path, "--in-place"]):
-            done = subprocess.run([*self.dated(day), self.at.program, *words], capture_output=True, timeout=LONG)
+            done = subprocess.run([*self.dated(day), self.at.program, *words], capture_output=True, timeout=SECONDS_OF_WORK)
             assert (done.returncode, done.stderr) == (0, b""), (day, done)
         after = self.spool()
         # what was there is there, and the expiries behind it
