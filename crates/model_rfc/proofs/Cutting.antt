@@ -9,7 +9,7 @@ use Rattle.std.proofs.lemmas.List.{length-append, take-append-drop, take-append-
 use Rattle.std.proofs.Math.Seq.{take-append-add}
 use mathlib.Core.List.{IsPrefix}
 use Rattle.model.specs.Stream.{Octets}
-use Rattle.model_rfc.specs.Laws.{KeepsStep}
+use Rattle.model_rfc.specs.Reading.{KeepsStep}
 use Rattle.model_rfc.specs.Commands.{Asked, Row, is_multi_line}
 use Rattle.model_rfc.specs.Reading.{IsReadSoFar, Response, after_cr, code_of, read_all, read_block, read_line, read_on, read_response}
 use Rattle.model_rfc.specs.Reading.{read_rest, undoubled}

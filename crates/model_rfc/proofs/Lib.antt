@@ -24,3 +24,5 @@ pub mod Dating
 pub mod Since
 pub mod News
 pub mod Released
+pub mod Marks
+pub mod Finding

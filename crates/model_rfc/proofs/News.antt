@@ -87,7 +87,7 @@ new_groups_are_listed host S x t today date time at good =
 -- ---- elements of lists
 
 -- what a filter leaves stood in the list and passes, and what passes is left
-left_there : {A : Type 0} (p : A → Bool) (xs : List A) (i : ℕ) (a : A) → slice_get (filter p xs) i ≡ Some a
+pub left_there : {A : Type 0} (p : A → Bool) (xs : List A) (i : ℕ) (a : A) → slice_get (filter p xs) i ≡ Some a
     → (p a ≡ true) × (j : ℕ) × (slice_get xs j ≡ Some a)
 left_there p [] i a is = absurd (cc)
 left_there {A} p (x ∷ xs) i a is = by_test (p x) refl i is (λ k. left_there p xs k a) where
@@ -118,7 +118,7 @@ mapped f (x ∷ xs) (suc i) b is = mapped f xs i b is
 map_there : {A B : Type 0} (f : A → B) (xs : List A) (i : ℕ) (a : A) → slice_get xs i ≡ Some a → slice_get (map f xs) i ≡ Some (f a)
 map_there f xs i a is = slice_get-map f xs i ∙ ap (λ o. option_map f o) is
 
-or_true : (b c : Bool) → c ≡ true → (b || c) ≡ true
+pub or_true : (b c : Bool) → c ≡ true → (b || c) ≡ true
 or_true true c is = refl
 or_true false c is = is
 

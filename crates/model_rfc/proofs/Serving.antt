@@ -12,7 +12,8 @@ use Rattle.model.specs.declared.message.Mark.{Mark}
 use Rattle.model.specs.declared.message.Message.{Message}
 use Rattle.model.specs.declared.session.Session.{Session}
 use Rattle.synchrony.specs.Server.{Admin, Command, Connection, Entry, run, served, step, taken}
-use Rattle.model_rfc.specs.States.{AreTurns, EachMayCome, MayCome, Turn, answered}
+use Rattle.model_rfc.specs.States.{AreTurns, EachMayCome, MayCome, answered}
+use Rattle.model_rfc.specs.Serving.{Turn}
 use Rattle.model_rfc.specs.Serving.{Server, turn_of, turns_of}
 
 abbrev pub reply_to : Octets → Turn → Octets

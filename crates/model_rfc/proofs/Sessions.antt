@@ -28,11 +28,13 @@ use Rattle.model_rfc.specs.Commands.{is_multi_line}
 use Rattle.model_rfc.specs.Contents.{content_of}
 use Rattle.model_rfc.specs.Responses.{IsBlock, IsResponse, sent, three_digits}
 use Rattle.model_rfc.specs.Reading.{Response, code_of, read_line, read_response, read_rest}
-use Rattle.model_rfc.specs.States.{AreTurns, IsReader, IsSpool, Turn, answered, asked, asked_in, can_come}
+use Rattle.model_rfc.specs.States.{AreTurns, IsReader, IsSpool, answered, can_come}
+use Rattle.model_rfc.specs.Serving.{Turn, asked, asked_in}
 use Rattle.model.specs.Service.{news_service}
 use Rattle.synchrony.specs.Server.{opened}
 use Rattle.model_rfc.specs.Serving.{Server, turns_of}
-use Rattle.model_rfc.specs.Laws.{AnswersFollow, ClientsKeepStep, KeepsStep, SessionsKeepStep}
+use Rattle.model_rfc.specs.Laws.{AnswersFollow, ClientsKeepStep, SessionsKeepStep}
+use Rattle.model_rfc.specs.Reading.{KeepsStep}
 use Rattle.model_rfc.proofs.Serving.{opened_said, opened_turns, reply_to}
 use Rattle.model_rfc.proofs.Cutting.{AreRead, keeps_step}
 use Rattle.model_rfc.proofs.Receiving.{block_read, line_read, sent_size}

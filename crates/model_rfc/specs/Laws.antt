@@ -1,13 +1,13 @@
 -- What RFC 3977 says of the answers.
 use Rattle.std.specs.Prelude.{◌≡◌, ◌⊎◌, ℕ, ◌<◌, ◌≤◌, true, false, List, [], ◌∷◌, length, map, Option, Some, None, codes, decimal, is_some}
 use Rattle.std.specs.Prelude.{◌||◌, ◌++◌, bytes_eq, take}
-use Rattle.std.specs.List.{concat, list_all, list_any}
-use mathlib.Core.List.{IsPrefix}
+use Rattle.std.specs.List.{list_all, list_any}
 use Rattle.model.specs.Stream.{Octets, line}
 use Rattle.model.specs.Calendar.{Date, IsDateAt, moment_limit}
 use Rattle.model.specs.Names.{is_group_name}
 use Rattle.model.specs.Replies.{greeting}
-use Rattle.model.specs.Spool.{Spool, by_number, contents, count, high, is_here, low, numbered_articles}
+use Rattle.model.specs.Article as article
+use Rattle.model.specs.Spool.{Spool, NewsArticle, by_number, contents, count, high, is_here, low, numbered_articles}
 use Rattle.model.specs.Answer.{answer, command_answer, new_session}
 use Rattle.model.specs.declared.command.Command.{Command}
 use Rattle.model.specs.declared.command.Command.TheVariants.{Fetch, Group, Last, ListGroup, NewGroups, NewNews, Next, Over}
@@ -28,16 +28,18 @@ use Rattle.model.specs.declared.session.Awaits.TheVariants as awaits
 use Rattle.model.specs.declared.session.Session.{Session}
 use Rattle.synchrony.specs.Server.{Entry, opened, sync}
 use Rattle.synchrony.specs.Synchrony.{IsExternallySynchronous}
-use Rattle.model_rfc.specs.Commands.{Asked, begins_blank, greeted, is_bad, is_one_of, plainly, row_of, words}
+use Rattle.model_rfc.specs.Commands.{begins_blank, greeted, is_bad, is_one_of, plainly, row_of, words}
 use Rattle.model_rfc.specs.Grammar.{is_blank, is_printable}
 use Rattle.model_rfc.specs.Syntax.{is_keyword_in, is_since}
-use Rattle.model_rfc.specs.Reading.{IsReadSoFar, Response, read_all}
-use Rattle.model_rfc.specs.Serving.{turns_of}
+use Rattle.model_rfc.specs.Reading.{IsReadSoFar, KeepsStep}
+use Rattle.model_rfc.specs.Serving.{Turn, asked, turns_of}
+use Rattle.model_rfc.specs.Marks.{EachIsMarked}
 use Rattle.model_rfc.specs.Times.{IsTimeOf}
 use Rattle.model_rfc.specs.News.{ListsGroups, ListsNews, Since}
 use Rattle.model_rfc.specs.States.{AreTurns, EachMayCome, FollowsTheRfc, IsNearest, IsReader, IsReported, IsSelected, IsSpool, MayCome}
-use Rattle.model_rfc.specs.States.{MovesTo, Refuses, Stays, Turn, answered, asked, numbers_listed}
+use Rattle.model_rfc.specs.States.{MovesTo, Refuses, Stays, answered, numbers_listed}
 use Rattle.model_rfc.specs.Responses.{sent}
+use Rattle.model_rfc.specs.Finding.{IsOfArticle}
 use Rattle.model_rfc.specs.Overviews.{IsOverview, Overviews}
 
 -- Each answer has the form that the RFC gives its command.
@@ -61,14 +63,6 @@ GoodArgumentsArent501 = (host : Octets) (S : Spool) (x : Session) (text word : O
     is_keyword_in (codes "NEWGROUPS" ∷ codes "NEWNEWS" ∷ []) (row_of word).keyword ≡ false →
     bytes_eq (take 3 (answer host S x (message.Line text) t mark.Served).reply) (codes "501") ≡ false
 
--- A client that knows the RFC alone asked this, and these are the replies: it reads one response for each of them. Of whatever octets have
--- come so far it reads the first responses whole, and a part of the next one is left.
-pub record KeepsStep (asked : List Asked) (replies : List Octets) : Type 0 where
-  pub responses : List Response
-  pub one_each : length responses ≡ length replies
-  pub read : read_all asked (concat replies) ≡ (responses, [])
-  pub read_so_far : (came : Octets) → IsPrefix came (concat replies) → IsReadSoFar asked replies responses came
-
 -- So it is of the greeting and any turns.
 abbrev pub ClientsKeepStep : Type 0
 ClientsKeepStep = (host : Octets) (S : Spool) (turns : List Turn) → IsSpool host S → AreTurns host S new_session turns →
@@ -80,6 +74,13 @@ SessionsKeepStep = (host : Octets) (spool : Spool) (inputs : ℕ → Octets) (tr
     let turns = turns_of host (opened (news_service host) spool inputs) trace session in
     IsSpool host spool → EachMayCome host turns →
     KeepsStep (plainly greeted ∷ map asked turns) ((sync (news_service host) spool inputs trace).connections session).replies
+
+-- Where each entry of a trace is marked as a server does it, each turn may come.
+abbrev pub MarkedTurnsMayCome : Type 0
+MarkedTurnsMayCome = (host : Octets) (spool : Spool) (inputs : ℕ → Octets) (trace : List (Entry Change Mark)) (session : ℕ) →
+    IsSpool host (sync (news_service host) spool inputs trace).spool →
+    EachIsMarked host (opened (news_service host) spool inputs) trace →
+    EachMayCome host (turns_of host (opened (news_service host) spool inputs) trace session)
 
 -- And so it reads what was released to a session, whatever a crash left: whole responses, and at most a part of one more (docs/THEOREM.md
 -- says what is released).
@@ -123,6 +124,23 @@ abbrev pub ByNumberSelects : Type 0
 ByNumberSelects = (host : Octets) (S : Spool) (x : Session) (t : ℕ) (p : Part) (g : Octets) (n : ℕ) → x.group ≡ Some g →
     ((is_some (by_number S g n) ≡ true) × Stays (record x { current = Some n }) (command_answer host S x t (Fetch p (Number n))))
     ⊎ ((by_number S g n ≡ None) × Refuses x (codes "423 No such article number") (command_answer host S x t (Fetch p (Number n))))
+
+-- An article that has a number in some group is found by its id (6.2.1.2).
+abbrev pub FoundById : Type 0
+FoundById = (host : Octets) (S : Spool) (x : Session) (t : ℕ) (p : Part) (g : Octets) (n : ℕ) (filed : NewsArticle) → IsSpool host S →
+    by_number S g n ≡ Some filed → IsOfArticle x p 0 filed (command_answer host S x t (Fetch p (Id (article.id filed.text))))
+
+-- One of the selected group is found by its number, and becomes the current one; and the current one is sent where none is named
+-- (6.2.1.2).
+abbrev pub FoundByNumber : Type 0
+FoundByNumber = (host : Octets) (S : Spool) (x : Session) (t : ℕ) (p : Part) (g : Octets) (n : ℕ) (filed : NewsArticle) →
+    x.group ≡ Some g → by_number S g n ≡ Some filed →
+    IsOfArticle (record x { current = Some n }) p n filed (command_answer host S x t (Fetch p (Number n)))
+
+abbrev pub CurrentIsSent : Type 0
+CurrentIsSent = (host : Octets) (S : Spool) (x : Session) (t : ℕ) (p : Part) (g : Octets) (n : ℕ) (filed : NewsArticle) →
+    x.group ≡ Some g → x.current ≡ Some n → by_number S g n ≡ Some filed →
+    IsOfArticle x p n filed (command_answer host S x t (Fetch p Current))
 
 -- OVER by a range shows the articles of the listed numbers, each by what ARTICLE sends of it; 423 where there are none (8.3.2).
 abbrev pub RangesAreShown : Type 0

@@ -1,12 +1,14 @@
 pub mod Grammar
 pub mod Syntax
 pub mod Commands
+pub mod Reading
+pub mod Serving
 pub mod Contents
 pub mod Responses
-pub mod Reading
 pub mod States
+pub mod Finding
 pub mod Overviews
-pub mod Serving
+pub mod Marks
 pub mod Times
 pub mod News
 pub mod Laws

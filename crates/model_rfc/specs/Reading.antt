@@ -4,6 +4,7 @@ use Rattle.std.specs.Prelude.{Some, None}
 use Rattle.std.specs.Prelude.{slice_get, option_map, option_and_then, bytes_eq}
 use Rattle.std.specs.List.{concat}
 use Rattle.std.specs.Str.Parse.{digits_value}
+use mathlib.Core.List.{IsPrefix}
 use Rattle.model.specs.Stream.{Octets}
 use Rattle.model_rfc.specs.Commands.{Asked, Row, is_multi_line}
 
@@ -64,3 +65,11 @@ pub record IsReadSoFar (asked : List Asked) (replies : List Octets) (responses :
   pub read : read_all asked octets ≡ (take whole responses, part)
   pub cut : (reply : Octets) → slice_get replies whole ≡ Some reply → (length part < length reply) × (part ≡ take (length part) reply)
   pub none : slice_get replies whole ≡ None → part ≡ []
+
+-- A client that knows the RFC alone asked this, and these are the replies: it reads one response for each of them. Of whatever octets have
+-- come so far it reads the first responses whole, and a part of the next one is left.
+pub record KeepsStep (asked : List Asked) (replies : List Octets) : Type 0 where
+  pub responses : List Response
+  pub one_each : length responses ≡ length replies
+  pub read : read_all asked (concat replies) ≡ (responses, [])
+  pub read_so_far : (came : Octets) → IsPrefix came (concat replies) → IsReadSoFar asked replies responses came

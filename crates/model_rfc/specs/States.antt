@@ -17,9 +17,9 @@ use Rattle.model.specs.declared.session.Answer.{Answer}
 use Rattle.model.specs.declared.session.Awaits.{Awaits}
 use Rattle.model.specs.declared.session.Awaits.TheVariants as awaits
 use Rattle.model.specs.declared.session.Session.{Session}
-use Rattle.model_rfc.specs.Commands.{Asked, asked_by, plainly, posted, too_long, transferred}
 use Rattle.model_rfc.specs.Grammar.{greatest_number}
 use Rattle.model_rfc.specs.Responses.{IsResponse}
+use Rattle.model_rfc.specs.Serving.{Turn, asked}
 
 -- ---- what may be asked
 
@@ -46,15 +46,7 @@ can_come (awaits.IhaveBlock id) m mark.Long = false
 can_come (awaits.IhaveBlock id) m mark = true
 can_come what m mark = false
 
--- a message of a session: the spool and the session that it finds, and when it comes
-pub record Turn : Type 0 where
-  pub spool : Spool
-  pub session : Session
-  pub message : Message
-  pub moment : ℕ
-  pub mark : Mark
-
--- what it is answered
+-- what a turn is answered
 abbrev pub answered : Octets → Turn → Answer
 answered host turn = answer host turn.spool turn.session turn.message turn.moment turn.mark
 
@@ -63,17 +55,6 @@ pub record MayCome (host : Octets) (turn : Turn) : Type 0 where
   pub spool : IsSpool host turn.spool
   pub moment : turn.moment < moment_limit
   pub message : can_come turn.session.awaits turn.message turn.mark ≡ true
-
--- what a message asks, where this is awaited
-abbrev pub asked_in : Awaits → Message → Asked
-asked_in awaits.Line (message.Line text) = asked_by text
-asked_in awaits.PostBlock m = plainly posted
-asked_in (awaits.IhaveBlock id) m = plainly transferred
-asked_in what m = plainly too_long
-
--- what a turn asks
-abbrev pub asked : Turn → Asked
-asked turn = asked_in turn.session.awaits turn.message
 
 -- the turns of a session, in order, from this spool on. Other sessions and the operator may make changes between two turns
 abbrev pub AreTurns : Octets → Spool → Session → List Turn → Type 0

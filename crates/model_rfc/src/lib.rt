@@ -1,6 +1,6 @@
 //! What RFC 3977 says of a server's answers, written from the RFC, each definition with its section; and that the
-//! definitions of the service (`model`) meet it. Read them in this order: Grammar, Syntax, Commands, Contents, Responses,
-//! Reading, States, Overviews, Serving, Times, News, Laws. Each function does nothing, and its contract is the laws.
+//! definitions of the service (`model`) meet it. Read them in this order: Grammar, Syntax, Commands, Reading, Serving, Contents,
+//! Responses, States, Finding, Overviews, Marks, Times, News, Laws. Each function does nothing, and its contract is the laws.
 //!
 //! - Each answer is one response of the form that the RFC gives its command: one of the command's own codes or a generic one,
 //!   never 500 where the command is recognized; the code's arguments by their grammar, at most 512 octets; and just where the
@@ -13,7 +13,8 @@
 //!   only the first octets came it reads whole responses, and a part of one more is left. So it is of each session of the
 //!   plain server, and of what is released to it, whatever a crash left.
 //! - GROUP's numbers, the group and the article that it selects; where NEXT and LAST lead, and when they are refused; the
-//!   numbers that LISTGROUP lists; the current article after a command by id or by number; DATE's moment.
+//!   numbers that LISTGROUP lists; the article that a command by id, by number or without either sends, and the current one
+//!   after it; DATE's moment.
 //! - OVER's lines are what the RFC makes of the articles that ARTICLE sends: the headers that LIST OVERVIEW.FMT names, :bytes and
 //!   :lines. NEWGROUPS and NEWNEWS list just the groups and the articles that are since the date and time.
 //!
@@ -23,9 +24,9 @@
 #![tactic(auto)]
 
 ghost use Rattle.model_rfc.specs.Laws.{AnswersFollow, BadArgumentsAre501, ByIdStays, ByNumberSelects, ClientsKeepStep, DateTells};
-ghost use Rattle.model_rfc.specs.Laws.{GoodArgumentsArent501, GroupRefuses, GroupSelects, GroupsAreReported};
-ghost use Rattle.model_rfc.specs.Laws.{CurrentIsShown, IdsAreShown, LastMoves, ListGroupLists, NewGroupsAreListed, NewsIsListed};
-ghost use Rattle.model_rfc.specs.Laws.{NextMoves, RangesAreShown, ReleasesAreRead, SessionsKeepStep};
+ghost use Rattle.model_rfc.specs.Laws.{FoundById, FoundByNumber, GoodArgumentsArent501, GroupRefuses, GroupSelects, GroupsAreReported};
+ghost use Rattle.model_rfc.specs.Laws.{CurrentIsSent, CurrentIsShown, IdsAreShown, LastMoves, ListGroupLists, MarkedTurnsMayCome};
+ghost use Rattle.model_rfc.specs.Laws.{NewGroupsAreListed, NewsIsListed, NextMoves, RangesAreShown, ReleasesAreRead, SessionsKeepStep};
 
 /// Each answer has the form that RFC 3977 gives its command, and a client that reads by the RFC alone keeps step.
 pub fn answers_follow_the_rfc()
@@ -35,6 +36,7 @@ pub fn answers_follow_the_rfc()
     ensures clients { ClientsKeepStep }
     ensures sessions { SessionsKeepStep }
     ensures released { ReleasesAreRead }
+    ensures marked { MarkedTurnsMayCome }
 {}
 
 /// GROUP, NEXT and LAST report and select as RFC 3977 says.
@@ -51,6 +53,9 @@ pub fn articles_follow_the_rfc()
     ensures listed { ListGroupLists }
     ensures by_id { ByIdStays }
     ensures by_number { ByNumberSelects }
+    ensures found_by_id { FoundById }
+    ensures found_by_number { FoundByNumber }
+    ensures current { CurrentIsSent }
 {}
 
 /// OVER shows the headers and the sizes of the articles that ARTICLE sends, as RFC 3977 says.
