@@ -55,6 +55,12 @@ fn argument<'a>(alloc: Global, word: &Word) -> Arg<'a> {
             .value_parser(value_parser!(u16).range(1..)),
         Kind::Option => argument.long(word.id),
         Kind::Repeated => argument.long(word.id).action(ArgAction::Append),
+        Kind::Rest => argument
+            .required(true)
+            .action(ArgAction::Append)
+            .num_args(1..)
+            .trailing_var_arg(true)
+            .allow_hyphen_values(true),
         Kind::LastOperand | Kind::Flag => argument,
     }
 }

@@ -26,9 +26,15 @@ pub const ALLOW: &str = "allow";
 
 pub const MOST_FROM: &str = "most-from";
 
+pub const POSTS_FROM: &str = "posts-from";
+
 pub const SESSIONS: &str = "sessions";
 
 pub const METRICS: &str = "metrics";
+
+pub const CONTROL: &str = "control";
+
+pub const LINE: &str = "line";
 
 pub const QUIET: &str = "quiet";
 
@@ -87,6 +93,8 @@ pub enum Kind {
     Repeated,
     /// As an option without a value.
     Flag,
+    /// By their places: all that follow, at least one, even such as begin with a hyphen.
+    Rest,
 }
 
 /// A subcommand.
@@ -134,7 +142,8 @@ const INODES_OF_FILE: Word = Word {
     id: INODES,
     value: "I",
     help: "Files on the volume",
-    kind: Kind::Default("8192"),
+    // the fewest of which a part is left to the operator, and in which short articles share the pack
+    kind: Kind::Default("2048"),
     grammar: Grammar::Inodes,
 };
 
@@ -188,6 +197,11 @@ const EXPIRING: &str = "\
 With NAME and N prints the serial of the change. With --older-than it makes a change for each group with such articles, and prints \
 `expire NAME N` once that change is durable; the last line, `articles COUNT`, says how many were taken out in all. What counts is when \
 an article was filed. In each group it stops before the first article that isn't older than DAYS days, whatever comes behind it.";
+
+/// What `ask` does, in short.
+const ASKING: &str = "\
+The lines are those of standard input: `newsd serve --help` has them. Status 0 where the server has done what the line asks for, \
+status 1 where it answers with a refusal, as `E12 NotFound`, and status 2 where nobody answers, or not to the end.";
 
 /// What `import` does, in short.
 const IMPORTING: &str = "\
@@ -254,7 +268,7 @@ pub const SUBCOMMANDS: &[Subcommand] = &[
             Word {
                 id: DESCRIPTION,
                 value: "DESCRIPTION",
-                help: "What it is about, at most 200 octets of ASCII",
+                help: "What it is about, at most 200 octets of ASCII; not blank",
                 kind: Kind::Operand,
                 grammar: Grammar::Description,
             },
@@ -347,9 +361,23 @@ pub const SUBCOMMANDS: &[Subcommand] = &[
                 grammar: Grammar::Seats,
             },
             Word {
+                id: POSTS_FROM,
+                value: "N",
+                help: "Reads at most so many articles a minute from one address, 1 to 1000000; further ones wait",
+                kind: Kind::Option,
+                grammar: Grammar::Articles,
+            },
+            Word {
                 id: METRICS,
                 value: "FILE",
                 help: "Writes what a monitor wants to know into this file, each 15 seconds",
+                kind: Kind::Option,
+                grammar: Grammar::Any,
+            },
+            Word {
+                id: CONTROL,
+                value: "SOCKET",
+                help: "Takes the lines of standard input at this Unix socket as well, from `newsd ask`",
                 kind: Kind::Option,
                 grammar: Grammar::Any,
             },
@@ -362,6 +390,28 @@ pub const SUBCOMMANDS: &[Subcommand] = &[
             },
         ],
         one_of: &[PORT, LISTEN, PROXIED],
+    },
+    Subcommand {
+        name: "ask",
+        about: "Asks a running server by the socket of --control, and prints its answer",
+        after_help: Some(ASKING),
+        words: &[
+            Word {
+                id: PATH,
+                value: "SOCKET",
+                help: "The socket, as `newsd serve --control` names it",
+                kind: Kind::Operand,
+                grammar: Grammar::Any,
+            },
+            Word {
+                id: LINE,
+                value: "LINE",
+                help: "A line of the operator, as in status or expire x.announce 7; each word of it may be one of its own",
+                kind: Kind::Rest,
+                grammar: Grammar::LineWord,
+            },
+        ],
+        one_of: &[],
     },
     Subcommand {
         name: "status",
