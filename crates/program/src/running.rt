@@ -93,6 +93,7 @@ fn flush<W: Write, F: Write>(status: u8, output: &mut W, faults: &mut F) -> u8 {
 /// writer that a thread keeps, and the refusal at the end to `faults`, after the last line of the log. `manager` is the name of the socket
 /// where the service manager listens, if there is one.
 pub fn serve<
+    'x,
     R: Files<File = File>
         + Net<Listener = TcpListener, Stream = TcpStream>
         + Threads
@@ -109,8 +110,8 @@ pub fn serve<
 >(
     rt: &R,
     alloc: Global,
-    service: &ServeOptions<'_>,
-    manager: Option<&str>,
+    service: &'x ServeOptions<'x>,
+    manager: Option<&'x str>,
     streams: Streams<L, A, G>,
     faults: &mut F,
 ) -> u8 {

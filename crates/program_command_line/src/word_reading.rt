@@ -7,7 +7,8 @@ use clap::error::{Error, ErrorKind};
 use program_command_table::table::{
     ALLOW, BLOCKS, CACHE, CONTROL, CRLF, DESCRIPTION, DRY_RUN, FORMAT, HOST, IN_PLACE, INODES,
     JSON, Kind, LINE, LISTEN, METRICS, MOMENT, MOST_FROM, NAME, NEW, NUMBER, OLD, OLDER_THAN, PATH,
-    PORT, POSTS_FROM, PROXIED, QUIET, SESSIONS, STATUS, SUBCOMMANDS, Subcommand, Word,
+    PORT, POSTS_FROM, PROXIED, QUIET, SESSIONS, STATUS, Subcommand, Word, first_subcommands,
+    last_subcommands, serving_subcommands,
 };
 use program_command_table::{Grammar, article_number, command_syntax, session_number};
 use program_printing::{DONE, Failure, NOT_UNDERSTOOD};
@@ -197,7 +198,19 @@ fn read_request<'a>(alloc: Global, matches: &ArgMatches<'a>) -> Result<Asked<'a>
 
 /// Refuses the first word of a subcommand that is outside its grammar, in the order of the table.
 fn check_words(alloc: Global, name: &str, words: &ArgMatches<'_>) -> Result<(), Failure> {
-    for row in SUBCOMMANDS {
+    check_rows(alloc, first_subcommands(), name, words)?;
+    check_rows(alloc, serving_subcommands(), name, words)?;
+    check_rows(alloc, last_subcommands(), name, words)
+}
+
+/// The same of a part of the table.
+fn check_rows(
+    alloc: Global,
+    rows: &[Subcommand],
+    name: &str,
+    words: &ArgMatches<'_>,
+) -> Result<(), Failure> {
+    for row in rows {
         if row.name == name {
             check_row(alloc, row, words)?;
         }

@@ -216,8 +216,23 @@ of anything else all. Numbers, message-ids and what each client is answered stay
 volume grows. The new volume is made in a file whose name ends in .part, which is renamed once all of it is on disk. Until then OLD \
 has all that it had. Prints how many articles were kept, and how many blocks and inodes are used before and after.";
 
-/// The subcommands, in the order of the help.
-pub const SUBCOMMANDS: &[Subcommand] = &[
+/// The first subcommands in the order of the help, which make a volume or change one. Functions hand the table out in parts, so that no
+/// proof of their callers reads it.
+pub fn first_subcommands() -> &'static [Subcommand] {
+    FIRST_ROWS
+}
+
+/// Those behind them, which serve a volume or ask its server.
+pub fn serving_subcommands() -> &'static [Subcommand] {
+    SERVING_ROWS
+}
+
+/// The last ones.
+pub fn last_subcommands() -> &'static [Subcommand] {
+    LAST_ROWS
+}
+
+const FIRST_ROWS: &[Subcommand] = &[
     Subcommand {
         name: "format",
         about: "Makes an empty volume in a file, in place of any file there",
@@ -312,6 +327,9 @@ pub const SUBCOMMANDS: &[Subcommand] = &[
         ],
         one_of: &[],
     },
+];
+
+const SERVING_ROWS: &[Subcommand] = &[
     Subcommand {
         name: "serve",
         about: "Serves a volume to news readers",
@@ -413,6 +431,9 @@ pub const SUBCOMMANDS: &[Subcommand] = &[
         ],
         one_of: &[],
     },
+];
+
+const LAST_ROWS: &[Subcommand] = &[
     Subcommand {
         name: "status",
         about: "Prints the state of a volume that no server serves: its blocks, its inodes and its groups",

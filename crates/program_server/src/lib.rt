@@ -104,6 +104,7 @@ pub fn serve<
 
 /// Opens a volume, listens on all endpoints, prints them, and serves.
 fn open_and_serve<
+    'x,
     R: Files<File = File>
         + Net<Listener = TcpListener, Stream = TcpStream>
         + Threads
@@ -118,8 +119,8 @@ fn open_and_serve<
 >(
     rt: &R,
     alloc: Global,
-    offer: &Offer<'_>,
-    log: &Log,
+    offer: &'x Offer<'x>,
+    log: &'x Log,
     lines: L,
     answers: A,
 ) -> Result<(), CommandError> {
@@ -128,11 +129,12 @@ fn open_and_serve<
     let opened = open_told(rt, alloc, volume.file(), log)?;
     files.begin_metrics(rt)?;
     let control = Control::at(rt, alloc, offer)?;
+    let (listener, own) = (control.listener(), &files);
     let ground = Ground {
-        offer,
-        log,
-        files: &files,
-        control: control.listener(),
+        offer: &*offer,
+        log: &*log,
+        files: own,
+        control: listener,
     };
     let outcome = listen_and_run(rt, alloc, ground, opened, &volume.counts, lines, answers);
     control.take_away(rt);

@@ -421,7 +421,10 @@ impl Writing {
                     let _ = self.under_way.recv(rt);
                 }
                 // another console's, which has a channel of its own
-                Ok(Reply::AnswerThere(_, _)) => {}
+                Ok(Reply::AnswerThere(answer, unwritten)) => {
+                    drop(answer);
+                    drop(unwritten);
+                }
                 Ok(Reply::Ends) | Err(_) => return,
             }
         }

@@ -121,25 +121,17 @@ fn next_turn(most: u32, now: u64, latest: Option<Turn>) -> Turn
     ensures later { now ≤ result.minute }
 {
     match latest {
-        Some(latest) if now <= latest.minute => after(most, latest),
+        Some(latest) if now <= latest.minute && latest.count < most => Turn {
+            minute: latest.minute,
+            count: latest.count + 1,
+        },
+        Some(latest) if now <= latest.minute => Turn {
+            minute: latest.minute.saturating_add(1),
+            count: 1,
+        },
         _ => Turn {
             minute: now,
             count: 1,
         },
-    }
-}
-
-/// The turn after this one.
-fn after(most: u32, latest: Turn) -> Turn {
-    if latest.count < most {
-        Turn {
-            minute: latest.minute,
-            count: latest.count + 1,
-        }
-    } else {
-        Turn {
-            minute: latest.minute.saturating_add(1),
-            count: 1,
-        }
     }
 }

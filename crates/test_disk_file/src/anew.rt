@@ -200,13 +200,12 @@ fn a_file_that_others_change_is_no_device(rt: HostRuntime) -> Result<(), Fail> {
     ] {
         let mut disk = FileDisk::make(&rt, path, 8, None)?;
         // its own writes are no change, and a file is looked at once it was synced
-        for _ in 0..2 {
-            assert_eq!(rt;
-                (disk.write(0, b"12"), disk.write(2, b"34")),
-                (Ok(()), Ok(()))
-            );
-            assert_eq!(rt; disk.sync(), Ok(()));
-        }
+        assert_eq!(rt;
+            (disk.write(0, b"12"), disk.write(2, b"34")),
+            (Ok(()), Ok(()))
+        );
+        assert_eq!(rt; disk.sync(), Ok(()));
+        assert_eq!(rt; (disk.write(0, b"12"), disk.sync()), (Ok(()), Ok(())));
         make_change(&rt, path, it)?;
         let (written, synced) = (disk.write(4, b"56"), disk.sync());
         let is_intact = it == Change::Nothing;
