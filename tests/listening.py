@@ -6,6 +6,7 @@ listening.py NEWSD [NAME..]"""
 import contextlib
 import os
 import re
+import select
 import shutil
 import signal
 import socket
@@ -21,6 +22,8 @@ DENIED = "502 Access denied"
 SERVER, CALLER, OTHER = "192.0.2.1", "192.0.2.7", "198.51.100.9"
 SERVER_6, CALLER_6 = "2001:db8::1", "2001:db8::7"
 SECONDS_OF_A_STOP = 10
+# more than 128, and no more than the system lets wait
+WAITING = 600
 # words that are no number of sessions
 NO_NUMBERS = ("0", "4097", "-1", "x", "", "1.5", "18446744073709551617")
 
@@ -144,6 +147,32 @@ def a_server_has_as_many_sessions_as_it_is_told(volume):
                 caller.close()
     for word in NO_NUMBERS:
         assert_no_number(volume, "--sessions", word)
+
+
+def as_many_callers_can_wait_as_may_have_sessions(volume):
+    """While the server stands still, the system lets in as many callers as may have sessions. Others would try again after a second."""
+    with open("/proc/sys/net/core/somaxconn", encoding="ascii") as most:
+        if int(most.read()) < WAITING:
+            raise Skipped("the system lets fewer callers wait")
+    port = free_port()
+    with serving(volume, ["--port", str(port), "--sessions", str(WAITING)], 1) as (process, _):
+        os.kill(process.pid, signal.SIGSTOP)
+        callers = []
+        try:
+            for _ in range(WAITING):
+                callers.append(socket.socket())
+                callers[-1].setblocking(False)
+                callers[-1].connect_ex(("127.0.0.1", port))
+            time.sleep(1)
+            waiting = select.poll()
+            for caller in callers:
+                waiting.register(caller, select.POLLOUT)
+            let_in = sum(event == select.POLLOUT for _, event in waiting.poll(0))
+            assert let_in == WAITING, let_in
+        finally:
+            os.kill(process.pid, signal.SIGCONT)
+            for caller in callers:
+                caller.close()
 
 
 def threads_are_started_as_callers_come(volume):
@@ -528,6 +557,7 @@ TESTS = [
     an_address_gets_half_of_what_is_free,
     an_address_gets_as_many_as_it_may,
     a_server_has_as_many_sessions_as_it_is_told,
+    as_many_callers_can_wait_as_may_have_sessions,
     threads_are_started_as_callers_come,
     who_calls_by_a_proxy_is_judged_by_its_own_address,
     what_is_no_line_of_a_proxy_ends_the_connection,

@@ -4,7 +4,7 @@ ghost use Rattle.std.specs.Prelude.{◌≡◌};
 ghost use Rattle.program_printing.specs.Status.{status_of};
 
 use crate::version::print_version;
-use program_changes::AgeOrder;
+use program_changes::{AgeOrder, Durable};
 use program_command_line::{
     AgedExpiry, Asked, Export, NewVolume, Renewal, ServeOptions, read_words,
 };
@@ -227,11 +227,11 @@ fn carry_out<R: Files<File = File> + Wait + Clock, I: BufRead, W: Write>(
         Asked::Simulation(plan, is_cached) => simulate(alloc, &plan, is_cached, input, output),
         Asked::Group(path, group) => {
             let serial = program_changes::group(rt, alloc, path, &group)?;
-            print_serial(serial, output)
+            print_serial(&serial, output)
         }
         Asked::Expire(path, name, number) => {
-            let serial = program_changes::expire(rt, alloc, path, &name, number)?;
-            print_serial(serial, output)
+            let serial = program_changes::expire_to(rt, alloc, path, &name, number)?;
+            print_serial(&serial, output)
         }
         Asked::ExpireOlder(asked) => expire_older(rt, alloc, asked, output),
         Asked::Dump(path) => {
@@ -286,9 +286,12 @@ fn format<R: Files<File = File>, F: Write>(
     asked: &NewVolume<'_>,
     faults: &mut F,
 ) -> Result<(), Failure> {
-    let octets = octets_at(rt, alloc, asked.path)?;
+    let Some(octets) = octets_at(rt, alloc, asked.path)? else {
+        program_files::format_new(rt, alloc, asked.path, &asked.plan)?;
+        return Ok(());
+    };
     if octets == 0 {
-        program_files::format(rt, alloc, asked.path, &asked.plan)?;
+        program_files::format_empty(rt, alloc, asked.path, &asked.plan)?;
         return Ok(());
     }
     if asked.is_new {
@@ -325,9 +328,9 @@ fn export<R: Files<File = File>, W: Write>(
     Ok(())
 }
 
-/// Prints the serial of a change.
-fn print_serial<W: Write>(serial: u64, output: &mut W) -> Result<(), Failure> {
-    Ok(writeln!(output, "{serial}")?)
+/// Prints the serial of a change that is durable.
+fn print_serial<W: Write>(serial: &Durable<u64>, output: &mut W) -> Result<(), Failure> {
+    Ok(writeln!(output, "{}", serial.get())?)
 }
 
 /// The group that a word names.

@@ -134,7 +134,8 @@ const INODES_OF_FILE: Word = Word {
     id: INODES,
     value: "I",
     help: "Files on the volume",
-    kind: Kind::Default("8192"),
+    // the fewest of which a part is left to the operator, and in which short articles share the pack
+    kind: Kind::Default("2048"),
     grammar: Grammar::Inodes,
 };
 
@@ -254,7 +255,7 @@ pub const SUBCOMMANDS: &[Subcommand] = &[
             Word {
                 id: DESCRIPTION,
                 value: "DESCRIPTION",
-                help: "What it is about, at most 200 octets of ASCII",
+                help: "What it is about, at most 200 octets of ASCII; not blank",
                 kind: Kind::Operand,
                 grammar: Grammar::Description,
             },

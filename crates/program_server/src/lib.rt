@@ -7,7 +7,8 @@ ghost use Rattle.journal.specs.Journal.{IsIdle, IsReady};
 mod progress;
 
 use crate::progress::open_told;
-use disk_file::Counts;
+use disk_causes::Cause;
+use disk_file::{Counts, FileError};
 use journal::Journal;
 use kernel::{Kernel, Opened};
 use kernel_locked::Locked;
@@ -15,21 +16,25 @@ use kernel_shared::NoHooks;
 use model::Moment;
 use program_files::{VolumeDisk, VolumeFile, new_counts};
 use program_printing::CommandError;
-use server::{Limits, MetricsFile, ServeError, Server};
+use server::{Limits, MetricsFile, NoMetrics, ServeError, ServedFile, Server};
 use server_flusher::TurnSeat;
 use server_logging::{Log, Verbosity, beginning_of_1970};
 use server_mark::{Mark, Seat};
 use session_lookups::LookUps;
 use std::alloc::{AllocError, Global};
 use std::fs::File;
-use std::io::{BufRead, Write};
+use std::io::{BufRead, ErrorKind, Write};
 use std::net::{Net, SocketAddr, TcpListener, TcpStream};
+use std::os::fd::AsRawFd;
 use std::rt::Files;
 use std::sync::{Arc, Wait};
 use std::thread::Threads;
 use std::time::Clock;
 use text_networks::Network;
 use volume_usage::{BitmapMarks, Tally, VolumeFacts};
+
+/// So many callers can wait to be accepted at least.
+const LEAST_WAITING: i32 = 128;
 
 /// What is asked of a server.
 #[derive(Clone, Copy)]
@@ -109,19 +114,18 @@ fn open_and_serve<
     mut answers: A,
 ) -> Result<(), CommandError> {
     let volume = OwnVolume::new(alloc, offer)?;
+    let files = OwnFiles::at(rt, alloc, offer)?;
     let opened = open_told(rt, alloc, volume.file(), log)?;
-    let metrics = metrics_file(rt, alloc, offer.metrics)?;
-    let listeners = listen(rt, alloc, offer.endpoints)?;
-    let proxied = listen(rt, alloc, offer.proxied)?;
-    announce(offer, &mut answers)?;
+    files.begin_metrics(rt)?;
+    let listening = Listening::at(rt, alloc, offer, &mut answers)?;
     let entrance = Entrance {
-        listeners: listeners.as_slice(),
-        proxied: proxied.as_slice(),
+        listeners: listening.direct.as_slice(),
+        proxied: listening.proxied.as_slice(),
         networks: offer.networks,
         sessions: offer.sessions,
         most_from: offer.most_from,
         log,
-        metrics: &metrics,
+        files: &files,
     };
     let outcome = run(rt, alloc, entrance, opened, &volume.counts, lines, answers);
     volume.file().outcome(outcome)
@@ -163,30 +167,97 @@ struct Entrance<'a> {
     sessions: usize,
     most_from: Option<usize>,
     log: &'a Log,
-    metrics: &'a Option<MetricsFile>,
+    files: &'a OwnFiles,
 }
 
-/// The file for a monitor. It is made empty, so that a file that can't be written is refused before anybody is served.
-fn metrics_file<R: Files<File = File>>(
-    rt: &R,
-    alloc: Global,
-    path: Option<&str>,
-) -> Result<Option<MetricsFile>, CommandError> {
-    let Some(path) = path else {
-        return Ok(None);
-    };
-    let file = MetricsFile::at(alloc, path)?;
-    match file.put(rt, b"") {
-        Ok(()) => Ok(Some(file)),
-        Err(error) => Err(CommandError::NoMetrics(error)),
+/// The files that a server looks at or writes beside the device of its volume.
+#[derive(Drop)]
+struct OwnFiles {
+    /// The file of the volume.
+    served: ServedFile,
+    /// The file for a monitor, if one is asked for.
+    metrics: Option<MetricsFile>,
+}
+
+impl OwnFiles {
+    /// Looks at the file of the volume, before it is opened, and at what stands where the file for a monitor is to be. Refused where there is
+    /// no volume, and where the file for a monitor may be something else. Nothing is written.
+    fn at<R: Files<File = File>>(
+        rt: &R,
+        alloc: Global,
+        offer: &Offer<'_>,
+    ) -> Result<OwnFiles, CommandError> {
+        let served = match ServedFile::at(rt, alloc, offer.path) {
+            Ok(served) => served,
+            Err(error) if error.kind() == ErrorKind::OutOfMemory => {
+                return Err(CommandError::Memory);
+            }
+            Err(error) => return Err(CommandError::NoDevice(FileError::of(error.kind()))),
+        };
+        let metrics = match offer.metrics {
+            Some(path) => Some(metrics_file(rt, alloc, path, offer.path)?),
+            None => None,
+        };
+        Ok(OwnFiles { served, metrics })
+    }
+
+    /// Makes the file for a monitor empty, so that one that can't be written is refused before anybody is served.
+    fn begin_metrics<R: Files<File = File>>(&self, rt: &R) -> Result<(), CommandError> {
+        let Some(file) = &self.metrics else {
+            return Ok(());
+        };
+        match file.put(rt, b"") {
+            Ok(()) => Ok(()),
+            Err(error) => Err(CommandError::NoMetrics(error)),
+        }
     }
 }
 
-/// Listens on all endpoints. The refusal names the first on which that fails.
+/// The file for a monitor. It is refused if it may be something else.
+fn metrics_file<R: Files<File = File>>(
+    rt: &R,
+    alloc: Global,
+    path: &str,
+    volume: &str,
+) -> Result<MetricsFile, CommandError> {
+    let file = MetricsFile::at(alloc, path)?;
+    match file.may_be_put(rt, volume) {
+        Ok(()) => Ok(file),
+        Err(NoMetrics::Volume) => Err(CommandError::MetricsOverVolume),
+        Err(NoMetrics::Irregular) => Err(CommandError::MetricsIrregular),
+        Err(NoMetrics::Foreign) => Err(CommandError::MetricsForeign),
+    }
+}
+
+/// The listeners of a server.
+#[derive(Drop)]
+struct Listening {
+    direct: Vec<TcpListener>,
+    proxied: Vec<TcpListener>,
+}
+
+impl Listening {
+    /// Listens on all endpoints of an offer, and prints them.
+    fn at<R: Net<Listener = TcpListener, Stream = TcpStream>, A: Write>(
+        rt: &R,
+        alloc: Global,
+        offer: &Offer<'_>,
+        answers: &mut A,
+    ) -> Result<Listening, CommandError> {
+        let direct = listen(rt, alloc, offer.endpoints, offer.sessions)?;
+        let proxied = listen(rt, alloc, offer.proxied, offer.sessions)?;
+        announce(offer, answers)?;
+        Ok(Listening { direct, proxied })
+    }
+}
+
+/// Listens on all endpoints. As many callers as may have sessions can wait to be accepted, where the system allows it. The refusal
+/// names the first endpoint on which that fails.
 fn listen<R: Net<Listener = TcpListener, Stream = TcpStream>>(
     rt: &R,
     alloc: Global,
     endpoints: &[SocketAddr],
+    sessions: usize,
 ) -> Result<Vec<TcpListener>, CommandError> {
     let mut listeners = Vec::with_capacity(alloc, endpoints.len())?;
     for endpoint in endpoints {
@@ -194,6 +265,11 @@ fn listen<R: Net<Listener = TcpListener, Stream = TcpStream>>(
             Ok(listener) => listener,
             Err(error) => return Err(CommandError::NotBound(*endpoint, error)),
         };
+        // `bind` has made room for 128
+        let waiting = i32::try_from(sessions)
+            .unwrap_or(i32::MAX)
+            .max(LEAST_WAITING);
+        let _ = libc::net::listen(listener.as_raw_fd(), waiting);
         if listeners.push(listener).is_err() {
             return Err(CommandError::Memory);
         }
@@ -340,11 +416,13 @@ fn serve_parts<
         newest,
         hooks: &NoHooks,
         limits: Limits::standard(),
-        metrics: entrance.metrics.as_ref(),
+        metrics: entrance.files.metrics.as_ref(),
+        file: Some(&entrance.files.served),
     };
     match server::serve(rt, alloc, server, lines, answers) {
         Ok(()) => Ok(()),
         Err(ServeError::Fault) => Err(CommandError::Fault),
+        Err(ServeError::Replaced) => Err(CommandError::Failed(Cause::Replaced)),
         Err(ServeError::Memory) => Err(CommandError::Memory),
         Err(ServeError::Halted) => Err(CommandError::Halted),
     }

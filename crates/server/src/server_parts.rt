@@ -3,7 +3,7 @@
 ghost use Rattle.std.specs.Prelude.{◌≡◌};
 ghost use Rattle.journal.specs.Journal.{IsIdle};
 
-use crate::MetricsFile;
+use crate::{MetricsFile, ServedFile};
 use disk::Disk;
 use journal::Journal;
 use model::Moment;
@@ -48,6 +48,8 @@ pub struct Server<'a, D: Disk, K, H> {
     pub limits: Limits,
     /// The file that is written for a monitor, if there is one.
     pub metrics: Option<&'a MetricsFile>,
+    /// The file of the volume, if the volume is in one that others may replace.
+    pub file: Option<&'a ServedFile>,
     ghost idle: { IsIdle journal },
     ghost flushes: { flush_seat.mark ≡ mark.now },
     ghost looks: { seat.mark ≡ mark.now },
@@ -62,6 +64,9 @@ pub enum ServeError {
     /// Memory, a thread or a descriptor was refused before the start.
     #[error("E2 Memory")]
     Memory,
+    /// The path of the volume's file names another one or none, or the file has another length.
+    #[error("E1 Fault")]
+    Replaced,
     /// The journal or the kernel was halted before.
     #[error("E4 Halted")]
     Halted,

@@ -3,7 +3,7 @@
 ghost use Rattle.std.specs.Prelude.{◌≡◌};
 ghost use Rattle.journal.specs.Journal.{IsIdle};
 
-use crate::monitoring::{Monitor, Written, write, write_all};
+use crate::monitoring::{Monitor, Watch};
 use crate::staff::{Recruiter, Staff, Started, Wanted};
 use crate::{ServeError, Server};
 use crossbeam_channel::{Receiver, Sender, bounded};
@@ -23,6 +23,7 @@ use std::fs::File;
 use std::io::{BufRead, Write};
 use std::net::{Net, TcpListener, TcpStream};
 use std::rt::Files;
+use std::sync::atomic::Ordering;
 use std::sync::{Mutex, Wait};
 use std::thread::{self, JoinHandle, Scope, Threads};
 use std::time::{Clock, Duration, Instant};
@@ -39,6 +40,8 @@ const LAST_CALL_SECS: u64 = 5;
 /// flusher is refused. Then callers get the reply that the service ends, what is durable is released, all threads end,
 /// and the result says why: `Ok` after a stop. After a refusal the server ends with the next caller that is let in, once
 /// the operator asks for it, or after some seconds; a stop that the operator asked for before waits for no caller either.
+/// `Replaced` if the path of the volume's file names another one or none, or the file has another length, which is looked for at the
+/// start, every fifteen seconds, at each line `status` and at the end; nothing is acknowledged from then on.
 pub fn serve<
     R: Files<File = File>
         + Net<Listener = TcpListener, Stream = TcpStream>
@@ -81,6 +84,7 @@ pub fn serve<
         hooks,
         limits,
         metrics,
+        file,
     } = server;
     let guests = Guests::new(alloc, sessions, most_from)?;
     let doors = Doors::new(alloc, listeners, proxied, networks, guests).ok_or(ServeError::Memory)?;
@@ -131,6 +135,7 @@ pub fn serve<
         }),
         None => None,
     };
+    let watch = Watch::new(file, monitor, log);
     let started = Mutex::new(Started::none());
     let recruiting = Mutex::new(());
     let hall = Hall {
@@ -142,11 +147,11 @@ pub fn serve<
         doors: &doors,
         verdicts,
         log,
-        monitor,
+        watch: &watch,
     };
     let outcome = run_and_watch(&hall, flusher, looker, caller);
-    if let Some(monitor) = monitor {
-        write(&shared, monitor, &mut Written::nothing());
+    if watch.is_replaced.load(Ordering::SeqCst) {
+        return Err(ServeError::Replaced);
     }
     outcome
 }
@@ -167,9 +172,6 @@ pub(crate) struct Channels {
     pub(crate) parting: Sender<Parting>,
     partings: Receiver<Parting>,
     operator: Operator,
-    /// It is sent to once the monitor is to be told no more.
-    unwatched: Sender<()>,
-    watched: Receiver<()>,
     /// How many sessions are to have threads, and whether they have.
     pub(crate) wanted: Sender<Wanted>,
     pub(crate) asked: Receiver<Wanted>,
@@ -185,7 +187,6 @@ impl Channels {
         operator: Operator,
     ) -> Result<Channels, AllocError> {
         let (parting, partings) = bounded(alloc, FAREWELLS)?;
-        let (unwatched, watched) = bounded(alloc, 1)?;
         let (wanted, asked) = bounded(alloc, 1)?;
         let (staffed, told) = bounded(alloc, 1)?;
         Ok(Channels {
@@ -193,8 +194,6 @@ impl Channels {
             parting,
             partings,
             operator,
-            unwatched,
-            watched,
             wanted,
             asked,
             staffed,
@@ -215,7 +214,7 @@ pub(crate) struct Hall<'a, R, K, H> {
     pub(crate) doors: &'a Doors<'a>,
     pub(crate) verdicts: Verdicts<'a>,
     pub(crate) log: &'a Log,
-    pub(crate) monitor: Option<Monitor<'a>>,
+    pub(crate) watch: &'a Watch<'a>,
 }
 
 impl<'a, R, K, H> Drop for Hall<'a, R, K, H> {
@@ -229,7 +228,7 @@ impl<'a, R, K, H> Drop for Hall<'a, R, K, H> {
             doors: _,
             verdicts: _,
             log: _,
-            monitor: _,
+            watch: _,
         } = self;
     }
 }
@@ -265,8 +264,8 @@ impl Parts {
     }
 }
 
-/// Runs all threads except the two that wait for the operator. If a monitor is told of the server, the calling thread writes
-/// for it meanwhile: of all threads it alone may make files.
+/// Runs all threads except the two that wait for the operator. If there is something to watch, the calling thread does that
+/// meanwhile: of all threads it alone may look at files and make them.
 fn run_and_watch<
     'a,
     R: Files<File = File>
@@ -284,18 +283,19 @@ fn run_and_watch<
     looker: Looker<'a>,
     caller: Sender<Caller>,
 ) -> Result<(), ServeError> {
-    let Some(monitor) = hall.monitor else {
+    let watch = hall.watch;
+    if watch.file.is_none() && watch.monitor.is_none() {
         return run(hall, flusher, looker, caller);
-    };
+    }
     let rt = hall.shared.rt;
     let (outcome, ()) = thread::join(
         rt,
         move || {
             let outcome = run(hall, flusher, looker, caller);
-            let _ = hall.channels.unwatched.try_send(rt, ());
+            watch.end(hall.shared);
             outcome
         },
-        || write_all(hall.shared, monitor, &hall.channels.watched),
+        || watch.look_all(hall.shared),
     );
     outcome
 }
@@ -458,7 +458,7 @@ fn flush<R: Wait + Clock, D: Disk + Drop, K: Kern, H: Hooks>(
     match end {
         FlusherEnd::Stopped => Ok(()),
         FlusherEnd::Failed(error) => {
-            hall.log.note(*rt, event_of(error, tally));
+            hall.watch.tell(*rt, event_of(error, tally));
             Err(ServeError::from(error))
         }
     }
@@ -483,11 +483,17 @@ fn give_up<R: Wait, D: Disk + Drop, K: Kern, H>(
 }
 
 /// Wakes the threads that wait for the flusher. The acceptors and the operator's thread go on: they refuse what comes.
-fn wake<R, K, H>(shared: &Shared<'_, R, K, H>) {
-    let Shared { bells, .. } = shared;
+fn wake<R: Wait, K, H>(shared: &Shared<'_, R, K, H>) {
+    let Shared {
+        rt,
+        bells,
+        writers,
+        ..
+    } = shared;
     bells.operator.unpark();
     bells.releaser.unpark();
     bells.later.ring();
+    writers.open_places(*rt);
 }
 
 /// Waits until a caller was told that the service ends, or the operator has asked for the server's end, for

@@ -15,7 +15,7 @@ use server_attending::Verdicts;
 use server_logging::{
     BegunSession, CountedMessage, EndedSession, Ending, Log, LogEvent, Moments, SessionCounts,
 };
-use server_releasing::{Cut, Delivery, ReplyWriter, Shared};
+use server_releasing::{Cut, Delivery, Hand, ReplyWriter, Shared, Unanswered};
 use server_roster::Guest;
 use std::alloc::{AllocError, Global};
 use std::net::{SocketAddr, TcpStream};
@@ -35,6 +35,8 @@ pub struct SessionThread<'a, 'b, R, K, H> {
     pub doors: &'b Doors<'a>,
     pub partings: &'b Sender<Parting>,
     pub verdicts: Verdicts<'b>,
+    /// The thread's own.
+    pub hand: Hand,
 }
 
 impl<'a, 'b, R, K, H> Drop for SessionThread<'a, 'b, R, K, H> {
@@ -47,13 +49,14 @@ impl<'a, 'b, R, K, H> Drop for SessionThread<'a, 'b, R, K, H> {
             doors: _,
             partings: _,
             verdicts: _,
+            hand: _,
         } = self;
     }
 }
 
 impl<'a, 'b, R: Wait + Clock, K: Kern, H: Hooks> SessionThread<'a, 'b, R, K, H> {
     /// Serves one caller after another, until no more come.
-    pub fn serve_calls(&self, calls: &Receiver<Caller>) {
+    pub fn serve_calls(&mut self, calls: &Receiver<Caller>) {
         for _ in self.shared.rt.forever() {
             let Ok(call) = calls.recv(self.shared.rt) else {
                 return;
@@ -69,7 +72,7 @@ impl<'a, 'b, R: Wait + Clock, K: Kern, H: Hooks> SessionThread<'a, 'b, R, K, H> 
 
     /// Serves a caller to its end, and notes that end. If memory for serving is refused, the session ends without a
     /// reply.
-    fn serve_call(&self, call: Caller) {
+    fn serve_call(&mut self, call: Caller) {
         let Shared { rt, kern, .. } = self.shared;
         let Caller {
             sid,
@@ -87,9 +90,9 @@ impl<'a, 'b, R: Wait + Clock, K: Kern, H: Hooks> SessionThread<'a, 'b, R, K, H> 
         self.begin(sid, peer, writing, ending);
         let stop = self.serve_messages(sid, &stream, &mut counts);
         if may_release(stop) {
-            self.writer.finish(self.shared);
+            self.writer.finish(self.shared, &mut self.hand);
         }
-        let sent = self.writer.end(*rt, *kern);
+        let sent = self.writer.end(self.shared, &mut self.hand);
         let told = self.told(&counts, stop, sent);
         self.note_end(sid, peer, told, self.ending(stop, sent.cut));
         if matches!(stop, Ending::Quit | Ending::Stopped) && sent.cut.is_none() {
@@ -110,14 +113,14 @@ impl<'a, 'b, R: Wait + Clock, K: Kern, H: Hooks> SessionThread<'a, 'b, R, K, H> 
 
     /// What the log tells of a session that was served so much and ended so. Where all that it held was released, all that it was
     /// told is durable.
-    fn told(&self, counts: &Counted, stop: Ending, sent: Delivery) -> SessionCounts {
+    fn told(&mut self, counts: &Counted, stop: Ending, sent: Delivery) -> SessionCounts {
         let is_released = may_release(stop)
             && sent.cut.is_none()
             && !self.shared.closing.has_begun();
         let mut told = if is_released {
             counts.all
         } else {
-            counts.durable(self.shared)
+            counts.durable(self.shared, &mut self.hand)
         };
         told.octets_out = sent.octets;
         told
@@ -131,13 +134,14 @@ impl<'a, 'b, R: Wait + Clock, K: Kern, H: Hooks> SessionThread<'a, 'b, R, K, H> 
             Some(Cut::Dropped) => Ending::Dropped,
             Some(_) if self.shared.closing.has_begun() => Ending::Stopped,
             Some(Cut::Stalled) => Ending::Stalled,
+            Some(Cut::Slow) => Ending::Slow,
             Some(Cut::Failed) => Ending::Failed,
         }
     }
 
     /// Begins a session. Both handles are of its caller's socket.
     fn begin(
-        &self,
+        &mut self,
         session: u64,
         peer: SocketAddr,
         writing: Arc<TcpStream, Global>,
@@ -152,7 +156,7 @@ impl<'a, 'b, R: Wait + Clock, K: Kern, H: Hooks> SessionThread<'a, 'b, R, K, H> 
             since: self.moments.now(rt, self.log),
             socket,
         };
-        self.writer.begin(rt, guest, writing);
+        self.writer.begin(rt, &mut self.hand, guest, writing);
     }
 
     fn note_end(&self, session: u64, peer: SocketAddr, counts: SessionCounts, why: Ending) {
@@ -166,7 +170,7 @@ impl<'a, 'b, R: Wait + Clock, K: Kern, H: Hooks> SessionThread<'a, 'b, R, K, H> 
     }
 
     /// Has a caller's messages answered, counts them, and answers why there are no more.
-    fn serve_messages(&self, sid: u64, stream: &TcpStream, counts: &mut Counted) -> Ending {
+    fn serve_messages(&mut self, sid: u64, stream: &TcpStream, counts: &mut Counted) -> Ending {
         let Shared {
             rt,
             alloc,
@@ -177,7 +181,7 @@ impl<'a, 'b, R: Wait + Clock, K: Kern, H: Hooks> SessionThread<'a, 'b, R, K, H> 
         let mut incoming = Incoming::new(*rt, stream, self.shared.limits);
         let mut reader = Reader::new(*alloc);
         let mut awaited = Awaited::at_start(sid, kern.mode(*rt, sid));
-        self.writer.release(self.shared);
+        self.writer.release(self.shared, &mut self.hand);
         'messages: for _ in rt.forever() {
             let Some(mode) = awaited.mode else {
                 return Ending::Quit;
@@ -203,7 +207,7 @@ impl<'a, 'b, R: Wait + Clock, K: Kern, H: Hooks> SessionThread<'a, 'b, R, K, H> 
     /// The next whole message of a stream, or why there is none: `Closed` only at its end. Sends pending replies before
     /// the first read; none can appear while it waits.
     fn next_message<S: Socket>(
-        &self,
+        &mut self,
         reader: &mut Reader,
         mode: Mode,
         incoming: &mut Incoming<S>,
@@ -224,7 +228,7 @@ impl<'a, 'b, R: Wait + Clock, K: Kern, H: Hooks> SessionThread<'a, 'b, R, K, H> 
                 Err(_) => return Err(Ending::Memory),
             }
             if !is_sent {
-                self.writer.send(self.shared);
+                self.writer.send(self.shared, &mut self.hand);
                 incoming.await_message(reader.held());
                 is_sent = true;
             }
@@ -260,17 +264,21 @@ impl<'a, 'b, R: Wait + Clock, K: Kern, H: Hooks> SessionThread<'a, 'b, R, K, H> 
     }
 
     /// Has a message answered, and tries again after each refusal that asks for that. Otherwise answers why the session ends.
-    pub(crate) fn have_answered(&self, message: &Message) -> Result<ExecOutcome, Ending> {
+    pub(crate) fn have_answered(&mut self, message: &Message) -> Result<ExecOutcome, Ending> {
         let Shared { rt, bells, .. } = self.shared;
         for _ in rt.forever() {
             let noted = bells.later.count();
             let moment = self.moments.now(*rt, self.log);
-            match self.writer.answer(self.shared, message, moment) {
+            let answered = self
+                .writer
+                .answer(self.shared, &mut self.hand, message, moment);
+            match answered {
                 Ok(answered) => {
                     note(bells, message, answered.next);
                     return Ok(answered);
                 }
-                Err(error) => {
+                Err(Unanswered::NoPlace) => self.await_place()?,
+                Err(Unanswered::Refused(error)) => {
                     if let Err(error) = self.put_off(error, noted) {
                         return Err(ending_of(error));
                     }
@@ -280,10 +288,24 @@ impl<'a, 'b, R: Wait + Clock, K: Kern, H: Hooks> SessionThread<'a, 'b, R, K, H> 
         unreachable!()
     }
 
+    /// Waits until the session has a place for a large reply. Otherwise answers why it ends.
+    fn await_place(&mut self) -> Result<(), Ending> {
+        let Shared { bells, closing, .. } = self.shared;
+        bells.flush_now();
+        if self.writer.wait_for_place(self.shared, &mut self.hand) {
+            return Ok(());
+        }
+        Err(if closing.has_begun() {
+            Ending::Stopped
+        } else {
+            Ending::Failed
+        })
+    }
+
     /// Waits until a message may be tried again. If too many blocks are dirty, that is after a batch was taken since
     /// the noted count; if too many octets of the session are held, after some of them were released. Other refusals
     /// are returned.
-    fn put_off(&self, error: ExecError, noted: u64) -> Result<(), ExecError> {
+    fn put_off(&mut self, error: ExecError, noted: u64) -> Result<(), ExecError> {
         let Shared {
             rt,
             bells,
@@ -294,14 +316,14 @@ impl<'a, 'b, R: Wait + Clock, K: Kern, H: Hooks> SessionThread<'a, 'b, R, K, H> 
             return Err(error);
         }
         bells.flush_now();
-        let released = self.writer.release(self.shared);
+        let released = self.writer.release(self.shared, &mut self.hand);
         if closing.has_begun() {
             return Err(error);
         }
         if matches!(error, ExecError::LaterDirty) {
-            bells.later.wait_past(*rt, noted);
+            bells.later.wait_past(*rt, &mut self.hand, noted);
         } else if !released.has_taken && released.is_held {
-            self.writer.wait_for_release(*rt);
+            self.writer.wait_for_release(*rt, &mut self.hand);
         }
         Ok(())
     }

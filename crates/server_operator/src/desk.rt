@@ -15,7 +15,7 @@ use crate::line_answer::{Answer, Refused, Told, write_answer};
 use crate::sessions::{Listing, let_go};
 use crate::status::Status;
 use crossbeam_channel::{Receiver, SendError, Sender, bounded, unbounded};
-use kernel_shared::{Asking, Bells, Kern};
+use kernel_shared::{Asking, Bells, Hand, Kern};
 use server_mark::{Mark, Seat};
 use server_operator_lines::{Change, LINE_OCTETS, Next, Request, next_line, request_of};
 use server_releasing::Writers;
@@ -130,11 +130,12 @@ impl Operator {
         requires { seat.mark ≡ service.now.mark.now }
     {
         let mut seat = seat;
+        let mut hand = Hand::new();
         'orders: for _ in service.rt.forever() {
             let Ok(Order::Asked(line)) = self.orders.recv(service.rt) else {
                 break;
             };
-            let answer = answer(service, &mut seat, line, &self.replies);
+            let answer = answer(service, &mut seat, &mut hand, line, &self.replies);
             hand_on(service.rt, &self.replies, Reply::Answer(answer));
         }
         hand_on(service.rt, &self.replies, Reply::Ends);
@@ -170,6 +171,7 @@ pub(crate) fn hand_on<R: Wait>(rt: &R, replies: &Sender<Reply>, reply: Reply) {
 fn answer<R: Wait + Clock, K: Kern>(
     service: &OperatorService<'_, R, K>,
     seat: &mut Seat,
+    hand: &mut Hand,
     line: Result<Vec<u8>, Refused>,
     replies: &Sender<Reply>,
 ) -> Answer
@@ -180,9 +182,12 @@ fn answer<R: Wait + Clock, K: Kern>(
 {
     let line = line?;
     match request_of(service.alloc, line.as_slice())? {
-        Request::Change(change) => carry_out(service, seat, &change),
-        Request::Ages(request) => take_out_old(service, seat, &request, replies),
-        Request::Status => Ok(Told::Status(Status::of(service)?)),
+        Request::Change(change) => carry_out(service, seat, hand, &change),
+        Request::Ages(request) => take_out_old(service, seat, hand, &request, replies),
+        Request::Status => {
+            service.bells.watcher.unpark();
+            Ok(Told::Status(Status::of(service)?))
+        }
         Request::Sessions => Ok(Told::Sessions(Listing::of(
             service.rt,
             service.alloc,
@@ -197,6 +202,7 @@ fn answer<R: Wait + Clock, K: Kern>(
 fn carry_out<R: Wait, K: Kern>(
     service: &OperatorService<'_, R, K>,
     seat: &mut Seat,
+    hand: &mut Hand,
     change: &Change,
 ) -> Answer
     requires { seat.old.mark ≡ service.now.mark.now }
@@ -204,7 +210,10 @@ fn carry_out<R: Wait, K: Kern>(
     ensures gone { IfErr result (λ error. error ≡ Refused.Fault → HasSeenStop seat.new) }
     ensures mark { seat.new.mark ≡ seat.old.mark }
 {
-    let made = make(service, change);
+    let made = match make(service, hand, change) {
+        Ok(made) => Ok(made.serial()),
+        Err(refused) => Err(refused),
+    };
     Ok(Told::Serial(make_durable(service, seat, made)?))
 }
 

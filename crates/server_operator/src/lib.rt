@@ -11,5 +11,6 @@ mod durable;
 mod line_answer;
 mod sessions;
 mod status;
+mod treated;
 
 pub use desk::{Operator, OperatorService};

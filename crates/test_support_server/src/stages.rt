@@ -9,7 +9,7 @@ use disk_file::Counts;
 use journal::Journal;
 use journal_volume::BatchBuf;
 use kernel_shared::{Hooks, Kern, KernelCounts, NoHooks, SESSIONS};
-use server::{Limits, MetricsFile, ServeError, Server, serve};
+use server::{Limits, MetricsFile, ServeError, ServedFile, Server, serve};
 use server_flusher::{TurnSeat, flush_turn};
 use server_logging::{Log, Verbosity, beginning_of_1970};
 use server_mark::{FlushSeat, Mark, Seat};
@@ -270,8 +270,14 @@ fn serve_parts<
         hooks,
         limits,
         metrics: for_nobody(),
+        file: unwatched(),
     };
     serve(rt, alloc, server, lines, answers)
+}
+
+/// No file that is watched.
+fn unwatched<'a>() -> Option<&'a ServedFile> {
+    None
 }
 
 /// No file for a monitor.
