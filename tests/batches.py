@@ -2,6 +2,7 @@
 """System tests of `newsd export` and `newsd import`: batches of articles. batches.py NEWSD [NAME..]"""
 import fcntl
 import grp
+import json
 import os
 import pty
 import pwd
@@ -18,7 +19,7 @@ import termios
 import time
 import tty
 
-from newsd import GROUP, HOST, NO_SUPERBLOCK, SECONDS, article, end_with_parent, long_article, message_id, wait_until
+from newsd import GROUP, HOST, NO_SUPERBLOCK, SECONDS, SECONDS_OF_WORK, article, end_with_parent, long_article, message_id, wait_until
 from playing import Skipped, main
 
 OTHER_HOST = "other.example"
@@ -29,15 +30,20 @@ LONGEST_HEADER = 8192
 MANY, VOLUMES, KILLS_EACH = 1000, 4, 5
 # a volume with room for them is small, and soon made and opened
 SMALL = {"blocks": 2048, "inodes": 1088}
-# a volume of so many inodes has so many that an article leaves; the inodes of a group
-INODES, LEFT, GROUP_FILES = 2048, 64, 3
+# a volume of so many inodes has so many that an article leaves; the inodes of a group, and groups that take most of them
+INODES, LEFT, GROUP_FILES, FULL_GROUPS = 2048, 64, 3, 600
+# the size of a text that doesn't go into the pack
+TOO_LONG_TO_PACK = 32_769
 KINDS = ("filed", "here", "no group")
 NO_END = "no empty line follows the header"
+TOO_LONG = "its header has more than 8192 octets, or the article more than 262144"
+# the address space of an import that passes over more than that
+LITTLE_MEMORY = 60 << 20
 # the causes for which an article is refused, in the order in which they are counted
 CAUSES = (
     "it holds NUL or a single CR, or its last line has no end", NO_END, "a line of the header is no field", "a field occurs twice",
     "a mandatory field is missing", "the message-id isn't valid", "its groups aren't 1 to 16 different group names",
-    "its header has more than 8192 octets, or the article more than 262144", "the message-id is one of this host's own")
+    TOO_LONG, "the message-id is one of this host's own")
 # what begins a line of progress in the place of the last one, and the line
 ERASE = "\r\x1b[K"
 PROGRESS = re.compile(r"(\d+) articles, (\d+) octets, (\d+) articles a second")
@@ -99,7 +105,7 @@ def feed_by_rnews(program, volume, written):
     with volume.serve() as server:
         words = [program, "-N", "-S", "127.0.0.1", "-P", str(server.port)]
         given = dict(os.environ, INNCONF=directory + "/inn.conf")
-        subprocess.run(words, input=written, env=given, capture_output=True, timeout=SECONDS, check=True)
+        subprocess.run(words, input=written, env=given, capture_output=True, timeout=SECONDS_OF_WORK, check=True)
 
 
 def another_host_imports_what_was_exported(volume):
@@ -192,15 +198,13 @@ def each_article_has_an_outcome(volume):
         (plain.replace(b"x.a", b"x..a"), "refused", "its groups aren't 1 to 16 different group names"),
         (plain.replace(b"x.a", b"x.a,x.a"), "refused", "its groups aren't 1 to 16 different group names"),
         (plain.replace(b"x.a", b",".join(b"x.%d" % it for it in range(17))), "refused", "its groups aren't 1 to 16 different group names"),
-        (b"X: %s\n" % (b"x" * LONGEST_HEADER) + plain, "refused",
-         "its header has more than 8192 octets, or the article more than 262144"),
+        (b"X: %s\n" % (b"x" * LONGEST_HEADER) + plain, "refused", TOO_LONG),
         (b"\n", "refused", None),
         (with_lf(long_article(6, LARGEST)[:-3]), "filed", None),
         (with_lf(text_of(8)), "filed", None),
     ]
     # with CRLF it is longer than a batch may have it
-    longer = (with_lf(text_of(5)) + b"\n" * (LARGEST // 2), "refused",
-              "its header has more than 8192 octets, or the article more than 262144")
+    longer = (with_lf(text_of(5)) + b"\n" * (LARGEST // 2), "refused", TOO_LONG)
     for name, ends, rows in (("lf", b"\n", [longer, *rows]), ("crlf", b"\r\n", rows)):
         other = volume.another(name)
         other.make_group()
@@ -236,8 +240,6 @@ def what_is_no_batch_ends_an_import(volume):
         (b"#! rnews 12x\n" + rest, "the length is no number"),
         (b"#! rnews \n" + rest, "the length is no number"),
         (b"#! rnews -1\n" + rest, "the length is no number"),
-        (b"#! rnews 262145\n" + rest, "an article of more than 262144 octets"),
-        (b"#! rnews 9999999999999999\n" + rest, "an article of more than 262144 octets"),
         (rest[:-1], "the batch is cut short"),
         (rest[:14], "the batch is cut short"),
         (b"#! rnews 100\n", "the batch is cut short"),
@@ -253,6 +255,61 @@ def what_is_no_batch_ends_an_import(volume):
     empty = volume.another("empty", blocks=1024, inodes=64)
     import_whole(empty, b"")
     assert empty.dump() == ["spool 0"]
+
+
+def an_article_that_is_too_long_is_passed_over(volume):
+    """It counts as refused, its octets are passed over as they come, and what follows it is filed. One that is cut short ends the import."""
+    good, last = [with_lf(text_of(number)) for number in (1, 2)], with_lf(text_of(3))
+    inner = batch([with_lf(text_of(4))])
+    longest = LARGEST + 1
+    for name, texts in (("one", [good[0], b"x" * longest, good[1]]), ("first", [b"\n" * longest, *good]), ("last", [*good, b"x" * longest]),
+                        ("two", [good[0], b"x" * longest, (inner * LARGEST)[:5_000_000], good[1]]), ("all", [b"x" * (longest + 1)] * 3)):
+        other = volume.another(name, blocks=1024, inodes=64)
+        other.make_group()
+        said, octet = [], 0
+        for number, text in enumerate(texts, 1):
+            if len(text) > LARGEST:
+                said.append("newsd: article %d at octet %d: %s\n" % (number, octet, TOO_LONG))
+            octet += len(batch([text]))
+        filed = 2 if good[0] in texts else 0
+        # from a file, and from a pipe, in which all is there already
+        for counted in (dict(filed=filed), dict(here=filed)):
+            done = imported(other, batch(texts))
+            assert (done.returncode, done.stdout.decode()) == (1, counts(**counted, causes=[TOO_LONG] * len(said))), (name, done)
+            assert done.stderr.decode() == "".join(said), (name, done)
+        assert ids_of(other) == [message_id(1), message_id(2)][:filed], name
+        assert other.export() == batch(good[:filed]), name
+    # a piece ends anywhere, and what is passed over takes no memory
+    other = volume.another("pieces", blocks=1024, inodes=64)
+    other.make_group()
+    written = batch([good[0], b"x" * (64 << 20), good[1]])
+    at = len(batch(good[:1]))
+    done = fed_in_pieces(other, [written[:at + 3], written[at + 3:at + 20], written[at + 20:-700], written[-700:-3], written[-3:]])
+    assert done == (1, counts(filed=2, causes=[TOO_LONG]), "newsd: article 2 at octet %d: %s\n" % (at, TOO_LONG)), done
+    for size, tail in ((9_999_999_999_999_999, batch([last])), (longest, b"x" * (longest - 1)), (longest, b"")):
+        other = volume.another("cut%d" % len(tail), blocks=1024, inodes=64)
+        other.make_group()
+        cut = batch(good) + b"#! rnews %d\n" % size + tail
+        done = imported(other, cut)
+        assert (done.returncode, done.stdout.decode()) == (1, counts(filed=2, causes=[TOO_LONG])), done
+        assert done.stderr.decode() == "newsd: article 3 at octet %d: %s\nnewsd: E14 Bad: octet %d: the batch is cut short\n" % (
+            len(batch(good)), TOO_LONG, len(cut)), done
+        assert ids_of(other) == [message_id(1), message_id(2)]
+
+
+def fed_in_pieces(volume, pieces):
+    """The status, the counts and the faults of an import that gets these pieces one after another, and has little memory."""
+    def limit():
+        end_with_parent()
+        resource.setrlimit(resource.RLIMIT_AS, (LITTLE_MEMORY, LITTLE_MEMORY))
+    words = [volume.program, "import", volume.path]
+    with subprocess.Popen(words, stdin=subprocess.PIPE, stdout=subprocess.PIPE, stderr=subprocess.PIPE, preexec_fn=limit) as process:
+        for piece in pieces:
+            process.stdin.write(piece)
+            process.stdin.flush()
+            time.sleep(0.05)
+        said, faults = process.communicate(timeout=SECONDS_OF_WORK)
+    return process.returncode, said.decode(), faults.decode()
 
 
 def a_full_volume_ends_an_import(volume):
@@ -281,26 +338,62 @@ def a_full_volume_ends_an_import(volume):
 
 
 def an_import_leaves_a_part_to_the_operator(volume):
-    """Of 2,048 inodes it leaves 64, where a group and expiries find room. So does a renewal to as many. One of fewer leaves none."""
-    roomy, large, small = (volume.another(str(inodes), blocks=8192, inodes=inodes) for inodes in (4096, INODES, INODES - LEFT))
-    texts = [with_lf(text_of(number)) for number in range(INODES)]
-    filed = INODES - LEFT - GROUP_FILES
+    """Of 2,048 inodes it leaves 64, where a group and expiries find room. So does a renewal to as many. One of fewer leaves none. Groups take
+    most of them here, and articles the others that are too long for the pack."""
+    sizes = (2 * INODES, INODES, INODES - LEFT)
+    roomy, large, small = (volume.another(str(inodes), blocks=8192, inodes=inodes) for inodes in sizes)
+    texts = [with_lf(long_article(number, TOO_LONG_TO_PACK)[:-len(b".\r\n")]) for number in range(INODES - LEFT - GROUP_FILES * FULL_GROUPS + 1)]
+    filed = len(texts) - 1
     octet, lacking = len(batch(texts[:filed])), "too few inodes are free"
-    roomy.make_group()
-    import_whole(roomy, batch(texts), filed=INODES)
-    for each in (large, small):
-        each.make_group()
+    make_many_groups(roomy, FULL_GROUPS)
+    for each, inodes in ((large, INODES), (small, INODES - LEFT)):
+        os.unlink(each.path)
+        roomy.run("renew", roomy.path, each.path, "--inodes", str(inodes)).check_returncode()
+    import_whole(roomy, batch(texts), filed=len(texts))
+    for each, inodes in ((large, INODES), (small, INODES - LEFT)):
         done = imported(each, batch(texts))
         assert (done.returncode, done.stdout.decode()) == (1, counts(filed=filed)), done
         assert done.stderr.decode() == "newsd: E6 Full: article %d at octet %d: %s\n" % (filed + 1, octet, lacking), done
-        done = roomy.run("renew", roomy.path, each.path + ".new", "--inodes", str(INODES if each is large else INODES - LEFT))
+        # so is a short one, which would go into the pack, as long as that may grow: then it asks for an inode
+        done = imported(each, batch([with_lf(text_of("short"))]))
+        assert (done.returncode, done.stderr.decode()) == (1, "newsd: E6 Full: article 1 at octet 0: %s\n" % lacking), done
+        done = roomy.run("renew", roomy.path, each.path + ".new", "--inodes", str(inodes))
         assert (done.returncode, done.stdout) == (1, b""), done
-        assert done.stderr.decode() == "newsd: E6 Full: change %d: %s\n" % (filed + 2, lacking), done
-    assert large.make_group("x.b") == filed + 2
-    assert [large.expire(number) for number in range(1, 11)] == list(range(filed + 3, filed + 13))
+        assert done.stderr.decode() == "newsd: E6 Full: change %d: %s\n" % (FULL_GROUPS + filed + 1, lacking), done
+    assert_operator_has_room(large, FULL_GROUPS + filed + 1)
     for words in (["group", small.path, "x.b", "y", "1000000000", "test"], ["expire", small.path, GROUP, "1"]):
         done = small.run(*words)
         assert (done.returncode, done.stdout, done.stderr) == (1, b"", b"newsd: E6 Full\n"), done
+
+
+def short_articles_leave_blocks_to_the_operator(volume):
+    """They share the pack until less than 576 blocks are free, of which they leave 320. There are more of them than inodes."""
+    full = volume.another("full", blocks=8192, inodes=INODES)
+    full.make_group()
+    texts = [with_lf(long_article(number, 10_000)[:-len(b".\r\n")]) for number in range(3_200)]
+    done = imported(full, batch(texts))
+    filed = int(done.stdout.split()[1])
+    octet = len(batch(texts[:filed]))
+    assert (done.returncode, done.stdout.decode()) == (1, counts(filed=filed)) and INODES < filed, done
+    assert done.stderr.decode() == "newsd: E6 Full: article %d at octet %d: too few blocks are free\n" % (filed + 1, octet), done
+    status = json.loads(full.run("status", full.path, "--json").stdout)
+    assert status["inodes"]["used"] == GROUP_FILES + 1 and 570 < status["blocks"]["free"] < 576, status
+    assert_operator_has_room(full, filed + 2)
+
+
+def make_many_groups(volume, count):
+    """The group of the articles, and others until there are so many."""
+    with volume.serve() as server:
+        for number, name in enumerate([GROUP, *("y.%d" % it for it in range(count - 1))], 1):
+            assert server.order("group %s y 1000000000 test" % name) == str(number)
+        assert server.order("stop") == "stopped"
+        assert server.end() == (0, "")
+
+
+def assert_operator_has_room(volume, serial):
+    """Its next change has this serial."""
+    assert volume.make_group("x.b") == serial
+    assert [volume.expire(number) for number in range(1, 11)] == list(range(serial + 1, serial + 11))
 
 
 def a_stream_that_fails_ends_an_import(volume):
@@ -474,7 +567,7 @@ class Import:
         except BrokenPipeError:
             pass
         self.process.stdin = None
-        said, faults = self.process.communicate(timeout=SECONDS)
+        said, faults = self.process.communicate(timeout=SECONDS_OF_WORK)
         return self.process.returncode, said.decode(), (faults or b"").decode()
 
 
@@ -584,8 +677,10 @@ TESTS = [
     an_import_that_is_killed_goes_on,
     each_article_has_an_outcome,
     what_is_no_batch_ends_an_import,
+    an_article_that_is_too_long_is_passed_over,
     a_full_volume_ends_an_import,
     an_import_leaves_a_part_to_the_operator,
+    short_articles_leave_blocks_to_the_operator,
     a_stream_that_fails_ends_an_import,
     what_can_not_be_imported_into_is_refused,
     a_batch_comes_in_any_pieces,

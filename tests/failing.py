@@ -183,8 +183,8 @@ def fill(volume):
     """How many articles are acknowledged before the file system is full, which the server says."""
     with volume.serve() as server, server.call() as caller:
         posted = 0
-        while posted < 1000:
-            reply = caller.post(article(posted + 1, body="x" * 500))
+        while posted < 2000:
+            reply = caller.post(article(posted + 1, body="x" * 2000))
             if reply != "240 Article received":
                 break
             posted += 1

@@ -25,6 +25,11 @@ BLOCKS, INODES = 34_816, 32_768
 LONG_ANSWERS = ["NEWNEWS * 20010901 000000", "OVER 1-%d" % ARTICLES, "LISTGROUP"]
 # how many callers ask for it at one time
 ASKING = 4
+# how many callers may hold a long NEWNEWS, and how long one of them waits for an octet
+HOLDERS, WAITS = 8, 15
+ASKED_NEW = b"NEWNEWS * 20000101 000000\r\n"
+# so many that the socket doesn't take the answers
+LONG_IDS, DEAF_NEWNEWS = ["%0200d" % number for number in range(1_000)], 30
 # as many groups as a volume may have, a volume for them, how many callers ask for dear lines, and of which wildmats
 GROUPS, GROUPS_BLOCKS, GROUPS_INODES = 4_096, 16_384, 16_384
 DEAR, LONGEST_LINE = 16, 510
@@ -229,6 +234,32 @@ def sixty_three_deaf_callers(volume):
             poster.close()
 
 
+def who_waits_for_a_place_has_what_is_ready(volume):
+    """Beside callers of eight addresses that each hold a long NEWNEWS and read nothing, one who posts and asks for one in one piece has
+    the reply to the post at once. The operator ends one that waits, and who waits first comes first."""
+    volume.make_group()
+    with volume.serve(words=ALL_FROM_ONE) as server, contextlib.ExitStack() as stack:
+        file_many(server, LONG_IDS)
+        for at in range(HOLDERS):
+            deaf = stack.enter_context(Caller(server.port, SMALL_BUFFER, source="127.0.0.%d" % (20 + at)))
+            deaf.send(ASKED_NEW * DEAF_NEWNEWS)
+        wait_until(lambda: is_at_rest(server))
+        waiters = [stack.enter_context(Caller(server.port, seconds=WAITS, source="127.0.0.%d" % (40 + at))) for at in range(3)]
+        for at, waiter in enumerate(waiters):
+            waiter.send(b"POST\r\n" + article("w%d" % at) + ASKED_NEW)
+            assert waiter.line().startswith("340 ") and waiter.line().startswith("240 ")
+        assert server.order("drop 127.0.0.40") == "dropped 1"
+        assert waiters[0].has_ended()
+        assert server.order("drop 127.0.0.20") == "dropped 1"
+        assert waiters[1].line().startswith("230 ") and waiters[2].line().startswith("230 ")
+
+
+def file_many(server, ids):
+    with server.call() as caller:
+        for number in ids:
+            assert caller.post(article(number)) == "240 Article received"
+
+
 def ask_and_read_nothing(server):
     caller = Caller(server.port, receive_octets=SMALL_BUFFER)
     assert caller.greeting == GREETING
@@ -368,6 +399,7 @@ TESTS = [
     a_caller_that_quits_and_stays_holds_nobody,
     callers_that_misbehave_hold_up_nobody,
     endless_lines_cost_little,
+    who_waits_for_a_place_has_what_is_ready,
     a_server_at_rest_takes_no_processor,
 ]
 

@@ -90,6 +90,38 @@ class Image:
     def content(self, number):
         return self.block(self.pointer(number))
 
+    def owned(self, number):
+        """The blocks of a file's content, in order, and those that have the numbers of these."""
+        count = -(-self.size(number) // BLOCK)
+        *direct, single, double = struct.unpack_from("<12I", self.octets, self.inode(number) + POINTERS_AT)
+        tables = [single, *(self.pointers(double) if double else ())]
+        further = [it for table in tables if table for it in self.pointers(table)]
+        return (direct + further)[:count], [it for it in (double, *tables) if it]
+
+    def pointers(self, block):
+        """The numbers that stand in a block of pointers."""
+        return struct.unpack_from("<1024I", self.octets, self.block(block))
+
+    def file(self, number):
+        """The octets of a file."""
+        return b"".join(self.octets[self.block(it):][:BLOCK] for it in self.owned(number)[0])[:self.size(number)]
+
+    def named(self, name):
+        """The inode of the file of this name, if there is one."""
+        slot = (bytes([len(name)]) + name).ljust(RECORD, b"\0")
+        return next((it for it in range(self.inodes) if self.octets[self.slot(it):][:RECORD] == slot), None)
+
+    def packed(self):
+        """The files in the pack: of each its name, where its content begins in the pack, and its size."""
+        pack = self.named(b"p")
+        octets, at = b"" if pack is None else self.file(pack), 0
+        while at < len(octets):
+            name = octets[at + 1:at + 1 + octets[at]]
+            size, = struct.unpack_from("<I", octets, at + 1 + len(name))
+            at += 5 + len(name)
+            yield name, at, size
+            at += size
+
     def bit(self, block, at=None):
         """The octet of the bitmap that has a block's mark, with the mark changed, and its place."""
         at = (self.block(0) if at is None else at) + block // 8

@@ -31,7 +31,8 @@ ODD_GATES = ((b"\1\0", 1), (b"\x4d\x4d", 1), (b"\xff\xff", 1), (b"\3\2", 1), (b"
 SIZE_AT, INDIRECT_AT, DOUBLE_AT = 4, 52, 56
 # the octets of the largest file of format 1
 MOST_OF_FORMAT_1 = 4235264
-LARGE = {"blocks": 16384, "inodes": 8192}
+# where a volume is made one of an earlier format, it has so few inodes that no article stands in the pack
+LARGE, FEW = {"blocks": 16384, "inodes": 1984}, {"blocks": 2048, "inodes": 1984}
 # so long a line of the overview that few articles fill the largest overview of format 1
 REFERENCES = " ".join("<%s@a.example>" % ("r" * 200) for _ in range(36))
 IMPORTED = 640
@@ -237,73 +238,72 @@ def a_volume_of_an_earlier_format_is_upgraded_when_it_is_opened(volume):
 
 
 def a_server_upgrades_each_earlier_format_and_keeps_all(volume):
-    """What a client asks for of groups, articles and overviews is the same, octet by octet, in a volume whose expiries have inodes of their
-    own, as earlier programs made it. The next expiry makes the pack, and a renewal puts the earlier ones there."""
-    fill(volume)
-    volume.settle()
-    kept, seen = (volume.dump(), volume.export()), view(volume)
-    volume.settle()
-    # the pack was one file, and the four expiries are four
-    used = status_of(volume)["inodes"]["used"] + 3
-    image = without_pack(volume)
-    for gates in (IS_FORMAT_1, IS_FORMAT_2):
-        write(volume.path, with_gates(image, gates))
-        assert (volume.dump(), volume.export()) == kept and status_of(volume)["inodes"]["used"] == used, gates
-        assert view(volume) == seen, gates
-        assert gates_of(volume) == upgraded(gates) and (volume.dump(), volume.export()) == kept, gates
-        for number, more in ((21, 1), (22, 1)):
-            volume.expire(number, "x.b")
-            assert status_of(volume)["inodes"]["used"] == used + more, (gates, number)
-        gone = status_of(volume)["gone"]["articles"]
-        assert renewed(volume, None)["husks"] == gone and gates_of(volume) == IS_FORMAT_3, gates
-        assert status_of(volume)["inodes"]["used"] == used - 4 - gone + 1, gates
+    """What a client asks for of groups, articles and overviews is the same, octet by octet, in a volume whose articles and expiries have
+    inodes of their own, as earlier programs made it. The next expiry makes the pack, or in a volume of many inodes the next short article.
+    A renewal puts there what would stand there from the first."""
+    for each, is_large, formats in ((volume, True, [IS_FORMAT_2]), (volume.another("few", **FEW), False, [IS_FORMAT_1, IS_FORMAT_2])):
+        fill(each)
+        each.settle()
+        kept, seen = (each.dump(), each.export()), view(each)
+        each.settle()
+        image, used = without_pack(each)
+        for gates in formats:
+            write(each.path, with_gates(image, gates))
+            assert (each.dump(), each.export()) == kept and status_of(each)["inodes"]["used"] == used, gates
+            assert view(each) == seen, gates
+            assert gates_of(each) == upgraded(gates) and (each.dump(), each.export()) == kept, gates
+            for number in (21, 22):
+                each.expire(number, "x.b")
+                assert status_of(each)["inodes"]["used"] == used + 1, (gates, number)
+            with each.serve() as server, server.call() as caller:
+                assert caller.post(article("more")) == "240 Article received"
+            there = status_of(each)
+            assert there["inodes"]["used"] == used + (1 if is_large else 2), gates
+            done = renewed(each, None)
+            assert done["husks"] == there["gone"]["articles"] and gates_of(each) == IS_FORMAT_3, gates
+            # the files of three groups, the pack, and what is kept of few inodes
+            assert status_of(each)["inodes"]["used"] == 3 * 3 + 1 + (0 if is_large else done["kept"]), (gates, done)
 
 
 def a_volume_of_an_earlier_format_is_renewed(volume):
     """The new one has format 3, and its pack has what had inodes before. The old one is opened to write, so it has format 3, too."""
-    fill(volume)
-    volume.settle()
-    kept, image = (volume.dump(), volume.export()), without_pack(volume)
-    for gates in (IS_FORMAT_1, IS_FORMAT_2):
-        write(volume.path, with_gates(image, gates))
-        new = beside(volume, "new")
-        done = renewed(volume, new)
-        assert (gates_of(new), gates_of(volume)) == (IS_FORMAT_3, upgraded(gates)), gates
-        assert (new.dump(), new.export()) == (volume.dump(), volume.export()) == kept, gates
-        used = [status_of(each)["inodes"]["used"] for each in (volume, new)]
-        assert used[0] - used[1] == done["husks"] + done["expiries"] - 1, (used, done)
-        os.unlink(new.path)
+    for each, is_large in ((volume, True), (volume.another("few", **FEW), False)):
+        fill(each)
+        each.settle()
+        kept, (image, _) = (each.dump(), each.export()), without_pack(each)
+        for gates in (IS_FORMAT_1, IS_FORMAT_2):
+            write(each.path, with_gates(image, gates))
+            new = beside(each, "new")
+            done = renewed(each, new)
+            assert (gates_of(new), gates_of(each)) == (IS_FORMAT_3, upgraded(gates)), gates
+            assert (new.dump(), new.export()) == (each.dump(), each.export()) == kept, gates
+            used = [status_of(one)["inodes"]["used"] for one in (each, new)]
+            assert used[0] - used[1] == done["husks"] + done["expiries"] - 1 + (done["kept"] if is_large else 0), (used, done)
+            os.unlink(new.path)
 
 
 def without_pack(volume):
-    """The octets of the volume, in which each file of the pack has an inode of its own."""
+    """The octets of the volume, in which each file of the pack has an inode of its own, and how many inodes are used then."""
     image = Image(volume.path)
-    inodes = range(image.inodes)
-    pack = next(it for it in inodes if image.octets[image.slot(it):].startswith(b"\1p\0"))
-    free = [it for it in inodes if image.octets[image.inode(it)] == 0]
-    unused = [it for it in range(image.blocks) if not image.octets[image.block(0) + it // 8] >> it % 8 & 1]
-    # the first of them takes the place of the pack
-    places = [(pack, image.pointer(pack)), *zip(free, unused)]
-    marked, changes = 0, []
-    for (inode, block), (name, content) in zip(places, packed_in(image, pack)):
+    pack = image.named(b"p")
+    freed = [it for blocks in image.owned(pack) for it in blocks]
+    whole = image.file(pack)
+    inodes = [pack, *(it for it in range(image.inodes) if image.octets[image.inode(it)] == 0)]
+    bits = int.from_bytes(image.octets[image.block(0):image.block(2)], "little") & ~sum(1 << it for it in freed)
+    unused, changes = (it for it in range(image.blocks) if not bits >> it & 1), []
+    taken = []
+    for inode, (name, at, size) in zip(inodes, image.packed()):
+        blocks = [next(unused) for _ in range(-(-size // BLOCK))]
+        assert len(blocks) <= 10, (name, size)
+        taken += blocks
         changes += [
-            (image.inode(inode), u32(1) + u64(len(content)) + u32(block).ljust(RECORD - 12, b"\0")),
+            (image.inode(inode), (u32(1) + u64(size) + b"".join(map(u32, blocks))).ljust(RECORD, b"\0")),
             (image.slot(inode), (bytes([len(name)]) + name).ljust(RECORD, b"\0")),
-            (image.block(block), content.ljust(BLOCK, b"\0")),
+            *((image.block(block), whole[at:at + size][BLOCK * it:][:BLOCK].ljust(BLOCK, b"\0")) for it, block in enumerate(blocks)),
         ]
-        marked |= 1 << block
-    bits = int.from_bytes(image.octets[image.block(0):image.block(2)], "little") | marked
-    return image.changed([*changes, (image.block(0), bits.to_bytes(2 * BLOCK, "little"))])
-
-
-def packed_in(image, pack):
-    """The names and the contents of the files in a pack of one block."""
-    left = image.octets[image.content(pack):][:image.size(pack)]
-    while left:
-        size, = struct.unpack_from("<I", left, 1 + left[0])
-        at = 5 + left[0]
-        yield left[1:at - 4], left[at:at + size]
-        left = left[at + size:]
+    bits |= sum(1 << it for it in taken)
+    used = image.inodes - (len(inodes) - 1) - 1 + sum(1 for _ in image.packed())
+    return image.changed([*changes, (image.block(0), bits.to_bytes(2 * BLOCK, "little"))]), used
 
 
 def an_upgrade_is_one_write_and_one_sync(volume):

@@ -1,11 +1,12 @@
 #!/usr/bin/env python3
 """System tests of where a server listens and whom it lets in: `serve --listen`, `--proxied`, `--allow`, `--sessions`,
-`--most-from`.
+`--most-from`, `--posts-from`.
 
 listening.py NEWSD [NAME..]"""
 import contextlib
 import os
 import re
+import select
 import shutil
 import signal
 import socket
@@ -13,7 +14,7 @@ import subprocess
 import sys
 import time
 
-from newsd import ALL_FROM_ONE, GREETING, SECONDS, SERVICE_ENDS, Caller, article, end_with_parent, free_port, wait_until
+from newsd import ALL_FROM_ONE, GREETING, SECONDS, SECONDS_OF_WORK, SERVICE_ENDS, Caller, article, end_with_parent, free_port, wait_until
 from playing import Skipped, main
 
 DENIED = "502 Access denied"
@@ -21,6 +22,11 @@ DENIED = "502 Access denied"
 SERVER, CALLER, OTHER = "192.0.2.1", "192.0.2.7", "198.51.100.9"
 SERVER_6, CALLER_6 = "2001:db8::1", "2001:db8::7"
 SECONDS_OF_A_STOP = 10
+# what isn't answered in this time waits
+SECONDS_AT_ONCE = 4
+TAKEN = "240 Article received"
+# more than 128, and no more than the system lets wait
+WAITING = 600
 # words that are no number of sessions
 NO_NUMBERS = ("0", "4097", "-1", "x", "", "1.5", "18446744073709551617")
 
@@ -128,6 +134,52 @@ def an_address_gets_as_many_as_it_may(volume):
         assert_no_number(volume, "--most-from", word)
 
 
+def what_an_address_posts_in_a_minute_may_be_limited(volume):
+    """Its further articles wait, by another session, too. Those of others don't, nor do its other commands, and nothing is refused. A drop and a
+    stop end what waits."""
+    volume.make_group()
+    with volume.serve(words=["--posts-from", "2", *ALL_FROM_ONE]) as server:
+        poster, second = (Caller(server.port, seconds=SECONDS_OF_WORK) for _ in range(2))
+        # the minutes are the server's, so these may be of two
+        assert 2 <= posts_until_one_waits(poster, range(1, 6)) <= 4
+        assert second.ask("DATE")[:3] == "111"
+        assert not is_taken_at_once(second, 6)
+        with Caller(server.port, source="127.0.0.2") as other:
+            assert other.post(article(7)) == TAKEN
+        # both are taken in the next minute, which is used up then
+        assert poster.line() == second.line() == TAKEN
+        with server.call() as third:
+            began = time.monotonic()
+            assert not is_taken_at_once(third, 8)
+            assert server.order("drop 127.0.0.1") == "dropped 3"
+            assert third.has_ended()
+        with server.call() as late:
+            assert not is_taken_at_once(late, 9)
+            assert_stops(server.process)
+        assert time.monotonic() - began < 2 * (SECONDS_AT_ONCE + SECONDS_OF_A_STOP)
+    for word in ("0", "1000001", "-1", "x", ""):
+        done = volume.run("serve", volume.path, "--port", str(free_port()), "--posts-from=" + word)
+        assert (done.returncode, done.stderr.decode()) == (1, "newsd: E14 Bad: --posts-from '%s' is no number from 1 to 1000000\n" % word), done
+
+
+def posts_until_one_waits(caller, numbers):
+    """How many articles of a caller are taken before one waits."""
+    for taken, number in enumerate(numbers):
+        if not is_taken_at_once(caller, number):
+            return taken
+    raise AssertionError("none of %d articles waits" % len(numbers))
+
+
+def is_taken_at_once(caller, number):
+    """Whether an article that a caller posts is."""
+    assert caller.ask("POST")[:3] == "340"
+    caller.send(article(number))
+    if not select.select([caller.socket], [], [], SECONDS_AT_ONCE)[0]:
+        return False
+    assert caller.line() == TAKEN
+    return True
+
+
 def a_server_has_as_many_sessions_as_it_is_told(volume):
     for most in (1, 3, 100):
         with volume.serve(words=["--sessions", str(most), "--most-from", str(most)]) as server:
@@ -144,6 +196,32 @@ def a_server_has_as_many_sessions_as_it_is_told(volume):
                 caller.close()
     for word in NO_NUMBERS:
         assert_no_number(volume, "--sessions", word)
+
+
+def as_many_callers_can_wait_as_may_have_sessions(volume):
+    """While the server stands still, the system lets in as many callers as may have sessions. Others would try again after a second."""
+    with open("/proc/sys/net/core/somaxconn", encoding="ascii") as most:
+        if int(most.read()) < WAITING:
+            raise Skipped("the system lets fewer callers wait")
+    port = free_port()
+    with serving(volume, ["--port", str(port), "--sessions", str(WAITING)], 1) as (process, _):
+        os.kill(process.pid, signal.SIGSTOP)
+        callers = []
+        try:
+            for _ in range(WAITING):
+                callers.append(socket.socket())
+                callers[-1].setblocking(False)
+                callers[-1].connect_ex(("127.0.0.1", port))
+            time.sleep(1)
+            waiting = select.poll()
+            for caller in callers:
+                waiting.register(caller, select.POLLOUT)
+            let_in = sum(event == select.POLLOUT for _, event in waiting.poll(0))
+            assert let_in == WAITING, let_in
+        finally:
+            os.kill(process.pid, signal.SIGCONT)
+            for caller in callers:
+                caller.close()
 
 
 def threads_are_started_as_callers_come(volume):
@@ -527,7 +605,9 @@ TESTS = [
     callers_from_the_loopback_networks_are_let_in,
     an_address_gets_half_of_what_is_free,
     an_address_gets_as_many_as_it_may,
+    what_an_address_posts_in_a_minute_may_be_limited,
     a_server_has_as_many_sessions_as_it_is_told,
+    as_many_callers_can_wait_as_may_have_sessions,
     threads_are_started_as_callers_come,
     who_calls_by_a_proxy_is_judged_by_its_own_address,
     what_is_no_line_of_a_proxy_ends_the_connection,

@@ -1,6 +1,8 @@
 #!/usr/bin/env python3
 """System tests of the log of `newsd serve`: the lines of its standard error. logs.py NEWSD [NAME..]"""
 import calendar
+import contextlib
+import errno
 import fcntl
 import itertools
 import os
@@ -13,16 +15,19 @@ import tempfile
 import threading
 import time
 
-from fairness import batch
 from large import BEFORE_HOMES, BLOCK
 from listening import CALLER, DENIED, SERVER, Link, serving
-from newsd import ALL_FROM_ONE, FAULT, GREETING, GROUP, SERVICE_ENDS, Caller, article, end_with_parent, free_port, message_id, wait_until
+from newsd import (
+    ALL_FROM_ONE, FAULT, GREETING, GROUP, SERVICE_ENDS, Caller, article, end_with_parent, free_port, long_article, message_id, octets,
+    wait_until)
 from playing import Skipped, main
 from refusals import compile_library
 
 LINE = re.compile(r"time=(\d{4}-\d\d-\d\dT\d\d:\d\d:\d\dZ) event=([a-z]+)((?: [a-z]+=[^ ]+)*)")
 # what comes as often as callers like
 OF_SESSIONS = ("begin", "post", "cause")
+# what comes of a machine that is slow
+OF_OPENINGS = ("opening",)
 SHORT_SESSIONS = 10000
 # that of its beginning, and that of its end
 LINES_OF_A_SESSION = 2
@@ -34,6 +39,7 @@ LINES_KEPT = 1024
 SECONDS_OF_A_STALL = 240
 # has each read of the device take a millisecond at least, and a microsecond for each four octets
 SLOWING = os.path.join(os.path.dirname(os.path.abspath(__file__)), "slowing.c")
+SECONDS_AT_REST = 2
 # an opening is told of from this many seconds on
 SECONDS_UNTOLD = 2
 
@@ -56,9 +62,9 @@ class Log:
 
     def events(self, name=None):
         """The events of this name as pairs of their name and fields, once each line was looked at; without a name, all but the beginnings
-        of sessions and what became of their posts. A refused post has the name `cause` here, and a refused caller `refused`."""
+        of sessions, what became of their posts, and slow openings. A refused post has the name `cause` here, and a refused caller `refused`."""
         found = [self.event(line) for line in list(self.lines) if not line.startswith("newsd: ")]
-        return [it for it in found if (it[0] == name if name else it[0] not in OF_SESSIONS)]
+        return [it for it in found if (it[0] == name if name else it[0] not in OF_SESSIONS + OF_OPENINGS)]
 
     @staticmethod
     def event(line):
@@ -76,7 +82,7 @@ class Log:
 
     def line(self, at):
         """A line, with the numbers masked that no test knows. Those of the beginnings of sessions and of posts don't count."""
-        line = [it for it in self.lines if self.event(it)[0] not in OF_SESSIONS][at]
+        line = [it for it in self.lines if self.event(it)[0] not in OF_SESSIONS + OF_OPENINGS][at]
         return re.sub(r"time=\S+", "time=T", re.sub(r"peer=127\.0\.0\.1:\d+", "peer=P", line.rstrip("\n")))
 
 
@@ -233,17 +239,17 @@ def a_refusal_of_the_volume_has_its_cause(volume):
         log.wait("cause", full)
         assert full and [fields["cause"] for _, fields in log.events("cause")] == ["full"] * full, log.lines
         log.wait("post", 70 - full)
-    large = volume.another("large", blocks=16384, inodes=2048)
+    large = volume.another("large", blocks=8192, inodes=2048)
     large.make_group()
-    assert large.run("import", large.path, given=batch(1900)).returncode == 0
     with large.serve() as server, server.call() as caller:
         log = Log(server.process.stderr)
         taken = 0
-        while caller.post(article(1900 + taken)) == "240 Article received":
+        while caller.post(long_article(taken, 260_000)) == "240 Article received":
             taken += 1
-        assert taken == 2048 - 64 - 3 - 1900, taken
+        free = 8192 - int(server.order("status").split()[5])
+        assert 576 > free > 576 - 70, (taken, free)
         assert log.wait("cause", 1)[-1][1] == {"session": "1", "cause": "full"}, log.lines[-3:]
-        assert server.order("group x.b y 1000000000 test") == str(1900 + taken + 2), log.lines[-3:]
+        assert server.order("group x.b y 1000000000 test") == str(taken + 2), log.lines[-3:]
     with volume.another("failing").serve() as server, server.call() as caller, server.call() as late:
         log = Log(server.process.stderr)
         server.order("group x.a y 1000000000 test")
@@ -438,7 +444,7 @@ def what_comes_once_finds_room_in_a_full_log(volume):
     """The volume fills up and its device fails while nobody reads the log, and there are more lines than it keeps."""
     small = volume.another("small", blocks=1024, inodes=128)
     small.make_group()
-    with small.serve(words=ALL_FROM_ONE) as server:
+    with small.serve(words=ALL_FROM_ONE, log=subprocess.PIPE) as server:
         fcntl.fcntl(server.process.stderr.fileno(), fcntl.F_SETPIPE_SZ, 4096)
         for _ in range(LINES_KEPT + 200):
             call_and_quit(server.port)
@@ -488,7 +494,7 @@ def a_quiet_log_has_no_ends(volume):
 def a_log_that_nobody_reads_holds_nobody(volume):
     """Short sessions go on, and the operator is answered. What found no room is counted: each session has a line or is one of these."""
     volume.make_group()
-    with volume.serve(words=ALL_FROM_ONE) as server:
+    with volume.serve(words=ALL_FROM_ONE, log=subprocess.PIPE) as server:
         left, refused, lock = [SHORT_SESSIONS], [0], threading.Lock()
 
         def call():
@@ -559,6 +565,120 @@ def a_line_that_cannot_be_written_is_counted(volume):
         log.reading.join(10)
 
 
+@contextlib.contextmanager
+def logging_to(volume, faults, *words):
+    """The port of a server whose standard error is this descriptor, which is closed here."""
+    port = free_port()
+    words = [volume.program, "serve", volume.path, "--port", str(port), *ALL_FROM_ONE, *words]
+    with subprocess.Popen(words, stdin=subprocess.PIPE, stdout=subprocess.PIPE, stderr=faults, preexec_fn=end_with_parent) as process:
+        os.close(faults)
+        try:
+            assert process.stdout.readline().startswith(b"listening ")
+            yield port
+        finally:
+            process.kill()
+
+
+def what_comes_once_stays_until_it_is_written(volume):
+    """Standard error takes nothing while it is full. There is no other line once there is room, or there is one."""
+    for name, words in (("quiet", ["--quiet"]), ("all", [])):
+        small = volume.another(name, blocks=1024, inodes=256)
+        small.make_group()
+        ends, faults = os.pipe()
+        fcntl.fcntl(faults, fcntl.F_SETPIPE_SZ, 4096)
+        os.set_blocking(faults, False)
+        # what others have written there
+        os.write(faults, b"newsd: %s\n" % (b"x" * 4088))
+        with open(ends, "rb") as stream, logging_to(small, faults, *words) as port:
+            fill_volume(port)
+            # nothing of that wakes the thread that writes any more
+            time.sleep(SECONDS_AT_REST)
+            log = Log(stream)
+            wait_until(lambda: log.lines)
+            # the line that others had written isn't one of this log
+            del log.lines[0]
+            if not words:
+                call_and_quit(port)
+            assert len(log.wait("full", 1)) == 1, log.lines
+        log.reading.join(10)
+        assert len(log.events("full")) == 1, log.lines
+
+
+def a_full_disk_keeps_what_comes_once(volume):
+    """The log is a file of a full file system. Once there is room, it has the line, and says how many others were lost."""
+    folder = os.path.join(os.path.dirname(volume.path), "disk")
+    os.mkdir(folder)
+    if subprocess.run(["mount", "-t", "tmpfs", "-o", "size=64k", "tmpfs", folder], capture_output=True).returncode != 0:
+        raise Skipped("no file system can be mounted")
+    small = volume.another("small", blocks=1024, inodes=256)
+    small.make_group()
+    path, filling = os.path.join(folder, "log"), os.path.join(folder, "filling")
+    try:
+        faults = os.open(path, os.O_WRONLY | os.O_CREAT | os.O_APPEND)
+        with logging_to(small, faults) as port:
+            fill(filling)
+            taken = fill_volume(port)
+            assert octets(path) == b"", octets(path)
+            os.remove(filling)
+            call_and_quit(port)
+            wait_until(lambda: b" event=full " in octets(path) and octets(path).count(b" event=end ") > 0, 20)
+            lines = octets(path).decode().splitlines()
+        assert len([line for line in lines if " event=full " in line]) == 1, lines
+        assert all(LINE.fullmatch(line) for line in lines), lines
+        assert sum(int(line.rsplit("=", 1)[1]) for line in lines if " event=lost " in line) >= taken, lines
+    finally:
+        subprocess.run(["umount", "--lazy", folder], check=True)
+
+
+def fill_volume(port):
+    """Posts long articles until one finds no room, and says how many were taken."""
+    with Caller(port) as caller:
+        taken = next(number for number in range(100) if caller.post(article(number, body="x" * 40000))[:3] != "240")
+        assert caller.ask("QUIT") == "205 Bye"
+    return taken
+
+
+def fill(path):
+    """Makes a file that leaves no room for another octet."""
+    with open(path, "wb", buffering=0) as file:
+        try:
+            while True:
+                file.write(bytes(4096))
+        except OSError as refused:
+            assert refused.errno == errno.ENOSPC, refused
+
+
+def lines_of_posts_are_written_together(volume):
+    """Standard error keeps apart what each write wrote. Posts that one sync makes durable have their lines in one write."""
+    volume.make_group()
+    ours, theirs = socket.socketpair(socket.AF_UNIX, socket.SOCK_SEQPACKET)
+    writes, posts, each = [], 16, 40
+    with volume.serve(words=ALL_FROM_ONE, log=theirs) as server:
+        theirs.close()
+        reading = threading.Thread(target=lambda: writes.extend(iter(lambda: ours.recv(1 << 20), b"")), daemon=True)
+        reading.start()
+
+        def post(own):
+            with server.call() as caller:
+                caller.send(b"".join(b"POST\r\n" + article(own * 1000 + number) for number in range(each)))
+                assert [caller.line()[:3] for _ in range(2 * each)] == ["340", "240"] * each
+
+        threads = [threading.Thread(target=post, args=(own,)) for own in range(posts)]
+        for thread in threads:
+            thread.start()
+        for thread in threads:
+            thread.join(60)
+        assert server.order("stop") == "stopped"
+        assert server.process.wait(10) == 0
+    reading.join(10)
+    ours.close()
+    lines = b"".join(writes).decode().splitlines()
+    assert all(written.endswith(b"\n") for written in writes), writes
+    assert len([line for line in lines if " event=post " in line]) == posts * each, len(lines)
+    print("  %d lines in %d writes" % (len(lines), len(writes)), flush=True)
+    assert 2 * len(writes) <= len(lines), (len(writes), len(lines))
+
+
 def call_and_quit(port):
     """A short session, and how many calls found no seat before it. Seats are their threads', and on a busy machine many threads may
     still be at the end of a session that is over for its caller."""
@@ -581,7 +701,7 @@ def told(log):
 
 def a_server_whose_log_nobody_reads_stops(volume):
     volume.make_group()
-    with volume.serve() as server:
+    with volume.serve(log=subprocess.PIPE) as server:
         for _ in range(2000):
             with server.call() as caller:
                 assert caller.ask("QUIT") == "205 Bye"
@@ -698,6 +818,9 @@ TESTS = [
     a_nearly_full_volume_is_logged_once,
     a_volume_that_was_nearly_full_is_logged_at_the_start,
     what_comes_once_finds_room_in_a_full_log,
+    what_comes_once_stays_until_it_is_written,
+    a_full_disk_keeps_what_comes_once,
+    lines_of_posts_are_written_together,
     a_quiet_log_has_no_ends,
     a_log_that_nobody_reads_holds_nobody,
     a_line_that_cannot_be_written_is_counted,

@@ -94,7 +94,7 @@ def the_file_tells_what_callers_did(volume):
             assert seen["newsd_sessions_begun_total"] == 3 and seen["newsd_posts_accepted_total"] == 2, seen
             refused = {name: seen[cause("posts", name)] for name in POST_CAUSES if seen[cause("posts", name)]}
             assert refused == {"repeat": 1, "nogroup": 1, "missing": 1}, refused
-            assert (seen["newsd_changes_accepted_total"], seen["newsd_changes_durable_total"], seen["newsd_inodes_used"]) == (3, 3, 5), seen
+            assert (seen["newsd_changes_accepted_total"], seen["newsd_changes_durable_total"], seen["newsd_inodes_used"]) == (3, 3, 4), seen
             assert 1 <= seen["newsd_batches_total"] <= 2 and seen["newsd_commit_seconds_count"] == seen["newsd_batches_total"], seen
             assert seen["newsd_syncs_total"] > first["newsd_syncs_total"] and 0 < seen["newsd_commit_seconds_sum"] < 10, seen
             assert 0 < seen["newsd_kernel_wait_seconds_max"] < 10, seen
@@ -167,10 +167,10 @@ def a_file_that_cannot_be_written_is_refused(volume):
     folder = os.path.dirname(volume.path)
     missing, itself = os.path.join(folder, "no", "newsd.prom"), os.path.join(folder, "folder")
     os.makedirs(os.path.join(itself, "kept"))
-    for path in (missing, itself):
+    for path, why in ((missing, "can't write the file of --metrics: "), (itself, "E14 Bad: --metrics FILE is no regular file")):
         done = volume.run("serve", volume.path, "--port", str(free_port()), "--metrics", path)
         said = done.stderr.decode()
-        assert (done.returncode, done.stdout) == (1, b"") and said.startswith("newsd: can't write the file of --metrics: "), done
+        assert (done.returncode, done.stdout) == (1, b"") and said.startswith("newsd: " + why), done
         print("  " + said.rstrip("\n"), flush=True)
     assert os.listdir(itself) == ["kept"] and not os.path.exists(itself + ".part")
 

@@ -1,11 +1,13 @@
 """A server, and its callers, for the system tests and the load program."""
 import ctypes
 import os
+import queue
 import re
 import resource
 import signal
 import socket
 import subprocess
+import threading
 import time
 
 HOST = "news.example"
@@ -118,31 +120,68 @@ class Volume:
         done = self.run("import", self.path)
         assert (done.returncode, done.stderr) == (0, b""), done
 
-    def serve(self, by=(), words=()):
-        """A server of it, with these further words, which the program of the words `by` runs where there are any."""
-        return Server(self, by, words)
+    def serve(self, by=(), words=(), log=None):
+        """A server of it, with these further words, which the program of the words `by` runs where there are any. Its log goes to `log`, a
+        file or a word of `subprocess`; with none it is read as it comes, and kept for whoever asks for it. `PIPE` is a pipe that nobody
+        reads: after some 650 posts it is full, and the server writes no more lines then."""
+        return Server(self, by, words, log)
+
+
+class Heard:
+    """The lines of a pipe, which a thread reads as they come, so that it is never full. It is read as the pipe would be."""
+
+    def __init__(self, stream):
+        self.stream, self.lines = stream, queue.SimpleQueue()
+        self.reading = threading.Thread(target=self.hear, daemon=True)
+        self.reading.start()
+
+    def hear(self):
+        try:
+            for line in self.stream:
+                self.lines.put(line)
+        finally:
+            # its end, which is found by each who comes to it
+            self.lines.put(b"")
+
+    def readline(self):
+        line = self.lines.get()
+        if not line:
+            self.lines.put(line)
+        return line
+
+    def __iter__(self):
+        return iter(self.readline, b"")
+
+    def read(self):
+        return b"".join(self)
+
+    def close(self):
+        self.reading.join(SECONDS)
+        self.stream.close()
 
 
 class Server:
     """A running server. It is ended by its own process number. What reads its pipes waits as long as the caller lets it."""
 
-    def __init__(self, volume, by=(), words=()):
+    def __init__(self, volume, by=(), words=(), log=None):
         for _ in range(5):
             self.port = free_port()
             self.process = subprocess.Popen(
                 [*by, volume.program, "serve", volume.path, "--port", str(self.port), *words],
-                stdin=subprocess.PIPE, stdout=subprocess.PIPE, stderr=subprocess.PIPE,
+                stdin=subprocess.PIPE, stdout=subprocess.PIPE, stderr=subprocess.PIPE if log is None else log,
                 # python ignores the signal of a file that grows past its limit, and so does the server then
                 restore_signals=False,
                 # Linux shares the processors between sessions first: what loads the server then takes none of its share
                 start_new_session=True,
                 preexec_fn=end_with_parent,
             )
+            if log is None:
+                self.process.stderr = Heard(self.process.stderr)
             try:
                 line = self.process.stdout.readline().decode()
                 if line == "listening 127.0.0.1:%d\n" % self.port:
                     return
-                said = self.process.stderr.read().decode()
+                said = self.process.stderr.read().decode() if self.process.stderr else ""
             except BaseException:
                 self.kill()
                 raise
@@ -160,7 +199,8 @@ class Server:
             os.kill(self.process.pid, signal.SIGKILL)
         self.process.wait(SECONDS)
         for stream in (self.process.stdin, self.process.stdout, self.process.stderr):
-            stream.close()
+            if stream:
+                stream.close()
 
     def have_writes_fail(self):
         """From now on each write of the device fails but those to its first block."""

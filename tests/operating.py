@@ -29,11 +29,12 @@ PORT = "1119"
 PROXIED = "1563"
 UNITS = "lib/systemd/system"
 SETTINGS = "share/doc/newsd"
-PROGRAM, RELAY, MANUAL = "bin/newsd", "lib/newsd/xover", "share/man/man1/newsd.1"
+PROGRAM, RELAY, REPORT, FEED, MANUAL = "bin/newsd", "lib/newsd/xover", "lib/newsd/report", "lib/newsd/feed", "share/man/man1/newsd.1"
 SERVICE, SOCKET, RELAYING = (UNITS + "/" + name for name in ("newsd.service", "newsd.socket", "newsd-xover.service"))
-CALLERS, TUNNEL = SETTINGS + "/callers.conf", SETTINGS + "/stunnel.conf"
-INSTALLED = (PROGRAM, RELAY, MANUAL, SERVICE, SOCKET, RELAYING, CALLERS, TUNNEL)
+CALLERS, METRICS, TUNNEL, BALANCER = (SETTINGS + "/" + name for name in ("callers.conf", "metrics.conf", "stunnel.conf", "haproxy.cfg"))
+INSTALLED = (PROGRAM, RELAY, REPORT, FEED, MANUAL, SERVICE, SOCKET, RELAYING, CALLERS, METRICS, TUNNEL, BALANCER)
 PIPE = "/run/newsd.operator"
+CONTROL = "/run/newsd/control"
 SYSTEMD = "/lib/systemd/systemd"
 # in tenths, as `systemd-analyze security` counts
 MOST_EXPOSED = 15
@@ -68,7 +69,7 @@ def install(volume, *words, **given):
 def places_named(root):
     """The prefixes that the installed units name."""
     return [re.search("^ExecStart=(.*)/%s " % program, read(root, unit), re.MULTILINE)[1]
-            for unit, program in ((SERVICE, PROGRAM), (CALLERS, PROGRAM), (RELAYING, RELAY))]
+            for unit, program in ((SERVICE, PROGRAM), (RELAYING, RELAY))]
 
 
 def found_in(folder):
@@ -143,7 +144,7 @@ def an_installation_is_whole(volume):
         assert files == sorted(INSTALLED), files
     version = subprocess.run([os.path.join(prefix, "bin", "newsd"), "--version"], capture_output=True, text=True, timeout=SECONDS)
     assert version.stdout.startswith("newsd "), version
-    assert places_named(prefix) == [prefix] * 3, places_named(prefix)
+    assert places_named(prefix) == [prefix] * 2, places_named(prefix)
 
 
 def an_installation_is_staged(volume):
@@ -154,7 +155,7 @@ def an_installation_is_staged(volume):
         assert (done.returncode, done.stderr) == (0, ""), done
         files = [it for it in found_in(place) if os.path.isfile(os.path.join(place, it))]
         assert files == sorted(os.path.join(prefix[1:], it) for it in INSTALLED), files
-        assert places_named(place + prefix) == [prefix] * 3, places_named(place + prefix)
+        assert places_named(place + prefix) == [prefix] * 2, places_named(place + prefix)
         shutil.rmtree(place)
 
 
@@ -228,17 +229,18 @@ def a_program_without_a_proof_is_not_installed(volume):
 
 
 def systemd_takes_the_units(volume):
-    """As they are installed, and with contrib/callers.conf. The services may do little else than what they have to."""
+    """As they are installed, and with the settings to copy. The services may do little else than what they have to."""
     program = shutil.which("systemd-analyze")
     if program is None:
         raise Skipped("systemd-analyze isn't installed")
     prefix = os.path.join(place_of(volume), "prefix")
     install(volume, prefix).check_returncode()
     more = os.path.join(prefix, UNITS, "newsd.service.d")
-    for has_callers in (False, True):
-        if has_callers:
+    for has_settings in (False, True):
+        if has_settings:
             os.mkdir(more)
-            shutil.copy(os.path.join(prefix, CALLERS), more)
+            for name in (CALLERS, METRICS):
+                shutil.copy(os.path.join(prefix, name), more)
         words = [program, "verify", "--man=no", *(os.path.join(prefix, it) for it in (SERVICE, SOCKET, RELAYING))]
         done = subprocess.run(words, capture_output=True, text=True, timeout=SECONDS)
         assert (done.returncode, done.stdout, done.stderr) == (0, "", ""), done
@@ -293,10 +295,19 @@ def the_units_commands_serve_until_they_are_told_to_end(volume):
     assert setting("StandardInput", "newsd.service") == "socket" and setting("ListenFIFO", "newsd.socket") == PIPE
     pipe = os.path.join(place_of(volume), "operator")
     os.mkfifo(pipe)
-    values = {"/usr/local/bin/newsd": volume.program, "/var/lib/newsd/news.volume": volume.path, PORT: str(port)}
-    command = setting("ExecStart", "newsd.service").split()
-    assert set(values) <= set(command), command
-    words = [values.get(it, it) for it in command]
+    metrics, elsewhere = os.path.join(place_of(volume), "newsd.prom"), free_port()
+    control = os.path.join(place_of(volume), "control")
+    values = {"/usr/local/bin/newsd": volume.program, "/var/lib/newsd/news.volume": volume.path, PORT: str(port), CONTROL: control,
+              "/var/lib/newsd-metrics/newsd.prom": metrics, "0.0.0.0:119": "127.0.0.1:%d" % elsewhere}
+    bare, full = (started_by(*files) for files in ([], ["callers.conf", "metrics.conf"]))
+    assert set(values) <= set(full) and full[:len(bare)] == bare, full
+    words = [values.get(it, it) for it in bare]
+    with Started([values.get(it, it) for it in full], subprocess.DEVNULL, port) as serving:
+        assert serving.stdout.readline() == "listening 127.0.0.1:%d\n" % elsewhere
+        with Caller(elsewhere) as caller:
+            assert caller.greeting == GREETING
+        wait_until(lambda: os.path.exists(metrics))
+        assert volume.run("ask", control, "expire", "x.none", "1").stdout == b"E12 NotFound\n"
     # the signal by which systemd ends a service, where nobody writes into the pipe
     with Started(words, subprocess.DEVNULL, port) as serving, Caller(port) as caller:
         # the end of standard input changes nothing
@@ -322,6 +333,16 @@ def the_units_commands_serve_until_they_are_told_to_end(volume):
     finally:
         os.close(held)
     assert volume.dump() == ["spool 3", "1 group x.a y", "2 article <1@a.example> x.a", "3 article <2@a.example> x.a"]
+
+
+def started_by(*files):
+    """The words of the unit's command, with those that these files add to it. For systemd a variable that is a word becomes its own words."""
+    settings = [setting("Environment", name).strip('"').split("=", 1) for name in files]
+    given = {it.rstrip("="): "" for it in re.search("^Environment=(NEWSD.*)$", read(TOP, "contrib", "newsd.service"), re.MULTILINE)[1].split()}
+    assert {name for name, _ in settings} <= set(given), (settings, given)
+    given.update(settings)
+    words = setting("ExecStart", "newsd.service").split()
+    return [part for word in words for part in (given[word[1:]].split() if word.startswith("$") else [word])]
 
 
 def stop_by_the_unit(pipe, process):
@@ -358,6 +379,7 @@ def systemd_runs_the_units(volume):
     units = os.path.join(place, "config", "systemd", "user")
     os.makedirs(units)
     changed = {"/usr/local/bin/newsd": volume.program, "/var/lib/newsd/news.volume": volume.path, "/var/lib/newsd": place, PIPE: pipe, PORT: port,
+               CONTROL: place + "/control", "RuntimeDirectory=newsd\n": "",
                "=journal": "=append:%s/said" % place, "RestartSec=10": "RestartSec=1"}
     for name in ("newsd.service", "newsd.socket"):
         text = read(TOP, "contrib", name)
@@ -365,7 +387,7 @@ def systemd_runs_the_units(volume):
             text = text.replace(before, after)
         kept = [it for it in text.splitlines() if it.partition("=")[0] not in SYSTEMS_OWN]
         write(os.path.join(units, name), "\n".join(kept) + "\n")
-    words = ["unshare", "--mount", "--pid", "--fork", "--mount-proc", "--kill-child", "sh", "-c", PLAY, "sh", place, SYSTEMD]
+    words = ["unshare", "--mount", "--pid", "--fork", "--mount-proc", "--kill-child", "sh", "-c", PLAY, "sh", place, SYSTEMD, volume.program]
     groups = set(control_groups())
     try:
         done = subprocess.run(words, capture_output=True, text=True, stdin=subprocess.DEVNULL, timeout=3 * SECONDS,
@@ -418,10 +440,20 @@ until systemctl --user list-units >/dev/null 2>&1; do
     sleep 0.1
 done
 wait_for() { tries=0; until [ "0$(grep -sc "$1" "$HOME/said")" -ge "$2" ]; do tries=$((tries + 1)); [ $tries -lt 200 ] || exit 1; sleep 0.1; done; }
-state() { systemctl --user show newsd.service --property=ActiveState,Result --value | tr '\n' ' '; echo; }
+state() {
+    tries=0
+    # it says that it listens a moment after it prints so
+    until [ "$(systemctl --user show newsd.service --property=ActiveState --value)" != activating ] || [ $tries -ge 100 ]; do
+        tries=$((tries + 1))
+        sleep 0.1
+    done
+    systemctl --user show newsd.service --property=ActiveState,Result --value | tr '\n' ' '
+    echo
+}
 systemctl --user start newsd.service
 wait_for listening 1
 state
+"$3" ask "$HOME/control" expire x.none 1
 echo 'group x.b y 1000000000 test' >"$HOME/operator"
 wait_for '^2$' 1
 systemctl --user stop newsd.service
@@ -446,7 +478,7 @@ state
 systemctl --user stop newsd.service
 state
 """
-PLAYED = ["success active ", "success inactive ", "the pipe is gone", "success active ", "success inactive ", "success active ",
+PLAYED = ["success active ", "E12 NotFound", "success inactive ", "the pipe is gone", "success active ", "success inactive ", "success active ",
           "success inactive "]
 
 
@@ -463,6 +495,8 @@ def readers_elsewhere_come_by_tls(volume):
                 # a caller of another address, and one of the address that has its session already
                 assert read_by_tls(tunnel.port, certificate, source="127.0.0.2") == [GREETING, "211 1 1 1 " + GROUP, "220 1 <1@a.example>"]
                 assert read_by_tls(tunnel.port, certificate, asks=()) == [SERVICE_ENDS]
+                if has_ipv6():
+                    assert read_by_tls(tunnel.port, certificate, source="::1", asks=()) == [GREETING]
         with Tunnel(place, by_proxy, certificate, readers=reader) as tunnel:
             assert read_by_tls(tunnel.port, certificate, reader)[0] == GREETING
             for shown in (None, certificate):
@@ -493,6 +527,15 @@ def has_user(name):
         return False
 
 
+def has_ipv6():
+    with socket.socket(socket.AF_INET6) as probe:
+        try:
+            probe.bind(("::1", 0))
+        except OSError:
+            return False
+    return True
+
+
 class Tunnel:
     """stunnel by contrib/stunnel.conf, with the places of the test."""
 
@@ -502,7 +545,7 @@ class Tunnel:
             raise Skipped("stunnel isn't installed")
         self.port = free_port()
         settings = read(TOP, "contrib", "stunnel.conf")
-        changed = [("accept = 563", "accept = 127.0.0.1:%d" % self.port), ("127.0.0.1:" + PROXIED, "127.0.0.1:%d" % port),
+        changed = [("accept = :::563", "accept = " + (":::%d" if has_ipv6() else "%d") % self.port), ("127.0.0.1:" + PROXIED, "127.0.0.1:%d" % port),
                    ("/etc/stunnel/newsd.pem", certificate)]
         if os.getuid() or not has_user("stunnel4"):
             changed += [("\nsetuid = stunnel4\nsetgid = stunnel4\n", "\n")]
@@ -536,7 +579,7 @@ def read_by_tls(port, trusted, shown=None, source="127.0.0.1", asks=("GROUP " + 
     context = ssl.create_default_context(cafile=trusted + ".crt")
     if shown:
         context.load_cert_chain(shown)
-    with socket.create_connection(("127.0.0.1", port), SECONDS, (source, 0)) as plain:
+    with socket.create_connection(("::1" if ":" in source else "127.0.0.1", port), SECONDS, (source, 0)) as plain:
         with context.wrap_socket(plain, server_hostname="news.example") as caller, caller.makefile("rwb") as lines:
             said = [lines.readline().decode().rstrip("\r\n")]
             for asked in asks:

@@ -11,7 +11,7 @@ import sys
 import threading
 import time
 
-from findings import Image
+from findings import GROUP_FILE, Image
 from logs import Log
 from newsd import (
     FAULT, GREETING, GROUP, HOST, NO_SUPERBLOCK, SECONDS, SERVICE_ENDS, Caller, article, end_with_parent, free_port, message_id, octets,
@@ -21,6 +21,10 @@ from playing import Skipped, main
 # the octets of an overview up to which its group takes articles
 ROOM = 4294950912
 BLOCK = 4096
+# the octets of a group's file before its description
+GROUP_HEAD = 17
+# the octets of the pack that an article's file takes beside its content
+HEAD = 17
 POSTERS = 16
 # a server that is told to stop may wait so long for what is under way
 SECONDS_OF_A_STOP = 10
@@ -97,7 +101,7 @@ def assert_status(volume):
 
 def gone_of(changes, sizes):
     """What is gone, by the lines of `dump` and the sizes of the files of articles (docs/FORMATS.md)."""
-    filed, lows, gone = {}, {}, {"articles": 0, "texts": 0, "blocks": 0}
+    filed, lows, gone, octets = {}, {}, {"articles": 0, "texts": 0, "blocks": 0}, 0
     for words in changes:
         if words[1] == "article":
             for name in words[3].split(","):
@@ -111,7 +115,8 @@ def gone_of(changes, sizes):
             husk = len("Path: -Date: -From: -Subject: -Message-ID: Newsgroups: ") + len(own_id) + len(names) + 14
             gone["articles"] += 1
             gone["texts"] += husk < size
-            gone["blocks"] += (size - 1) // BLOCK
+            octets += max(0, size - husk - HEAD)
+    gone["blocks"] = octets // BLOCK
     return gone
 
 
@@ -133,6 +138,7 @@ class Counted:
                 slot = slots + 64 * number
                 self.sizes[image[slot + 1:slot + 1 + image[slot]].decode()] = size
         self.inodes_used = len(self.sizes)
+        self.sizes.update((name.decode(), size) for name, _, size in Image(path).packed())
 
 
 def listing(volume):
@@ -248,8 +254,8 @@ def an_operator_asks_for_the_status(volume):
         assert server.order("group x.b y 1000000000 test") == "22"
         now = asked(server)
         assert (now["sessions"], now["accepted"], now["durable"]) == (3, 22, 22), now
-        # x.a and x.b take three inodes each, an article one
-        assert (now["inodes"], now["inodes_all"]) == (3 + 20 + 3, 4096), now
+        # x.a and x.b take three inodes each, and the articles share the pack
+        assert (now["inodes"], now["inodes_all"]) == (3 + 1 + 3, 4096), now
         assert now["batches"] - first["batches"] in range(1, 22) and now["syncs"] - first["syncs"] >= 2, (first, now)
         assert first["blocks"] < now["blocks"] <= now["blocks_all"] == 8192, (first, now)
         for caller in callers:
@@ -262,6 +268,23 @@ def an_operator_asks_for_the_status(volume):
         assert server.end() == (0, "")
     seen = json.loads(volume.run("status", volume.path, "--json").stdout)
     assert (seen["blocks"]["used"], seen["inodes"]["used"], seen["changes"]) == (last["blocks"], last["inodes"], 22), (seen, last)
+
+
+def a_group_of_the_operator_has_a_description(volume):
+    """One that shows something. A group that a volume has without one is served as it is."""
+    volume.make_group()
+    volume.settle()
+    image = Image(volume.path)
+    described = image.content(GROUP_FILE) + GROUP_HEAD
+    assert image.octets[described:][:5] == b"test\0", image.octets[described:][:5]
+    image.write([(described, b"    ")])
+    with volume.serve() as server, server.call() as caller:
+        for line in ("group x.b y 1", "group x.b y 1 ", "group x.b y 1    ", "group x.b y 1 \t", "group x.b y 1 " + 201 * "a"):
+            assert server.order(line) == "E14 Bad", line
+        assert server.order("group x.b y 1000000000  b ") == "2"
+        assert caller.ask("LIST NEWSGROUPS").startswith("215 ")
+        assert [caller.line() for _ in range(3)] == ["x.a\t    ", "x.b\t b ", "."]
+    assert volume.dump() == ["spool 2", "1 group x.a y", "2 group x.b y"]
 
 
 def an_operator_sees_the_sessions_and_ends_them(volume):
@@ -533,6 +556,7 @@ TESTS = [
     what_has_no_status_is_refused,
     a_file_that_may_not_be_opened_is_named_so,
     an_operator_asks_for_the_status,
+    a_group_of_the_operator_has_a_description,
     an_operator_sees_the_sessions_and_ends_them,
     a_server_that_is_told_to_stop_ends_in_order,
     a_stop_beside_posters_keeps_all_that_was_accepted,

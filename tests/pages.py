@@ -18,6 +18,7 @@ from edits import functions_of  # noqa: E402
 from graph import Graph  # noqa: E402
 
 COLUMNS = 140
+SECONDS_OF_A_CHECK = 300
 # what builds make, and what isn't of the repository
 APART = {".git", "out"}
 LINK = re.compile(r"\[[^\]]*\]\(([^)\s]+)\)")
@@ -114,7 +115,7 @@ def no_line_is_too_long():
 
 def faults_by(script):
     """What a script says with `--check`, if its status isn't 0."""
-    done = subprocess.run([sys.executable, "-B", os.path.join(TOP, script), "--check"], capture_output=True, text=True, timeout=60)
+    done = subprocess.run([sys.executable, "-B", os.path.join(TOP, script), "--check"], capture_output=True, text=True, timeout=SECONDS_OF_A_CHECK)
     if done.returncode:
         yield from (script + ": " + it for it in (done.stdout + done.stderr).strip().splitlines())
 

@@ -15,7 +15,7 @@ import tempfile
 import termios
 import time
 
-from newsd import GROUP, HOST, NO_SUPERBLOCK, SECONDS, article, end_with_parent, message_id, octets
+from newsd import GROUP, HOST, NO_SUPERBLOCK, SECONDS, SECONDS_OF_WORK, article, end_with_parent, message_id, octets
 from playing import Skipped, main
 from refusals import compile_library
 
@@ -25,6 +25,9 @@ GROUPS = (GROUP, "x.b", "x.c")
 MANY, KILLS = 400, 20
 # a volume with room for them is small, and soon made and opened
 SMALL = {"blocks": 2048, "inodes": 1088}
+BLOCK = 4096
+# the octets of the pack that an article's file takes beside its content
+HEAD = 17
 ERASE = "\r\x1b[K"
 PROGRESS = re.compile(r"(\d+) of (\d+) changes, (\d+) changes a second")
 REPORT = ("groups", "kept", "husks", "expiries", "before", "after")
@@ -61,23 +64,48 @@ def a_client_sees_no_difference(volume):
     assert view(again) == after[0][2]
 
 
-def what_is_gone_gives_its_blocks_back(volume):
-    post_long(volume, 100, 200)
-    volume.expire(90)
-    before = status_of(volume)
-    new = beside(volume, "new")
-    said = json_of(volume, "renew", volume.path, new.path, "--json")
-    after = status_of(new)
-    for name, status in (("before", before), ("after", after)):
-        assert said[name] == {"blocks": status["blocks"], "inodes": status["inodes"]}, (said, status)
-    assert (said["groups"], said["kept"], said["husks"], said["expiries"]) == (1, 10, 90, 1), said
-    # 90 articles of four blocks share the pack with the expiry now, and the overview has one block of two
-    less = before["blocks"]["used"] - after["blocks"]["used"]
-    assert 90 * 4 - 4 <= less <= 90 * 4 + 1, (before, after)
-    # of which the status said what was sure
-    assert before["gone"] == {"articles": 90, "texts": 90, "blocks": 270}, before
-    assert after["gone"] == {"articles": 90, "texts": 0, "blocks": 0}, after
-    assert before["inodes"]["used"] - after["inodes"]["used"] == 90, (before, after)
+def what_is_gone_gives_its_room_back(volume):
+    """Wherever it stood: in the pack, alone because it is too long for the pack, or alone because the volume has few inodes. The status says
+    of how many blocks that is sure, and a renewal gives back little more."""
+    few = volume.another("few", inodes=1984)
+    for each, lines, alone in ((volume, 200, 0), (volume.another("long"), 500, 90), (few, 200, 90)):
+        post_long(each, 100, lines)
+        each.expire(90)
+        before = status_of(each)
+        new = beside(each, "new")
+        said = json_of(each, "renew", each.path, new.path, "--json")
+        after = status_of(new)
+        for name, status in (("before", before), ("after", after)):
+            assert said[name] == {"blocks": status["blocks"], "inodes": status["inodes"]}, (said, status)
+        assert (said["groups"], said["kept"], said["husks"], said["expiries"]) == (1, 10, 90, 1), said
+        # of each text what it has more than its husk, less 17 octets
+        more = sum(len(article(it, body=body_of(lines))) - len(b".\r\n") - len(husk_of(it)) - HEAD for it in range(90))
+        assert before["gone"] == {"articles": 90, "texts": 90, "blocks": more // BLOCK}, (before, more)
+        assert after["gone"] == {"articles": 90, "texts": 0, "blocks": 0}, after
+        less = before["blocks"]["used"] - after["blocks"]["used"]
+        # what had inodes leaves a block that was filled in part, and one of pointers
+        assert before["gone"]["blocks"] <= less <= before["gone"]["blocks"] + 2 + 2 * alone, (before, after)
+        assert before["inodes"]["used"] - after["inodes"]["used"] == alone, (before, after)
+
+
+def a_renewed_pack_is_as_dense_as_a_new_one(volume):
+    """Of 600 articles in the pack every other group is taken out. A new volume into which the kept ones are imported has as many blocks, but
+    for those of the husks."""
+    for name in GROUPS[:2]:
+        volume.make_group(name)
+    texts = [lf_text(number).replace(b"Newsgroups: x.a", b"Newsgroups: " + GROUPS[number % 2].encode()) for number in range(600)]
+    assert volume.run("import", volume.path, given=b"".join(b"#! rnews %d\n%s" % (len(it), it) for it in texts)).returncode == 0
+    volume.expire(300, "x.b")
+    renewed(volume, None)
+    other = volume.another("other")
+    for name in GROUPS[:2]:
+        other.make_group(name)
+    exported = volume.export()
+    assert other.run("import", other.path, given=exported).returncode == 0 and other.export() == exported
+    used, of_a_new_one = (status_of(each)["blocks"]["used"] for each in (volume, other))
+    # 300 husks with their heads, their numbers in the group, and their lines of the overview, of at most 48 octets
+    husks = sum(len(husk_of(number, "x.b")) + HEAD + 26 + 16 + 48 for number in range(1, 600, 2))
+    assert used <= of_a_new_one + husks // BLOCK + 3, (used, of_a_new_one, husks)
 
 
 def a_volume_grows(volume):
@@ -175,7 +203,7 @@ def what_can_not_be_renewed_is_refused(volume):
     assert len(octets(volume.path)) == len(content)
     # a report that can't be printed leaves the new volume
     with open("/dev/full", "w") as full:
-        done = subprocess.run([volume.program, "renew", volume.path, new], stdout=full, stderr=subprocess.PIPE, timeout=SECONDS)
+        done = subprocess.run([volume.program, "renew", volume.path, new], stdout=full, stderr=subprocess.PIPE, timeout=SECONDS_OF_WORK)
     assert done.returncode == 1 and done.stderr, done
     assert beside(volume, "new").dump() == volume.dump()
 
@@ -252,7 +280,7 @@ def a_terminal_is_shown_how_far_it_is(volume):
     fcntl.ioctl(terminal, termios.TIOCSWINSZ, struct.pack("HHHH", 24, 200, 0, 0))
     words = [volume.program, "renew", volume.path, beside(volume, "new").path]
     process = subprocess.Popen(words, stdout=subprocess.PIPE, stderr=terminal, preexec_fn=end_with_parent)
-    said = process.communicate(timeout=SECONDS)[0].decode()
+    said = process.communicate(timeout=SECONDS_OF_WORK)[0].decode()
     os.write(terminal, b"end")
     seen = ""
     while not seen.endswith("end"):
@@ -288,10 +316,19 @@ def fill(volume):
 def post_long(volume, count, lines):
     """Makes the group and posts so many articles of so many lines."""
     volume.make_group()
-    body = "\r\n".join("%070d" % line for line in range(lines))
     with volume.serve() as server, server.call() as caller:
         for number in range(count):
-            assert caller.post(article(number, body=body)) == "240 Article received"
+            assert caller.post(article(number, body=body_of(lines))) == "240 Article received"
+
+
+def body_of(lines):
+    return "\r\n".join("%070d" % line for line in range(lines))
+
+
+def husk_of(number, names=GROUP):
+    """What a renewal leaves of an article that is gone (docs/GLOSSARY.md)."""
+    fields = ["Path: -", "Date: -", "From: -", "Subject: -", "Message-ID: " + message_id(number), "Newsgroups: " + names]
+    return "".join(field + "\r\n" for field in [*fields, ""]).encode()
 
 
 def post_some(caller, numbers, names):
@@ -403,7 +440,8 @@ def seeded():
 
 TESTS = [
     a_client_sees_no_difference,
-    what_is_gone_gives_its_blocks_back,
+    what_is_gone_gives_its_room_back,
+    a_renewed_pack_is_as_dense_as_a_new_one,
     a_volume_grows,
     blocks_may_lack,
     a_volume_is_renewed_in_place,

@@ -21,8 +21,9 @@ MOMENT = 1000000000
 # groups that each script begins with, others that it may make, and one that it doesn't make
 GROUPS, MORE_GROUPS, ABSENT = ("x.a", "x.b", "x.c"), ("y.a", "y.b", "y.c"), "x.none"
 SESSIONS = 3
-# a volume with room for all articles of a script, and one with room for few
-LARGE, SMALL = {"blocks": 1024, "inodes": 256}, {"blocks": 1024, "inodes": 64}
+# a volume with room for all articles of a script, and one with room for few. Of every two scripts one has so many inodes that short
+# articles share the pack
+LARGE, SMALL, PACKED = {"blocks": 1024, "inodes": 256}, {"blocks": 1024, "inodes": 64}, {"blocks": 1024, "inodes": 2048}
 SCRIPTS, STEPS = 6, 220
 SMALL_SCRIPTS, SMALL_STEPS = 5, 180
 MANY, MANY_SMALL = 100, 60
@@ -56,7 +57,7 @@ def play_large(program, scripts):
 
 
 def large(program, seed):
-    both = Both(program, Author(seed).write(STEPS), LARGE, is_cached=seed % 4 == 3)
+    both = Both(program, Author(seed).write(STEPS), PACKED if seed % 2 else LARGE, is_cached=seed % 4 > 1)
     assert both.renewed == both.plain, "seed %d: %s" % (seed, both.first_difference())
     assert not WAITS.search(both.plain), seed
     return both
@@ -75,7 +76,7 @@ def play_small(program, scripts):
 
 def small(program, seed):
     """Which of the two was full first."""
-    both = Both(program, SmallAuthor(seed).write(SMALL_STEPS), SMALL)
+    both = Both(program, SmallAuthor(seed).write(SMALL_STEPS), PACKED if seed % 2 else SMALL)
     first = both.full_first()
     assert first, "seed %d: %s" % (seed, both.first_difference())
     assert not WAITS.search(both.plain + both.renewed), seed

@@ -11,6 +11,7 @@ import threading
 import time
 import warnings
 
+from fairness import is_at_rest
 from logs import Log
 from newsd import (ALL_FROM_ONE, GREETING, GROUP, HOST, SECONDS, SERVICE_ENDS, Caller, article, long_article, message_id, octets,
                    settled_octets, wait_until)
@@ -28,6 +29,12 @@ READERS, SMALL_BUFFER = 6, 8_192
 MOST_OF_A_READER = 1 << 20
 # how many sessions hold a long reply that is made whole
 MOST_LARGE = 8
+# so many new articles surely fit one release
+FEW = 256
+# articles with long ids, and how often who reads nothing asks for all, so that his socket doesn't take the answers
+LONG_IDS, DEAF_ASKS = 1_000, 30
+# those that ask for no article twice in one piece, beside others that post: for how long, and how often those post at most
+ASKS_FOR_NONE, SECONDS_BESIDE, POSTS_BESIDE, WAITS = b"NEWNEWS * 20300101 000000\r\n", 8, 900, 15
 SECONDS_OF_A_REFUSAL = 2
 # callers that fill a volume, and how many articles each sends in one piece
 FILLING, IN_A_PIECE = 8, 20
@@ -38,15 +45,18 @@ LARGE, MOST_OF_A_REFUSED = 262_000, 1 << 20
 # what an operator does in a volume that callers have filled
 EXPIRIES = 20
 def who_fills_a_volume_leaves_its_operator_room(volume):
-    """By many articles, which take the inodes, and by large ones, which take the blocks. Who sends them stays and is told each time. Reading
-    goes on, and so does the operator, whose expiries share the pack."""
-    for name, pieces in (("inodes", lambda at: (at * IN_A_PIECE + number for number in range(IN_A_PIECE))), ("blocks", lambda at: (at,))):
-        full = volume.another(name)
+    """By articles that are too long for the pack, which take the inodes beside those of many groups; by large ones, and by short ones in the
+    pack, which take the blocks. Who sends them stays and is told each time. Reading goes on, and so does the operator, whose expiries
+    share the pack."""
+    for name, size, in_a_piece, groups in (("inodes", 40_000, 1, 600), ("blocks", 200_000, 1, 1), ("pack", 10_000, IN_A_PIECE, 1)):
+        full = volume.another(name, inodes=2048)
         full.make_group()
         with full.serve(words=ALL_FROM_ONE) as server:
+            for number in range(2, groups + 1):
+                assert server.order("group y.%d y 1000000000 test" % number) == str(number)
             log = Log(server.process.stderr)
             ends = []
-            side_by_side(*(lambda own=own: ends.append(fill(server, own, pieces, name == "blocks")) for own in range(FILLING)))
+            side_by_side(*(lambda own=own: ends.append(fill(server, own, size, in_a_piece)) for own in range(FILLING)))
             took, refused = map(sum, zip(*ends))
             assert {fields["cause"] for _, fields in log.wait("cause", refused)} == {"full"}
             assert {fields["why"] for _, fields in log.wait("end", FILLING)} == {"quit"}
@@ -58,22 +68,23 @@ def who_fills_a_volume_leaves_its_operator_room(volume):
             left = free_of(server)
             assert left["inodes"] == LEFT_INODES if name == "inodes" else left["blocks"] < ASKED_BLOCKS + LEFT_BLOCKS, left
             assert left["blocks"] >= LEFT_BLOCKS, left
-            serial = took + 2
+            serial = groups + took + 1
             assert server.order("group x.b y 1000000000 test") == str(serial)
             for number in range(1, EXPIRIES):
                 assert server.order("expire x.a %d" % number) == str(serial + number)
-            assert left["inodes"] - free_of(server)["inodes"] == GROUP_FILES + 1
+            # the first file that goes into the pack makes it
+            assert left["inodes"] - free_of(server)["inodes"] == GROUP_FILES + (0 if name == "pack" else 1)
             assert server.order("stop") == "stopped" and server.process.wait(SECONDS) == 0
         assert full.expire(EXPIRIES) == serial + EXPIRIES
 
 
-def fill(server, own, pieces, are_large):
-    """Posts until the server takes no more, and says how many articles it took and how many it refused."""
+def fill(server, own, size, in_a_piece):
+    """Posts articles of this size until the server takes no more, and says how many it took and how many it refused."""
     took, refused = 0, 0
     with server.call() as caller:
         for at in range(10_000):
-            ids = ["%d.%d" % (own, number) for number in pieces(at)]
-            caller.send(b"".join(b"POST\r\n" + (long_article(it, 200_000) if are_large else article(it)) for it in ids))
+            ids = ["%d.%d.%d" % (own, at, number) for number in range(in_a_piece)]
+            caller.send(b"".join(b"POST\r\n" + long_article(it, size) for it in ids))
             for _ in ids:
                 assert caller.line() == "340 Send article"
                 said = caller.line()
@@ -168,11 +179,11 @@ def long_replies_come_whole_beside_posts(volume):
     assert whole == [True] * 80 and posted == ["240 Article received"] * 200, (len(whole), len(posted))
 
 
-def with_many(volume, prefix):
+def with_many(volume, prefix, count=NUMBERS):
     """A volume with many articles in a group, whose ids begin so."""
     large = volume.another("large", blocks=34_816, inodes=32_768)
     large.make_group()
-    texts = [article(prefix + str(number))[:-len(b".\r\n")] for number in range(NUMBERS)]
+    texts = [article(prefix + str(number))[:-len(b".\r\n")] for number in range(count)]
     given = b"".join(b"#! rnews %d\n%s" % (len(text), text) for text in texts)
     assert large.run("import", large.path, given=given).returncode == 0
     return large
@@ -232,15 +243,17 @@ def read_block(caller):
 
 
 def few_large_replies_are_held_at_a_time(volume):
-    """Who asks for a long NEWNEWS waits while eight callers hold one. Other commands don't wait, and the server stops all the same."""
+    """Who asks for a long NEWNEWS waits while eight callers hold one, or two of his own address. Who asks for few articles doesn't, nor do
+    other commands, and the server stops all the same."""
     large = with_many(volume, "x" * 200)
     asked = b"NEWNEWS * 20010901 000000\r\n"
     with large.serve(words=ALL_FROM_ONE) as server, server.call() as other:
         other.send(asked)
         whole = read_block(other)
         assert whole.count(b"\r\n") == NUMBERS + 2
-        holders = [Caller(server.port, receive_octets=SMALL_BUFFER) for _ in range(MOST_LARGE)]
-        late = [Caller(server.port, receive_octets=SMALL_BUFFER) for _ in range(2)]
+        # each address has as many as it may have
+        holders = [Caller(server.port, receive_octets=SMALL_BUFFER, source="127.0.0.%d" % (2 + at // 2)) for at in range(MOST_LARGE)]
+        late = [Caller(server.port, receive_octets=SMALL_BUFFER, source="127.0.0.%d" % (20 + at)) for at in range(2)]
         for caller in holders:
             caller.send(asked)
             assert caller.line().startswith("230 ")
@@ -248,6 +261,8 @@ def few_large_replies_are_held_at_a_time(volume):
             caller.send(asked)
         time.sleep(1)
         assert other.ask("DATE").startswith("111 ") and other.post(article("other")) == "240 Article received"
+        other.send(b"NEWNEWS * 20300101 000000\r\n")
+        assert read_block(other).count(b"\r\n") == 2
         other.send(b"OVER 1-\r\nLIST\r\nGROUP x.a\r\n")
         assert other.line().startswith("412 ") and read_block(other).startswith(b"215 ") and other.line().startswith("211 ")
         assert not select.select([caller.socket for caller in late], [], [], 0)[0]
@@ -263,6 +278,85 @@ def few_large_replies_are_held_at_a_time(volume):
         assert server.order("stop") == "stopped" and server.end()[0] == 0
         for caller in (*holders, first, second, waiting):
             caller.close()
+
+
+def an_address_has_two_places(volume):
+    """Of the eight that may hold a long NEWNEWS two are of one address. A third one of it waits, though six places are free, and is answered
+    once one of the two has left. A caller of another address isn't kept waiting."""
+    large = with_many(volume, "x" * 200, LONG_IDS)
+    asked = b"NEWNEWS * 20010901 000000\r\n"
+    with large.serve(words=ALL_FROM_ONE) as server:
+        holders = [Caller(server.port, receive_octets=SMALL_BUFFER, source="127.0.0.2") for _ in range(2)]
+        for caller in holders:
+            caller.send(asked * DEAF_ASKS)
+            assert caller.line().startswith("230 ")
+        wait_until(lambda: is_at_rest(server))
+        with Caller(server.port, seconds=WAITS, source="127.0.0.2") as third, Caller(server.port, seconds=WAITS, source="127.0.0.3") as other:
+            # by a keyword in the other case, and with a TAB
+            third.send(b"newnews\t" + asked.split(b" ", 1)[1])
+            other.send(asked)
+            assert read_block(other).count(b"\r\n") == LONG_IDS + 2
+            assert not select.select([third.socket], [], [], 1)[0]
+            holders[0].close()
+            assert read_block(third).count(b"\r\n") == LONG_IDS + 2
+        holders[1].close()
+        wait_until(lambda: " sessions 0 " in server.order("status"))
+
+
+def who_asks_for_few_waits_for_no_place(volume):
+    """Beside two of his own address that hold a long NEWNEWS, a caller who asks for so many new articles as surely fit one release is
+    answered at once, and one who asks for one more waits."""
+    large = with_many(volume, "x" * 200, LONG_IDS)
+    with large.serve(words=ALL_FROM_ONE) as server, Caller(server.port, seconds=WAITS) as asker:
+        time.sleep(2)
+        since = asker.ask("DATE").split()[1]
+        line = ("NEWNEWS * %s %s\r\n" % (since[:8], since[8:])).encode()
+        for number in range(FEW):
+            assert asker.post(article("few%d" % number)) == "240 Article received"
+        holders = [Caller(server.port, receive_octets=SMALL_BUFFER) for _ in range(2)]
+        for caller in holders:
+            caller.send(b"NEWNEWS * 20010901 000000\r\n" * DEAF_ASKS)
+            assert caller.line().startswith("230 ")
+        wait_until(lambda: is_at_rest(server))
+        asker.send(line)
+        assert read_block(asker).count(b"\r\n") == FEW + 2
+        assert asker.post(article("one_more")) == "240 Article received"
+        asker.send(line)
+        assert not select.select([asker.socket], [], [], 1)[0]
+        holders[0].close()
+        assert read_block(asker).count(b"\r\n") == FEW + 3
+        holders[1].close()
+
+
+def newnews_beside_posts_stops_nobody(volume):
+    """Callers that ask for new articles twice in one piece, again and again beside others that post, are all answered."""
+    volume.make_group()
+    with volume.serve(words=ALL_FROM_ONE) as server:
+        end, served = time.monotonic() + SECONDS_BESIDE, []
+
+        def ask():
+            while time.monotonic() < end:
+                with Caller(server.port, seconds=WAITS) as caller:
+                    caller.send(ASKS_FOR_NONE * 2 + b"QUIT\r\n")
+                    said = caller.file.read()
+                    served.append(said.count(b"\r\n.\r\n") == 2 and said.count(b"205 ") == 1)
+
+        def post(name):
+            with Caller(server.port, seconds=WAITS) as caller:
+                for number in range(POSTS_BESIDE):
+                    if time.monotonic() > end:
+                        return
+                    served.append(caller.post(article("%s.%d" % (name, number))) == "240 Article received")
+
+        threads = [threading.Thread(target=ask) for _ in range(MOST_LARGE)]
+        threads += [threading.Thread(target=post, args=(name,)) for name in "abcd"]
+        for thread in threads:
+            thread.start()
+        for thread in threads:
+            thread.join()
+        # one that fails or waits too long ends by an exception, and its connection stays
+        assert all(served), served.count(False)
+        wait_until(lambda: " sessions 0 " in server.order("status"))
 
 
 def sixty_four_callers_and_one_more(volume):
@@ -508,7 +602,7 @@ def the_operator_makes_changes(volume):
         assert server.order("group x.a y 1000000000 test") == "E11 Exists"
         assert server.order("group x..b y 1000000000 test") == "E14 Bad"
         assert server.order("spool") == "E14 Bad"
-        assert server.order("group x.b n 1000000000 ") == "2"
+        assert server.order("group x.b n 1000000000 t") == "2"
         assert server.order("expire x.a 1") == "E12 NotFound"
         assert caller.post(article(1)) == "240 Article received"
         assert server.order("expire x.a one") == "E14 Bad"
@@ -660,6 +754,9 @@ TESTS = [
     long_lists_of_numbers_come_whole_beside_posts,
     a_long_overview_stays_as_it_was,
     few_large_replies_are_held_at_a_time,
+    an_address_has_two_places,
+    who_asks_for_few_waits_for_no_place,
+    newnews_beside_posts_stops_nobody,
     sixty_four_callers_and_one_more,
     who_takes_nothing_keeps_its_seat,
     a_clock_that_goes_back_hides_no_article,

@@ -5,13 +5,15 @@ import sys
 import threading
 import time
 
-from newsd import Caller, article, long_article, message_id
+from logs import Log
+from newsd import Caller, article, long_article, message_id, wait_until
 from playing import main, side_by_side
 
 LARGEST = 262144
 SMALL_BUFFER = 8192
 WINDOW = 60
 LONG_WINDOW = 240
+SECONDS_OF_A_STALL = 180
 # the seconds that the first command may take, and any later message
 FIRST = 30
 SLOW = 600
@@ -60,6 +62,46 @@ def who_takes_little_is_not_let_go(volume):
             assert caller.post(long) == "240 Article received"
         callers = [Caller(server.port, receive_octets, 2 * LONG_WINDOW) for receive_octets in (SMALL_BUFFER, None)]
         side_by_side(*[lambda caller=caller: read_sixty_at(server, caller, long, 2_000, LONG_WINDOW) for caller in callers])
+        for caller in callers:
+            caller.close()
+
+
+def who_takes_little_of_a_large_reply_is_let_go(volume):
+    """Who holds one of the places for large replies has to take a hundred octets a second, judged by turns of three minutes. One that takes
+    fewer is let go, and the log says why; one that takes more stays, and so does one that takes as few and holds none. It takes four
+    minutes."""
+    volume.make_group()
+    with volume.serve() as server:
+        log = Log(server.process.stderr)
+        with server.call() as caller:
+            for number in range(1_000):
+                assert caller.post(article("%0200d" % number)) == "240 Article received"
+            assert caller.post(long_article("long", 250_000)) == "240 Article received"
+            assert caller.ask("QUIT") == "205 Bye"
+        callers = [Caller(server.port, receive_octets, source="127.0.0.%d" % (20 + at)) for at, receive_octets in enumerate([SMALL_BUFFER] * 3)]
+        for caller in callers[:2]:
+            caller.send(b"NEWNEWS * 20000101 000000\r\n" * 30)
+        callers[2].send(b"ARTICLE <long@a.example>\r\n" * 60)
+        ends = threading.Event()
+
+        def sip(caller, octets, pause):
+            try:
+                while not ends.wait(pause):
+                    caller.socket.recv(octets)
+            except ConnectionError:
+                pass
+
+        start = time.monotonic()
+        threads = [threading.Thread(target=sip, args=it) for it in zip(callers, (240, 1_000, 240), (4, 4, 4))]
+        for thread in threads:
+            thread.start()
+        wait_until(lambda: time.monotonic() > start + LONG_WINDOW or len(log.events("end")) > 1, LONG_WINDOW + 30)
+        ends.set()
+        for thread in threads:
+            thread.join()
+        assert [it[1]["why"] for it in log.events("end")] == ["quit", "slow"], log.lines[-3:]
+        assert time.monotonic() - start > SECONDS_OF_A_STALL
+        assert [server.has_established(it) for it in callers] == [False, True, True]
         for caller in callers:
             caller.close()
 
@@ -232,7 +274,7 @@ TESTS = [
 ]
 
 # played where they are named: they take four minutes and eleven
-LONG_ONES = [who_takes_little_is_not_let_go, who_sends_too_slowly_is_let_go]
+LONG_ONES = [who_takes_little_is_not_let_go, who_takes_little_of_a_large_reply_is_let_go, who_sends_too_slowly_is_let_go]
 
 if __name__ == "__main__":
     sys.exit(main(TESTS, LONG_ONES))

@@ -21,6 +21,12 @@
    thread waits for the lock; STOP: the server is stopped; FAULT: the device may fail; ACCEPT: a block is refused only because too many
    blocks are dirty; DMAX: how many changes that is.
 
+   PLACES: the first message of a session is a block, and the others are NEWNEWS: the reply of one needs a place, of which there are so
+   many, until its session holds nothing. The kernel hands out one output at a time. A session's thread asks for a place under the
+   writer's lock, and waits for one without it; what is freed is given to one that waits, whichever that is (in the code, the first).
+   M1: the messages of the sessions but the first. DROP: the operator drops session 0. LEAN: without the releaser, which only helps the
+   flusher.
+
    OTHERS: whatever any number of other sessions and the operator do to this one, any number of times. Why one session beside them stands
    for any number of sessions: take a run of n sessions, and one of them, s. Leave out the steps of the other sessions' threads, and those
    of the flusher, of the releaser and of the threads of rests that concern other sessions. What is left is a run of this model with S=1 and
@@ -52,20 +58,29 @@
 #ifndef MUTANT
 #define MUTANT 0
 #endif
+#ifndef M1
+#define M1 M
+#endif
+#define COUNT(s) (s == 0 -> M : M1)
 #define OK 0
 #define CLOSED 1
 #define E8 2
 #define E9 3
 #define NONE 4
+#define NOPLACE 5
+#ifdef PLACES
+#define ISBLOCK(i) ((i) == 0)
+#else
 #ifdef BLOCKFIRST
 #define ISBLOCK(i) ((i) % 2 == 0)
 #else
 #define ISBLOCK(i) ((i) % 2 == 1)
 #endif
+#endif
 #ifdef DEPTH1
-#define MAYSEND(s) (got[s] < M && written[s] == got[s])
+#define MAYSEND(s) (got[s] < COUNT(s) && written[s] == got[s])
 #else
-#define MAYSEND(s) (got[s] < M)
+#define MAYSEND(s) (got[s] < COUNT(s))
 #endif
 #define STUCK(s) (given[s] > written[s])
 #define HASREADY(s) (given[s] < put[s] && dep[s*M+given[s]] <= durable)
@@ -78,9 +93,14 @@ byte lk[S], written[S], left[S]; bit missed[S], waiting[S], hasleft[S], slow[S] 
 #ifdef FOUR
 byte wt[S];
 #endif
+#ifdef PLACES
+/* the places: how many are taken; who has one, who waits for one, who was given one while it waited; nobody needs one any more */
+byte used; bit has[S], wants[S], given_one[S], open;
+#endif
+bit dropped[S]; /* by the operator */
 /* the bells: one token each */
 bit tkF, tkR, tkRest[S], tkS[S], later[S] /* rang since the session's thread noted it */; bit awaited, stopping, closing;
-/* the callers; at: 0 runs, 1 reads, 2 ended, 3 waits for a release (after a fault perhaps until the end); fl: 0 runs, 1 parked, 2 ended */
+/* the callers; at: 0 runs, 1 reads, 2 ended, 3 waits for a release (after a fault perhaps until the end), 4 for a place; fl: 0 runs, 1 parked, 2 ended */
 byte got[S]; bit rdown[S]; byte at[S], fl; bit frozen /* caller 0 takes nothing, and a thread waits for it */;
 
 #ifdef FOUR
@@ -93,8 +113,54 @@ inline try_lock(s) { atomic { if :: lk[s] == 0 -> lk[s] = _pid + 1; won = 1 :: e
 inline unlock(s) { atomic { assert(lk[s] == _pid + 1); lk[s] = 0 } }
 
 inline k_give(s) { /* all that is ready is taken; held: outputs are left in the kernel */
+#ifdef PLACES
+  if :: HASREADY(s) && !gone[s] -> given[s]++ :: else fi; /* one release */
+#else
   do :: HASREADY(s) && !gone[s] -> given[s]++ :: else -> break od;
+#endif
   held = (given[s] < put[s] && !gone[s]) }
+
+#ifdef PLACES
+#if MUTANT == 14
+/* the form in which the kernel's caller waits for a place, and a place is had only as long as that lasts or something is held */
+inline take_place(s) { atomic { used < PLACES || halted -> used++ } }
+inline answered_large(s) { used--; if :: res <= CLOSED && held && !has[s] && used < PLACES -> has[s] = 1; used++ :: else fi }
+inline free_place(s) { if :: has[s] -> has[s] = 0; used-- :: else fi }
+inline forget(s) { skip }
+#else
+inline take_place(s) { /* it is given one, or takes one that is free, or has to wait; it never waits here */
+  atomic { if :: has[s] || open -> wants[s] = 0
+              :: else -> if :: given_one[s] -> given_one[s] = 0; wants[s] = 0; has[s] = 1
+                            :: else -> if :: used < PLACES && !wants[s] -> used++; has[s] = 1 :: else -> wants[s] = 1; res = NOPLACE fi fi fi } }
+inline answered_large(s) { skip }
+inline hand_on() { /* a place is free: one that waits gets it, whichever that is */
+#if MUTANT == 15
+  used--
+#else
+  if :: wants[0] && !given_one[0] -> given_one[0] = 1; if :: MUTANT != 16 -> tkS[0] = 1 :: else fi
+#if S > 1
+     :: wants[1] && !given_one[1] -> given_one[1] = 1; if :: MUTANT != 16 -> tkS[1] = 1 :: else fi
+#endif
+#if S > 2
+     :: wants[2] && !given_one[2] -> given_one[2] = 1; if :: MUTANT != 16 -> tkS[2] = 1 :: else fi
+#endif
+     :: else -> used-- fi
+#endif
+  }
+inline free_place(s) { if :: has[s] -> has[s] = 0; hand_on() :: else fi }
+inline forget(s) { /* it waits no more */
+#if MUTANT == 17
+  wants[s] = 0
+#else
+  wants[s] = 0; if :: given_one[s] -> given_one[s] = 0; hand_on() :: else fi
+#endif
+  }
+#endif
+#else
+inline free_place(s) { skip }
+inline forget(s) { skip }
+#endif
+#define NOTE_HELD(s) waiting[s] = held; if :: !held -> free_place(s) :: else fi
 
 inline less(number) { if :: number > durable -> number = number - durable :: else -> number = 0 fi }
 
@@ -119,7 +185,11 @@ inline k_answer(s, i) { /* Kern::answer */
 #endif
             fi
          :: !halted && !ISBLOCK(i) -> res = OK;
+#ifdef PLACES
+            ldep[s] = accepted /* its reply depends on all that is accepted */
+#else
             if :: skip :: ldep[s] = accepted :: i == M-1 -> closed[s] = 1; res = CLOSED /* QUIT */ fi
+#endif
          fi fi fi;
   if :: res <= CLOSED -> assert(i == put[s]); /* each message once, in order */
         dep[s*M+put[s]] = ldep[s]; put[s]++; k_give(s) :: else fi }
@@ -141,7 +211,7 @@ inline release_ready(s, long) { held = 1;
   do :: atomic { write(s, long); if :: STUCK(s) -> held = 1; break :: else if :: !held -> break :: else fi fi; missed[s] = 0 };
      waiting[s] = 1;
      atomic { k_give(s) };
-     atomic { waiting[s] = held; if :: !STUCK(s) -> break :: else has_taken = 1 fi } od }
+     atomic { NOTE_HELD(s); if :: !STUCK(s) -> break :: else has_taken = 1 fi } od }
 
 inline release(s) { has_taken = 0;
   do :: lock(s); release_ready(s, 1); unlock(s); atomic { if :: !missed[s] -> break :: else fi } od }
@@ -167,14 +237,36 @@ inline take_back(s) { back = 0;
   if :: hasleft[s] -> lock(s); atomic { back = left[s]; left[s] = 0 }; hasleft[s] = 0; unlock(s) :: else fi }
 #endif
 
+#ifdef PLACES
+inline await_place(s) { /* the desk is free; what is ready is written */
+  do :: release(s);
+        if :: atomic { closing || dropped[s] -> res = NONE; break } :: else fi;
+        if :: atomic { !wants[s] || given_one[s] || open -> break } :: else fi;
+        at[s] = 4; atomic { tkS[s] -> tkS[s] = 0; at[s] = 0 } od }
+#endif
+
 inline have_answered(s, n) {
   do :: later[s] = 0;
+#ifdef PLACES
+     lock(s); res = OK;
+     if :: !ISBLOCK(n - 1) -> take_place(s) :: else fi;
+     if :: res == NOPLACE -> unlock(s)
+        :: else ->
+     missed[s] = 0; waiting[s] = 1;
+     atomic { k_answer(s, n - 1); if :: !ISBLOCK(n - 1) -> answered_large(s) :: else fi };
+     if :: res >= E8 -> missed[s] = 1 :: else -> atomic { NOTE_HELD(s) }; if :: HASREADY(s) -> release_ready(s, 1) /* it is full */ :: else fi fi;
+     unlock(s) fi;
+#else
      lock(s); missed[s] = 0; waiting[s] = 1;
      atomic { k_answer(s, n - 1) };
      if :: res >= E8 -> missed[s] = 1 :: else -> waiting[s] = held fi;
      unlock(s);
+#endif
      if :: res <= CLOSED -> if :: ISBLOCK(n - 1) && MUTANT != 3 -> note_post() :: else fi; break
         :: res == NONE -> break
+#ifdef PLACES
+        :: res == NOPLACE -> tkF = 1; await_place(s); if :: res == NONE -> break :: else fi
+#endif
         :: res == E8 || res == E9 -> tkF = 1; release(s);
            if :: closing -> break :: else fi;
            if :: res == E8 -> later[s]
@@ -207,6 +299,9 @@ proctype Session(byte s) { bit held, has_taken, fed; byte res, back;
      if :: res != OK -> break :: else fi
   od;
   if :: res == OK && MUTANT != 10 -> take_back(s); if :: back == 0 :: else -> have_answered(s, back) fi :: else fi;
+#ifdef DROP
+  if :: dropped[s] -> goto over :: else fi;
+#endif
   do :: /* finish */
 #if MUTANT == 6
      release(s); fed = closing; if :: !held || fed -> break :: else fi;
@@ -214,10 +309,13 @@ proctype Session(byte s) { bit held, has_taken, fed; byte res, back;
      fed = closing; release(s); if :: !held || fed -> break :: else fi;
 #endif
      tkF = 1; at[s] = 3; atomic { tkS[s] -> tkS[s] = 0; at[s] = 0 } od;
+#ifdef DROP
+over:
+#endif
   lock(s);
   atomic { /* nothing that is ready is left behind; all is answered unless the server ends */
-           assert(!STUCK(s) && !HASREADY(s)); assert(halted || written[s] == got[s]); gone[s] = 1 };
-  waiting[s] = 0; atomic { unlock(s); at[s] = 2 } }
+           assert(dropped[s] || (!STUCK(s) && !HASREADY(s))); assert(halted || dropped[s] || written[s] == got[s]); gone[s] = 1 };
+  atomic { waiting[s] = 0; free_place(s); forget(s) }; atomic { unlock(s); at[s] = 2 } }
 
 proctype Rests(byte s) { bit held, has_taken;
   do :: atomic { tkRest[s] -> tkRest[s] = 0 }; if :: closing -> break :: else fi;
@@ -294,6 +392,9 @@ proctype Flusher() { bit got_batch, held, has_taken, won; byte batch, s, res;
            if :: atomic { stopping -> if :: durable == accepted -> halted = 1; break :: else fi } :: atomic { !stopping -> skip } fi;
            fl = 1; atomic { tkF -> tkF = 0; fl = 0 } fi od;
   tkR = 1; ring_later();       /* wake */
+#ifdef PLACES
+  atomic { open = 1; s = 0; do :: s < S -> tkS[s] = 1; s++ :: else -> break od; s = 0 };
+#endif
   if :: faulted -> /* until a caller or a stop: what is left is still filed */
         do :: if :: MUTANT != 7 -> gather() :: else fi; if :: stopping -> break :: skip fi;
               if :: break :: fl = 1; atomic { tkF -> tkF = 0; fl = 0 } fi od
@@ -303,6 +404,9 @@ proctype Flusher() { bit got_batch, held, has_taken, won; byte batch, s, res;
 
 #ifdef STOP
 proctype Stopper() { stopping = 1; tkF = 1 }
+#endif
+#ifdef DROP
+proctype Dropper() { atomic { dropped[0] = 1; rdown[0] = 1; tkS[0] = 1 } }
 #endif
 #ifdef OTHERS
 proctype Others() { bit owes;
@@ -322,9 +426,16 @@ init { byte s;
 #endif
            s++
        :: else -> break od;
-    s = 0; run Releaser(); run Flusher();
+    s = 0;
+#ifndef LEAN
+    run Releaser();
+#endif
+    run Flusher();
 #ifdef STOP
     run Stopper();
+#endif
+#ifdef DROP
+    run Dropper();
 #endif
 #ifdef OTHERS
     run Others();
@@ -335,14 +446,18 @@ init { byte s;
     do :: s < S ->
         if :: frozen && s == 0 -> s++ :: else fi; if :: s == S -> break :: else fi;
         /* no session's thread stands still but in its read */
-        assert(at[s] == 1 || at[s] == 2 || (at[s] == 3 && faulted && !closing));
+        assert(at[s] == 1 || at[s] == 2 || (at[s] == 3 && faulted && !closing) || (at[s] == 4 && frozen && !dropped[s] && !closing));
+#ifdef PLACES
+        /* nobody waits for a place that is free, and a place that is taken has an owner */
+        assert(at[s] != 4 || used >= PLACES);
+#endif
         assert(at[s] == 2 || !closing);
         if :: gone[s] :: else ->
            assert(!STUCK(s));                    /* all that was taken is written */
            assert(!HASREADY(s));                 /* all that is ready is taken */
            assert(!closed[s] || at[s] != 1);     /* no thread reads for a closed session */
-           assert(put[s] == got[s] || at[s] == 3); /* all that was read is answered in the kernel, after a fault as well */
-           assert(halted || (written[s] == got[s] && put[s] == got[s])) fi;
+           assert(put[s] == got[s] || at[s] == 3 || at[s] == 4); /* all that was read is answered in the kernel, after a fault as well */
+           assert(halted || at[s] == 4 || (written[s] == got[s] && put[s] == got[s])) fi;
         s++
        :: else -> break od;
     assert(halted || (durable == accepted && fl == 1)) } }

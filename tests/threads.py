@@ -1,6 +1,6 @@
 #!/usr/bin/env python3
-"""Has spin look at each order of the steps of the server's threads, by the model threads.pml: each row must hold, and each mutant, a step
-left out or in another order, must be refuted. It needs spin and a C compiler, and no program; where one is missing it is skipped.
+"""Has spin look at each order of the steps of the server's threads, by the model threads.pml, and for sessions that wait for places by
+places.pml: each row must hold, and each mutant, a step left out or in another order, must be refuted. It needs spin and a C compiler, and no program; where one is missing it is skipped.
 threads.py NEWSD [NAME..]"""
 import os
 import re
@@ -11,7 +11,8 @@ import sys
 
 from playing import Skipped, main
 
-MODEL = os.path.join(os.path.dirname(os.path.abspath(__file__)), "threads.pml")
+HERE = os.path.dirname(os.path.abspath(__file__))
+MODEL, MODEL_OF_PLACES = (os.path.join(HERE, name) for name in ("threads.pml", "places.pml"))
 COMPILER = os.environ.get("CC", "cc")
 FLAGS = ["-O0", "-w", "-DSAFETY", "-DCOLLAPSE", "-DVECTORSZ=2048", "-DMEMLIM=4000"]
 DEEPEST = "-m2000000"
@@ -21,6 +22,7 @@ FOUND = re.compile(r"errors: (\d+)")
 CUT_SHORT = ("max search depth too small", "out of memory", "Search not completed")
 
 ONE, BLOCK = ["S=1", "M=2"], ["S=1", "M=1", "BLOCKFIRST", "STAY"]
+PLACES = ["PLACES=1", "ACCEPT"]
 MUTANTS = {
     1: ("a block is left whatever the session holds", ONE),
     2: ("who files writes nothing", ONE),
@@ -34,18 +36,27 @@ MUTANTS = {
     11: ("the thread of a closed session is not woken", [*BLOCK, "FAULT", "OTHERS"]),
     12: ("a block is taken back without the lock", ONE),
     13: ("who files waits for the lock", [*ONE, "BLOCKFIRST", "LONG", "STAY"]),
+    14: ("a thread waits for a place with its desk", ["S=1", "M=3", *PLACES, "STAY"]),
+    16: ("who is given a place isn't woken", ["S=2", "M=2", *PLACES, "STAY", "LEAN"]),
+}
+TWO = ["N=2", "M=2", "P=1"]
+MUTANTS_OF_PLACES = {
+    1: ("a thread waits for a place with its desk", TWO),
+    2: ("who is given a place isn't woken", [*TWO, "DROP"]),
+    3: ("who ends keeps the place that it was given", [*TWO, "DROP"]),
+    4: ("one that has a place waits for another", TWO),
 }
 
 
-def errors(directory, options, is_whole, seconds=SECONDS):
+def errors(directory, options, is_whole, seconds=SECONDS, model=MODEL):
     """How many errors spin finds in the model with these options; at most one, since it stops there."""
     if not shutil.which("spin") or not shutil.which(COMPILER):
         raise Skipped("spin or a C compiler is missing")
-    room = os.path.join(directory, "-".join(options))
+    room = os.path.join(directory, "-".join([os.path.basename(model), *options]))
     os.mkdir(room)
-    shutil.copy(MODEL, room)
+    shutil.copy(model, room)
     said = {"cwd": room, "stdin": subprocess.DEVNULL, "stdout": subprocess.PIPE, "stderr": subprocess.STDOUT, "text": True}
-    subprocess.run(["spin", "-a", *("-D" + it for it in options), os.path.basename(MODEL)], check=True, **said)
+    subprocess.run(["spin", "-a", *("-D" + it for it in options), os.path.basename(model)], check=True, **said)
     subprocess.run([COMPILER, *FLAGS, "-o", "pan", "pan.c"], check=True, **said)
     looked = subprocess.run([os.path.join(room, "pan"), DEEPEST, "-E"], timeout=seconds, **said).stdout
     found = FOUND.search(looked)
@@ -56,14 +67,14 @@ def errors(directory, options, is_whole, seconds=SECONDS):
     return int(found.group(1))
 
 
-def holds(volume, *options, seconds=SECONDS):
-    assert errors(os.path.dirname(volume.path), options, True, seconds) == 0, options
+def holds(volume, *options, seconds=SECONDS, model=MODEL):
+    assert errors(os.path.dirname(volume.path), options, True, seconds, model) == 0, options
 
 
-def is_refuted(volume, *numbers):
+def is_refuted(volume, *numbers, mutants=None, model=MODEL):
     for number in numbers:
-        what, options = MUTANTS[number]
-        assert errors(os.path.dirname(volume.path), ["MUTANT=%d" % number, *options], False) == 1, (number, what)
+        what, options = (mutants or MUTANTS)[number]
+        assert errors(os.path.dirname(volume.path), ["MUTANT=%d" % number, *options], False, model=model) == 1, (number, what)
 
 
 def no_order_of_a_stop_is_wrong(volume):
@@ -76,6 +87,24 @@ def no_order_of_a_fault_is_wrong(volume):
 
 def no_order_of_three_messages_is_wrong(volume):
     holds(volume, "S=1", "M=3")
+
+
+def no_order_of_places_is_wrong(volume):
+    holds(volume, "S=1", "M=3", *PLACES, "STAY")
+    holds(volume, *ONE, *PLACES, "FAULT")
+
+
+def no_order_of_two_that_wait_is_wrong(volume):
+    holds(volume, *TWO, model=MODEL_OF_PLACES)
+
+
+def no_order_with_a_drop_is_wrong(volume):
+    holds(volume, *TWO, "DROP", model=MODEL_OF_PLACES)
+
+
+def mutants_of_places_are_refuted(volume):
+    is_refuted(volume, 14, 16)
+    is_refuted(volume, *MUTANTS_OF_PLACES, mutants=MUTANTS_OF_PLACES, model=MODEL_OF_PLACES)
 
 
 def mutants_of_filing_are_refuted(volume):
@@ -109,6 +138,10 @@ TESTS = [
     no_order_of_a_stop_is_wrong,
     no_order_of_a_fault_is_wrong,
     no_order_of_three_messages_is_wrong,
+    no_order_of_places_is_wrong,
+    no_order_of_two_that_wait_is_wrong,
+    no_order_with_a_drop_is_wrong,
+    mutants_of_places_are_refuted,
     mutants_of_filing_are_refuted,
     mutants_of_rings_are_refuted,
     mutants_of_ends_are_refuted,

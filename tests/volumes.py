@@ -15,6 +15,7 @@ MOMENT = 1000000000
 NOBODY = 65534
 NOT_UTF_8 = b"newsd: E14 Bad: one of the words, or of the names of files, isn't UTF-8\n"
 IRREGULAR = "E1 Fault: it is no regular file"
+NO_DESCRIPTION = "is no line of at most 200 octets of ASCII, or is blank"
 
 
 def what_can_not_be_served_is_refused(volume):
@@ -30,6 +31,8 @@ def what_can_not_be_served_is_refused(volume):
         (["group", volume.path, "x..a", "y", "1000000000", "test"], 1, "E14 Bad: NAME 'x..a' is no name of a group"),
         (["group", volume.path, "x.a", "m", "1000000000", "test"], 1, "E14 Bad: STATUS 'm' is neither y nor n"),
         (["group", volume.path, "x.a y", "y", "1000000000", "test"], 1, "E14 Bad: NAME 'x.a y' is no name of a group"),
+        *((["group", volume.path, "x.a", "y", "1000000000", text], 1, "E14 Bad: DESCRIPTION '%s' %s" % (text, NO_DESCRIPTION))
+          for text in ("", " ", 200 * " ", 201 * "a")),
         (["expire", volume.path, "x..a", "1"], 1, "E14 Bad: NAME 'x..a' is no name of a group"),
         (["expire", volume.path, "x.a", "one"], 1, "E14 Bad: N 'one' is no number of an article"),
         (["expire", volume.path, "x.a", "10000000000000000"], 1, "E14 Bad: N '10000000000000000' is no number of an article"),

@@ -11,7 +11,7 @@ import subprocess
 import sys
 import threading
 
-from newsd import ALL_FROM_ONE, GREETING, GROUP, SECONDS, Caller, article, end_with_parent, free_port, long_article, message_id, wait_until
+from newsd import ALL_FROM_ONE, GREETING, GROUP, HOST, SECONDS, Caller, article, end_with_parent, free_port, long_article, message_id, wait_until
 from operating import TOP
 from playing import main
 
@@ -20,7 +20,7 @@ LOOPBACK = "127.0.0.1"
 # what a relay may have beside what it has without a caller
 MOST_OF_A_SESSION = 1 << 20
 
-# C is a line of the caller's, and after => what the server is given in its place. S is a line of the server's
+# C is a line of the caller's, and after => what the server is given in its place. S is a line of the server's, and X one that is left out
 DIALOGUES = {
     "what nn says to show a group": """
 S 200 news.example ready, posting permitted
@@ -270,6 +270,49 @@ S 503 No such list
 C DATE
 S 111 :bytes
 """
+# what is left of articles without Xref
+WITHOUT_XREF = """
+S 200 ready
+C ARTICLE 1
+S 220 1 <1@a.example>
+S Path: p
+X Xref: news.example x.a:1 x.b:1
+S Subject: one
+X XREF: news.example x.b:2
+X  x.b:3
+X \tx.b:4
+S X-Xref: x.b:5
+S  Xref: a line that goes on
+X xref:
+X  x.b:6
+S Xre
+S X
+S
+S Xref: of the text
+S  x
+S
+S ..
+S .
+C HEAD 1
+S 221 1 <1@a.example>
+X Xref: x.b:7
+S From: a@example.org
+X xReF:x.b:8
+S .
+C HEAD 2
+S 423 No such article number
+C BODY 1
+S 222 1 <1@a.example>
+S Xref: of the text
+S .
+C HEAD 3
+S 221 3 <3@a.example>
+S .
+C LIST
+S 215 Information follows
+S Xref: 1 1 y
+S .
+"""
 # after it the replies are counted rightly: what begins an article is none of the commands before it
 ENDING = """
 C POST
@@ -294,8 +337,8 @@ def relay_module():
 def lines_of(text):
     """The lines of a dialogue, and of a post behind it: whether it is the server's, the octets that are said, those that are to be handed on."""
     for row in (text[1:] + ENDING * ("S 400" not in text)).splitlines():
-        is_servers, (said, _, given) = row.startswith("S"), row[2:].partition(" => ")
-        yield is_servers, (said + "\r\n").encode(), ((given or said) + "\r\n").encode()
+        is_servers, (said, _, given) = not row.startswith("C"), row[2:].partition(" => ")
+        yield is_servers, (said + "\r\n").encode(), b"" if row.startswith("X") else ((given or said) + "\r\n").encode()
 
 
 def pieces(octets, size):
@@ -322,6 +365,27 @@ def old_names_are_told_where_they_are_wanted(volume):
     with volume.serve() as server, Relaying(server.port, "--old-names") as relay, relay.call() as caller:
         caller.send(b"LIST OVERVIEW.FMT\r\nDATE\r\n")
         assert [caller.line() for _ in range(9)][-3:] == ["Bytes:", "Lines:", "."] and caller.line().startswith("111 ")
+
+
+def xref_is_left_out_where_that_is_wanted(volume):
+    """With the lines that go on with it, of articles and headers alone, and nowhere else. A forged one that was posted reaches nobody."""
+    module = relay_module()
+    there = WITHOUT_XREF.replace("\nX ", "\nS ")
+    for size in (1, 2, 3, 4, 5, 6, 7, 8, 9, 700):
+        for is_at_once in (False, True):
+            dialogue = module.Dialogue(has_old_names=True, is_without_xref=True)
+            assert played(dialogue, WITHOUT_XREF, size, is_at_once) == wanted(WITHOUT_XREF), size
+            assert played(module.Dialogue(), there, size, is_at_once) == wanted(there), size
+    volume.make_group()
+    forged = article(1).replace(b"Subject:", b"Xref: %s x.a:1\r\n x.b:1\r\nSubject:" % HOST.encode())
+    with volume.serve() as server, Relaying(server.port, "--without-xref") as relay, relay.call() as caller:
+        assert caller.post(forged) == "240 Article received"
+        with server.call() as beside:
+            assert beside.ask("ARTICLE " + message_id(1)) == "220 0 " + message_id(1) and beside.read_whole(forged)
+        assert caller.ask("ARTICLE " + message_id(1)) == "220 0 " + message_id(1) and caller.read_whole(article(1))
+        header = article(1).split(b"\r\n\r\n")[0] + b"\r\n.\r\n"
+        assert caller.ask("HEAD " + message_id(1)) == "221 0 " + message_id(1) and caller.read_whole(header)
+        assert caller.ask("DATE").startswith("111 ")
 
 
 def wanted(text):
@@ -547,6 +611,7 @@ TESTS = [
     dialogues_are_followed,
     dialogues_are_relayed,
     old_names_are_told_where_they_are_wanted,
+    xref_is_left_out_where_that_is_wanted,
     readers_of_newsd,
     many_callers_are_relayed,
     what_cannot_be_served_is_told,

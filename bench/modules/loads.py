@@ -54,7 +54,7 @@ class Processors:
 
 class Bench:
     def __init__(self, program, directory, seconds, words=ALL_FROM_ONE):
-        """Its servers have these further words."""
+        """Its servers have these further words. Their logs are discarded as they are written."""
         self.program, self.directory, self.seconds, self.words = program, directory, seconds, words
         self.load = self.build("load", ["-pthread"])
         self.counter = self.build("device_calls", ["-shared", "-fPIC", "-ldl"])
@@ -67,23 +67,23 @@ class Bench:
         return made
 
     @contextlib.contextmanager
-    def serve(self, has_syncs=True):
-        """A server of a new volume with the group of the posts and a quiet one."""
+    def serve(self, has_syncs=True, log=subprocess.DEVNULL, words=()):
+        """A server of a new volume with the group of the posts and a quiet one, whose log goes there, with these words beside its own."""
         with tempfile.TemporaryDirectory(dir=self.directory) as directory:
             volume = Volume(self.program, directory, BLOCKS, INODES)
             volume.make_group()
             volume.make_group(QUIET_GROUP)
-            with self.counted(volume, has_syncs) as server:
+            with self.counted(volume, has_syncs, log, words) as server:
                 yield server
 
-    def counted(self, volume, has_syncs):
+    def counted(self, volume, has_syncs=True, log=subprocess.DEVNULL, words=()):
         with open(self.counts_path, "wb") as counts:
             counts.write(bytes(32))
         os.environ.update(LD_PRELOAD=self.counter, NEWSD_COUNTS=self.counts_path)
         if not has_syncs:
             os.environ["NEWSD_NO_SYNC"] = "1"
         try:
-            return volume.serve(words=self.words)
+            return volume.serve(words=[*self.words, *words], log=log)
         finally:
             for name in ("LD_PRELOAD", "NEWSD_COUNTS", "NEWSD_NO_SYNC"):
                 os.environ.pop(name, None)

@@ -3,7 +3,7 @@ use Rattle.std.specs.Prelude.{ℤ, pos, int_lt, unsigned_abs, Option, None, Some
 use Rattle.std.specs.declared.io.ErrorKind.{ErrorKind}
 use Rattle.std.specs.declared.io.ErrorKind.TheVariants as kind
 use Rattle.disk_causes.specs.declared.Cause.{Cause}
-use Rattle.disk_causes.specs.declared.Cause.TheVariants.{NoSpace, Quota, ReadOnly, TooLarge, Io, Denied, Missing, Stale, Short, Other}
+use Rattle.disk_causes.specs.declared.Cause.TheVariants.{NoSpace, Quota, ReadOnly, TooLarge, Io, Denied, Missing, Stale, Short, Replaced, Other}
 
 -- what the kind says; any other one says nothing
 abbrev pub by_kind : ErrorKind → Cause
@@ -41,6 +41,7 @@ words_of Denied = codes "permission denied"
 words_of Missing = codes "the file isn't there"
 words_of Stale = codes "the file's server no longer has it"
 words_of Short = codes "the file is too short"
+words_of Replaced = codes "the file was replaced, moved, removed, cut or changed by another"
 words_of Other = codes "the device failed"
 
 -- its name
@@ -54,4 +55,5 @@ name_of Denied = codes "denied"
 name_of Missing = codes "missing"
 name_of Stale = codes "stale"
 name_of Short = codes "short"
+name_of Replaced = codes "replaced"
 name_of Other = codes "other"

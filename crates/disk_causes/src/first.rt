@@ -51,6 +51,7 @@ fn code_of(cause: Cause) -> u8
         Cause::Stale => 8,
         Cause::Short => 9,
         Cause::Other => 10,
+        Cause::Replaced => 11,
     }
 }
 
@@ -70,6 +71,7 @@ fn cause_at(code: u8) -> Option<Cause>
         8 => Some(Cause::Stale),
         9 => Some(Cause::Short),
         10 => Some(Cause::Other),
+        11 => Some(Cause::Replaced),
         _ => None,
     }
 }

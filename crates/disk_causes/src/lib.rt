@@ -35,6 +35,8 @@ pub enum Cause {
     Stale,
     /// The file ended before the octets that were asked for.
     Short,
+    /// Others moved, removed, replaced or cut the file, or wrote to it, while it was open.
+    Replaced,
     /// Anything else.
     Other,
 }
@@ -93,6 +95,7 @@ impl Display for Cause {
             Cause::Missing => "the file isn't there",
             Cause::Stale => "the file's server no longer has it",
             Cause::Short => "the file is too short",
+            Cause::Replaced => "the file was replaced, moved, removed, cut or changed by another",
             Cause::Other => "the device failed",
         })
     }
@@ -116,6 +119,7 @@ impl Display for CauseName {
             Cause::Missing => "missing",
             Cause::Stale => "stale",
             Cause::Short => "short",
+            Cause::Replaced => "replaced",
             Cause::Other => "other",
         })
     }

@@ -8,9 +8,11 @@ ghost use Rattle.model.specs.Spool.{NewsGroup, groups, low};
 ghost use Rattle.kernel_expiring.specs.Ages.{IsAged, IsAgedGroup, IsLastOld, expiry_number, is_old};
 
 mod gone;
+mod taking;
 
 pub use gone::{GonePart, PART, gone_part};
 use session_lookups::{LookUps, counts_of, find_number};
+pub use taking::{TreatOld, treat_old};
 use text_names::{GroupName, Wildmat};
 
 /// The seconds of a day.

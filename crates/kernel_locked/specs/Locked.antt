@@ -4,7 +4,12 @@ use Rattle.kernel_shared.specs.declared.kern.ExecOutcome.{ExecOutcome}
 use Rattle.kernel_shared.specs.declared.kern.KernelCounts.{KernelCounts}
 use Rattle.kernel.specs.Kernel.{Execs, KernelView, released_of, seat_of}
 use Rattle.model.specs.Files.{free_inodes}
+use Rattle.model.specs.Lawful.{IsLawful}
+use Rattle.model.specs.Spool.{Spool}
+use Rattle.model.specs.Stream.{Octets}
 use Rattle.model.specs.declared.message.Message.{Message}
+use Rattle.kernel_expiring.specs.Ages.{IsAgedGroup}
+use Rattle.kernel_expiring.specs.declared.AgedGroup.{AgedGroup}
 use Rattle.kernel_outbox.specs.Queue.{ReadyEntry}
 use Rattle.kernel_seats.specs.Seats.{holds, ready_of}
 
@@ -29,3 +34,10 @@ pub record IsCounted (kernel : KernelView) (counts : KernelCounts) : Type 0 wher
   pub inodes : counts.inodes + free_inodes kernel.inodes kernel.blocks ≡ kernel.inodes
   pub accepted : counts.accepted ≡ length kernel.spool
   pub durable : counts.durable ≡ kernel.durable
+
+-- what an expiry by age finds at a place under the lock: it is that of the lawful changes that the kernel then had
+pub record IsFoundAt (place : ℕ) (w : Octets) (since : ℕ) (group : AgedGroup) : Type 0 where
+  pub host : Octets
+  pub changes : Spool
+  pub lawful : IsLawful host changes
+  pub is_group : IsAgedGroup changes place w since group

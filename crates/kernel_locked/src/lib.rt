@@ -1,7 +1,7 @@
 //! A kernel under its lock, as threads share it.
 #![tactic(auto)]
 
-mod large;
+mod few;
 mod locked;
 mod obstacles;
 mod turns;

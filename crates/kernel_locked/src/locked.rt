@@ -1,13 +1,17 @@
 //! The kernel under one lock. A clause cannot speak of a value behind a lock. So each method locks and calls one
 //! function below, or one of the kernel's own, whose contract says what happens. That a method passes its own arguments
-//! is tested, not proved.
+//! is tested; it is proved only where its answer names them.
 
-ghost use Rattle.std.specs.Prelude.{◌≡◌, ◌<◌, ◌↔◌, Err, IsTrue, OnErr, false, length, true};
-ghost use Rattle.kernel.specs.Errors.{of_exec};
-ghost use Rattle.kernel.specs.Kernel.{FitsMode, Tested, exec_refusal, halted_for_good, left, mode_at};
-ghost use Rattle.kernel_locked.specs.Locked.{Answers, Gives, IsCounted};
+ghost use Rattle.std.specs.Prelude.{◌≡◌, ◌<◌, ◌↔◌, Err, IfOk, IsTrue, OnErr, false, length, true};
+ghost use Rattle.kernel.specs.Errors.{of_admin, of_exec, of_expire};
+ghost use Rattle.kernel.specs.Kernel.{Administers, FitsMode, Tested, TestedOrMemory, admin_refusal_of, exec_refusal, expire_refusal_of};
+ghost use Rattle.kernel.specs.Kernel.{halted_for_good, left, mode_at};
+ghost use Rattle.kernel_expiring.specs.Ages.{IsAgedGroup};
+ghost use Rattle.model.specs.declared.change.Change.TheVariants.{Expire, Group};
+ghost use Rattle.text_names.specs.Requests.{group_of};
+ghost use Rattle.kernel_locked.specs.Locked.{Answers, Gives, IsCounted, IsFoundAt};
 
-use crate::large::LargeReplies;
+use crate::few::{are_few, asked_since};
 use crate::obstacles::obstacle_in;
 use crate::turns::Turns;
 use journal_volume::BatchBuf;
@@ -15,8 +19,8 @@ use kernel::{Kernel, Outcome};
 use kernel_expiring::{AgedGroup, GonePart, aged_group, gone_part};
 use kernel_outbox::ReadyBuf;
 use kernel_shared::{
-    AdminError, ExecError, ExecOutcome, ExpireError, JoinError, Kern, KernelCounts, Obstacle,
-    Receipt, Stale, Ticket,
+    AdminError, Admitted, ExecError, ExecOutcome, ExpireError, Expired, JoinError, Kern,
+    KernelCounts, Obstacle, Receipt, Stale, Ticket,
 };
 use model::{Message, Mode, Moment, Text};
 use session::Received;
@@ -42,8 +46,6 @@ pub struct Locked {
     /// Held while what is ready of a session is handed out, of which a part may be made now: so lines compete for the kernel
     /// with one such release at a time.
     giving: Mutex<()>,
-    /// The sessions that hold an answer to `NEWNEWS`. It is asked before the other locks.
-    large: LargeReplies,
 }
 
 impl Locked {
@@ -54,40 +56,6 @@ impl Locked {
             block: Mutex::new(()),
             long: Turns::new(),
             giving: Mutex::new(()),
-            large: LargeReplies::new(),
-        }
-    }
-
-    /// Waits until this message may be answered, if its answer grows with the spool and is made whole. Answers whether it
-    /// is counted among such messages.
-    fn wait_for_room<R: Wait>(&self, rt: &R, message: &Message) -> bool {
-        match message {
-            Message::Line(line) if has_keyword(line.as_slice(), NEWNEWS) => self.large.begin(rt),
-            Message::Line(_) | Message::Block(_) | Message::TooLong => false,
-        }
-    }
-
-    /// Notes what became of a message of a session, which may be one that was counted. A refusal changes nothing.
-    fn note_answer<R: Wait>(
-        &self,
-        rt: &R,
-        sid: u64,
-        was_counted: bool,
-        answered: &Result<ExecOutcome, ExecError>,
-    ) {
-        if was_counted {
-            let is_held = matches!(answered, Ok(outcome) if outcome.is_held);
-            self.large.end(rt, sid, is_held);
-        }
-        if let Ok(outcome) = answered {
-            self.note_given(rt, sid, outcome.is_held);
-        }
-    }
-
-    /// Notes whether a session still holds outputs.
-    fn note_given<R: Wait>(&self, rt: &R, sid: u64, is_held: bool) {
-        if !is_held {
-            self.large.forget(rt, sid);
         }
     }
 
@@ -101,10 +69,7 @@ impl Locked {
 }
 
 /// The commands whose answers grow with the groups or the spool, and are made whole.
-const LONG: [&[u8]; 3] = [b"LIST", b"NEWGROUPS", NEWNEWS];
-
-/// The command whose answer grows with the spool and is made whole.
-const NEWNEWS: &[u8] = b"NEWNEWS";
+const LONG: [&[u8]; 3] = [b"LIST", b"NEWGROUPS", b"NEWNEWS"];
 
 /// Whether a line begins with a keyword, in either case.
 fn has_keyword(line: &[u8], keyword: &[u8]) -> bool {
@@ -191,6 +156,51 @@ fn give_ready_in(kernel: &mut Kernel, sid: u64, into: &mut ReadyBuf) -> bool
     kernel.give_ready(sid, into)
 }
 
+/// Makes a group, and answers it with its serial. Refused as the kernel's `admin` is; a refusal changes nothing.
+fn admin_in<'g>(
+    kernel: &mut Kernel,
+    alloc: Global,
+    group: &'g GroupRequest,
+) -> Result<Admitted<'g>, AdminError>
+    ensures done { let change = Group (group_of group.now) in
+        TestedOrMemory of_admin AdminError.Memory (admin_refusal_of kernel.old change) (admin_refusal_of kernel.old change)
+        kernel.old kernel.new result (λ admitted. Administers kernel.old kernel.new change admitted.serial) }
+    ensures says { IfOk result (λ admitted. admitted.group.now ≡ group.now) }
+{
+    match kernel.admin(alloc, group) {
+        Ok(serial) => Ok(Admitted::new(group, serial)),
+        Err(error) => Err(error),
+    }
+}
+
+/// Removes the articles of a group up to a number, and answers that expiry with its serial. Refused as the kernel's `expire`
+/// is; a refusal changes nothing.
+fn expire_in<'n>(
+    kernel: &mut Kernel,
+    name: &'n GroupName,
+    number: u32,
+) -> Result<Expired<'n>, ExpireError>
+    ensures done { let change = Expire (record { group = name.now; number = number }) in
+        TestedOrMemory of_expire ExpireError.Memory (expire_refusal_of kernel.old change) (expire_refusal_of kernel.old change)
+        kernel.old kernel.new result (λ expired. Administers kernel.old kernel.new change expired.serial) }
+    ensures says { IfOk result (λ expired. (expired.name.now ≡ name.now) × (expired.number ≡ number)) }
+{
+    match kernel.expire(name, number) {
+        Ok(serial) => Ok(Expired::new(name, number, serial)),
+        Err(error) => Err(error),
+    }
+}
+
+/// What an expiry by age does to the group at a place.
+fn aged_in(kernel: &Kernel, place: usize, wildmat: &Wildmat, since: u64) -> AgedGroup
+    ensures now { IsAgedGroup kernel.now.spool place wildmat.now since result }
+    ensures found { IsFoundAt place wildmat.now since result }
+{
+    // for the proof: the changes are lawful
+    kernel.kept();
+    aged_group(kernel.spool(), place, wildmat, since)
+}
+
 /// Drops a session and its held outputs; does nothing if it does not exist.
 fn leave_in(kernel: &mut Kernel, sid: u64)
     ensures { kernel.new ≡ left kernel.old sid }
@@ -224,6 +234,10 @@ fn counts_of(kernel: &Kernel) -> KernelCounts
 }
 
 impl Kern for Locked {
+    ghost use Rattle.kernel_locked.specs.Locked.{IsFoundAt};
+
+    ghost found = { λ _ place wildmat since group. IsFoundAt place wildmat since group };
+
     fn join<R: Wait>(&self, rt: &R, alloc: Global) -> Result<u64, JoinError> {
         self.kernel.lock(rt).join(alloc)
     }
@@ -245,7 +259,6 @@ impl Kern for Locked {
         into: &mut ReadyBuf,
     ) -> Result<ExecOutcome, ExecError> {
         let received = Received::of(alloc, message);
-        let was_counted = self.wait_for_room(rt, message);
         let is_long = may_be_long(message);
         if is_long {
             self.long.begin(rt);
@@ -256,9 +269,7 @@ impl Kern for Locked {
                 None => None,
             };
             let mut kernel = self.kernel.lock(rt);
-            let answered = answer_in(&mut kernel, alloc, sid, received, moment, into);
-            self.note_answer(rt, sid, was_counted, &answered);
-            answered
+            answer_in(&mut kernel, alloc, sid, received, moment, into)
         };
         if is_long {
             self.long.end(rt);
@@ -270,29 +281,44 @@ impl Kern for Locked {
         obstacle_in(self.kernel.lock(rt).spool(), id, groups)
     }
 
-    fn give_ready<R: Wait>(&self, rt: &R, sid: u64, into: &mut ReadyBuf) -> bool {
-        let _turn = self.giving.lock(rt);
-        let mut kernel = self.kernel.lock(rt);
-        let is_held = give_ready_in(&mut kernel, sid, into);
-        self.note_given(rt, sid, is_held);
-        is_held
-    }
-
-    fn admin<R: Wait>(
+    fn asks_for_few<R: Wait>(
         &self,
         rt: &R,
         alloc: Global,
-        group: &GroupRequest,
-    ) -> Result<u64, AdminError> {
-        self.kernel.lock(rt).admin(alloc, group)
+        message: &Message,
+        moment: Moment,
+    ) -> bool {
+        match asked_since(alloc, message, moment) {
+            Some(from) => are_few(self.kernel.lock(rt).spool(), from),
+            None => false,
+        }
     }
 
-    fn expire<R: Wait>(&self, rt: &R, name: &GroupName, number: u32) -> Result<u64, ExpireError> {
-        self.kernel.lock(rt).expire(name, number)
+    fn give_ready<R: Wait>(&self, rt: &R, sid: u64, into: &mut ReadyBuf) -> bool {
+        let _turn = self.giving.lock(rt);
+        give_ready_in(&mut self.kernel.lock(rt), sid, into)
+    }
+
+    fn admin<'g, R: Wait>(
+        &self,
+        rt: &R,
+        alloc: Global,
+        group: &'g GroupRequest,
+    ) -> Result<Admitted<'g>, AdminError> {
+        admin_in(&mut self.kernel.lock(rt), alloc, group)
+    }
+
+    fn expire<'n, R: Wait>(
+        &self,
+        rt: &R,
+        name: &'n GroupName,
+        number: u32,
+    ) -> Result<Expired<'n>, ExpireError> {
+        expire_in(&mut self.kernel.lock(rt), name, number)
     }
 
     fn aged<R: Wait>(&self, rt: &R, place: usize, wildmat: &Wildmat, since: u64) -> AgedGroup {
-        aged_group(self.kernel.lock(rt).spool(), place, wildmat, since)
+        aged_in(&self.kernel.lock(rt), place, wildmat, since)
     }
 
     fn gone_part<R: Wait>(&self, rt: &R, first: u64) -> GonePart {
@@ -300,9 +326,7 @@ impl Kern for Locked {
     }
 
     fn leave<R: Wait>(&self, rt: &R, sid: u64) {
-        let mut kernel = self.kernel.lock(rt);
-        leave_in(&mut kernel, sid);
-        self.large.forget(rt, sid);
+        leave_in(&mut self.kernel.lock(rt), sid);
     }
 
     fn take_batch<R: Wait>(&self, rt: &R, into: &mut BatchBuf) -> Option<Ticket> {
@@ -315,15 +339,10 @@ impl Kern for Locked {
 
     fn halt<R: Wait>(&self, rt: &R) {
         self.kernel.lock(rt).halt();
-        self.large.halt(rt);
     }
 
     fn halt_if_clean<R: Wait>(&self, rt: &R) -> bool {
-        let is_halted = halt_if_clean_in(&mut self.kernel.lock(rt));
-        if is_halted {
-            self.large.halt(rt);
-        }
-        is_halted
+        halt_if_clean_in(&mut self.kernel.lock(rt))
     }
 
     fn counts<R: Wait>(&self, rt: &R) -> KernelCounts {

@@ -1,5 +1,8 @@
 //! Turns that come in the order in which they were asked for. A lock would often go to the thread that has just let it go, before one that
 //! waits is awake.
+//!
+//! They are a lock all the same: whoever has a turn waits for the kernel's lock alone, and for no session. So a thread may wait for one
+//! while it holds its session's desk, as it may for a lock, and isn't asked for its hand.
 
 use std::sync::{Condvar, Mutex, Wait};
 
@@ -26,7 +29,7 @@ impl Turns {
         }
     }
 
-    /// Waits for a turn, which lasts until `end`.
+    /// Waits for a turn, which lasts until `end`. Those who asked before make an answer each, and no more.
     pub(crate) fn begin<R: Wait>(&self, rt: &R) {
         let mut counted = self.counted.lock(rt);
         let own = counted.asked;

@@ -1,7 +1,7 @@
 //! How the threads wake one another. Each waiter has its bell; a ring that comes before the wait is not lost.
 
-use crate::Hooks;
 use crate::arrivals::Arrivals;
+use crate::{Hand, Hooks};
 use std::sync::Wait;
 use std::sync::atomic::{AtomicBool, AtomicU64, Ordering};
 use std::thread::Parker;
@@ -36,8 +36,8 @@ impl Bell {
         }
     }
 
-    /// Waits as long as the number of rings is the noted one.
-    pub fn wait_past<R: Wait>(&self, rt: &R, noted: u64) {
+    /// Waits as long as the number of rings is the noted one. The hand shows that the thread holds no session's desk.
+    pub fn wait_past<R: Wait>(&self, rt: &R, _hand: &mut Hand, noted: u64) {
         self.sleepers.fetch_add(1, Ordering::SeqCst);
         for _ in rt.forever() {
             if self.count() != noted {
@@ -58,6 +58,8 @@ pub struct Bells {
     pub releaser: Parker,
     /// The mark was raised, or the flusher has stopped.
     pub operator: Parker,
+    /// The volume's file shall be looked at now.
+    pub watcher: Parker,
     /// Rung when a batch is taken: a message that was refused with E8 (LaterDirty) may be tried again.
     pub later: Bell,
     pub arrivals: Arrivals,
@@ -74,6 +76,7 @@ impl Bells {
             flusher: Parker::new(),
             releaser: Parker::new(),
             operator: Parker::new(),
+            watcher: Parker::new(),
             later: Bell::new(),
             arrivals: Arrivals::new(),
             is_stopping: AtomicBool::new(false),

@@ -1,8 +1,10 @@
 //! The calls of the kernel that threads make.
 
-ghost use Rattle.std.specs.Prelude.{◌≡◌, ◌<◌, length};
+ghost use Rattle.std.specs.Prelude.{◌≡◌, ◌<◌, IfOk, length};
 
-use crate::{AdminError, ExecError, ExpireError, JoinError, Receipt, Stale, Ticket};
+use crate::{
+    AdminError, Admitted, ExecError, ExpireError, Expired, JoinError, Receipt, Stale, Ticket,
+};
 use journal_volume::BatchBuf;
 use kernel_expiring::{AgedGroup, GonePart};
 use kernel_outbox::ReadyBuf;
@@ -62,6 +64,12 @@ pub struct KernelCounts {
 
 /// A kernel that threads share. Each call may wait for the lock, and answers what the kernel answers.
 pub trait Kern {
+    ghost use Rattle.std.specs.Prelude.{ℕ, List};
+    ghost use Rattle.kernel_expiring.specs.declared.AgedGroup.{AgedGroup};
+
+    /// What an expiry by age finds at a place, with a wildmat and a moment.
+    ghost found: { Self → ℕ → List ℕ → ℕ → AgedGroup → Type 0 };
+
     /// Begins a session and answers its number (`Kernel::join`).
     fn join<R: Wait>(&self, rt: &R, alloc: Global) -> Result<u64, JoinError>;
 
@@ -85,26 +93,44 @@ pub trait Kern {
     /// What keeps an article with this message-id, if it has one, and these groups from being filed now.
     fn obstacle<R: Wait>(&self, rt: &R, id: Option<&[u8]>, groups: &[Text]) -> Option<Obstacle>;
 
+    /// Whether the answer to a line that asks for new articles at this moment surely fits one release, if it is answered now.
+    /// Nothing changes.
+    fn asks_for_few<R: Wait>(
+        &self,
+        rt: &R,
+        alloc: Global,
+        message: &Message,
+        moment: Moment,
+    ) -> bool;
+
     /// Puts what is ready of a session after the content of the buffer. Answers whether the session still holds
     /// outputs.
     fn give_ready<R: Wait>(&self, rt: &R, sid: u64, into: &mut ReadyBuf) -> bool
         requires { length into.old < 4096 };
 
-    /// Makes a group for the operator and answers its serial, which says nothing about durability (`Kernel::admin`).
-    fn admin<R: Wait>(
+    /// Makes a group for the operator, and answers it with its serial, which says nothing about durability (`Kernel::admin`).
+    fn admin<'g, R: Wait>(
         &self,
         rt: &R,
         alloc: Global,
-        group: &GroupRequest,
-    ) -> Result<u64, AdminError>;
+        group: &'g GroupRequest,
+    ) -> Result<Admitted<'g>, AdminError>
+        ensures { IfOk result (λ admitted. admitted.group.now ≡ group.now) };
 
-    /// Removes the articles of a group up to a number for the operator, and answers the serial of that change, which
-    /// says nothing about durability (`Kernel::expire`).
-    fn expire<R: Wait>(&self, rt: &R, name: &GroupName, number: u32) -> Result<u64, ExpireError>;
+    /// Removes the articles of a group up to a number for the operator, and answers that expiry with its serial, which says
+    /// nothing about durability (`Kernel::expire`).
+    fn expire<'n, R: Wait>(
+        &self,
+        rt: &R,
+        name: &'n GroupName,
+        number: u32,
+    ) -> Result<Expired<'n>, ExpireError>
+        ensures { IfOk result (λ expired. (expired.name.now ≡ name.now) × (expired.number ≡ number)) };
 
     /// What an expiry by age takes out of the group at this place now, from 0, in rising serial: the articles before its
     /// first one that was filed at `since` or later, in seconds since 1970 (`kernel_expiring::aged_group`). Nothing changes.
-    fn aged<R: Wait>(&self, rt: &R, place: usize, wildmat: &Wildmat, since: u64) -> AgedGroup;
+    fn aged<R: Wait>(&self, rt: &R, place: usize, wildmat: &Wildmat, since: u64) -> AgedGroup
+        ensures { found self.now place wildmat.now since result };
 
     /// How many articles are in none of their groups any more, among the changes from this serial on. One part of them is
     /// looked at, and its answer says where the next one begins, so that the lock is never held for long

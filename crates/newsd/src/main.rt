@@ -4,7 +4,7 @@
 mod closed;
 
 use closed::{ClosedStreams, NULL_DEVICE};
-use program::{AfterRun, Failure, Streams, fail, import, renew, run, serve};
+use program::{AfterRun, Failure, Streams, ask, fail, import, renew, run, serve};
 use std::alloc::Global;
 use std::fs::File;
 use std::io::{BufReader, BufWriter, ErrorKind, IsTerminal, Stderr, StdinLock, Stdout, Write};
@@ -15,6 +15,9 @@ use std::sync::Wait;
 use std::thread::Threads;
 use std::time::Clock;
 
+/// The variable with the name of the socket where the service manager listens, if one does (sd_notify(3)).
+const MANAGER: &str = "NOTIFY_SOCKET";
+
 /// What is said of words of which one isn't UTF-8.
 const NOT_UTF_8: &str = "one of the words, or of the names of files, isn't UTF-8";
 
@@ -24,6 +27,8 @@ struct Start {
     words: Vec<String>,
     input: BufReader<StdinLock<'static>>,
     output: BufWriter<Stdout>,
+    /// Where the service manager listens, if it does.
+    manager: Option<String>,
 }
 
 impl Start {
@@ -34,6 +39,7 @@ impl Start {
             words: words_of(rt, alloc)?,
             input: BufReader::new(alloc, rt.reader())?,
             output: BufWriter::new(alloc, rt.stdout())?,
+            manager: std::env::var(rt, MANAGER).ok(),
         })
     }
 }
@@ -81,6 +87,7 @@ fn carry_out<
         words,
         mut input,
         mut output,
+        manager,
     } = start;
     match run(rt, alloc, words.as_slice(), &mut input, &mut output, faults) {
         AfterRun::Ends(status) => status,
@@ -100,13 +107,15 @@ fn carry_out<
             let is_terminal = faults.is_terminal();
             renew(rt, alloc, &asked, &mut output, faults, is_terminal)
         }
+        AfterRun::Asks(question) => ask(rt, alloc, &question, &mut output, faults),
         AfterRun::Serves(service) => {
             let streams = Streams {
                 lines: input,
                 answers: output,
                 faults: log,
             };
-            serve(rt, alloc, &service, streams, faults)
+            let manager = manager.as_deref();
+            serve(rt, alloc, &service, manager, streams, faults)
         }
     }
 }

@@ -4,7 +4,7 @@
 mod running;
 mod version;
 
-pub use program_command_line::{Renewal, ServeOptions};
+pub use program_command_line::{Question, Renewal, ServeOptions};
 pub use program_printing::Failure;
 pub use program_server::Streams;
-pub use running::{AfterRun, fail, import, renew, run, serve};
+pub use running::{AfterRun, ask, fail, import, renew, run, serve};

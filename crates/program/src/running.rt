@@ -4,9 +4,10 @@ ghost use Rattle.std.specs.Prelude.{◌≡◌};
 ghost use Rattle.program_printing.specs.Status.{status_of};
 
 use crate::version::print_version;
-use program_changes::AgeOrder;
+use program_asking::Verdict;
+use program_changes::{AgeOrder, Durable};
 use program_command_line::{
-    AgedExpiry, Asked, Export, NewVolume, Renewal, ServeOptions, read_words,
+    AgedExpiry, Asked, Export, NewVolume, Question, Renewal, ServeOptions, read_words,
 };
 use program_files::{changes_at, octets_at};
 use program_printing::{DONE, Failure, REFUSED};
@@ -41,6 +42,8 @@ pub enum AfterRun<'a> {
     Imports(&'a str),
     /// The words ask for a renewal, which is for `renew`.
     Renews(Renewal<'a>),
+    /// The words ask something of a running server, which is for `ask`.
+    Asks(Question<'a>),
 }
 
 /// Runs the program on its words, the first of which is its name, and answers its status: `DONE`, `REFUSED` with the
@@ -60,6 +63,7 @@ pub fn run<'a, R: Files<File = File> + Wait + Clock, S: AsStr, I: BufRead, W: Wr
         Ok(Asked::Serve(service)) => return AfterRun::Serves(service),
         Ok(Asked::Import(path)) => return AfterRun::Imports(path),
         Ok(Asked::Renew(asked)) => return AfterRun::Renews(asked),
+        Ok(Asked::Ask(question)) => return AfterRun::Asks(question),
         Ok(Asked::Nothing(status)) => status,
         Ok(Asked::Format(asked)) => match format(rt, alloc, &asked, faults) {
             Ok(()) => DONE,
@@ -86,8 +90,10 @@ fn flush<W: Write, F: Write>(status: u8, output: &mut W, faults: &mut F) -> u8 {
 }
 
 /// Serves a volume until the operator stops the server or its device fails, and answers the status. The log goes to a
-/// writer that a thread keeps, and the refusal at the end to `faults`, after the last line of the log.
+/// writer that a thread keeps, and the refusal at the end to `faults`, after the last line of the log. `manager` is the name of the socket
+/// where the service manager listens, if there is one.
 pub fn serve<
+    'x,
     R: Files<File = File>
         + Net<Listener = TcpListener, Stream = TcpStream>
         + Threads
@@ -104,7 +110,8 @@ pub fn serve<
 >(
     rt: &R,
     alloc: Global,
-    service: &ServeOptions<'_>,
+    service: &'x ServeOptions<'x>,
+    manager: Option<&'x str>,
     streams: Streams<L, A, G>,
     faults: &mut F,
 ) -> u8 {
@@ -118,14 +125,37 @@ pub fn serve<
         endpoints: service.endpoints.as_slice(),
         proxied: service.proxied.as_slice(),
         networks: service.networks.as_slice(),
-        sessions: service.sessions,
-        most_from: service.most_from,
+        sessions: service.limits.sessions,
+        most_from: service.limits.most_from,
+        posts_from: service.limits.posts_from,
         metrics: service.metrics,
+        control: service.control,
+        manager,
         verbosity,
     };
     match program_server::serve(rt, alloc, &offer, streams) {
         Ok(()) => DONE,
         Err(error) => fail(faults, &Failure::Command(error)),
+    }
+}
+
+/// Asks a running server, and prints its answer. Answers `DONE`, or `REFUSED` if the answer is a refusal. Where nobody answers, or not to
+/// the end, that goes to `faults`, and the status is `NOT_ANSWERED`.
+pub fn ask<R: Net + Wait, W: Write, F: Write>(
+    rt: &R,
+    alloc: Global,
+    question: &Question<'_>,
+    output: &mut W,
+    faults: &mut F,
+) -> u8 {
+    let words = question.words.as_slice();
+    match program_asking::ask(rt, alloc, question.socket, words, output) {
+        Ok(Verdict::Done) => DONE,
+        Ok(Verdict::Refused) => REFUSED,
+        Err(error) => {
+            let _ = writeln!(faults, "newsd: {error}");
+            error.status()
+        }
     }
 }
 
@@ -222,16 +252,17 @@ fn carry_out<R: Files<File = File> + Wait + Clock, I: BufRead, W: Write>(
         | Asked::Serve(_)
         | Asked::Import(_)
         | Asked::Renew(_)
+        | Asked::Ask(_)
         | Asked::Format(_) => Ok(()),
         Asked::Version => print_version(rt, output),
         Asked::Simulation(plan, is_cached) => simulate(alloc, &plan, is_cached, input, output),
         Asked::Group(path, group) => {
             let serial = program_changes::group(rt, alloc, path, &group)?;
-            print_serial(serial, output)
+            print_serial(&serial, output)
         }
         Asked::Expire(path, name, number) => {
-            let serial = program_changes::expire(rt, alloc, path, &name, number)?;
-            print_serial(serial, output)
+            let serial = program_changes::expire_to(rt, alloc, path, &name, number)?;
+            print_serial(&serial, output)
         }
         Asked::ExpireOlder(asked) => expire_older(rt, alloc, asked, output),
         Asked::Dump(path) => {
@@ -286,9 +317,12 @@ fn format<R: Files<File = File>, F: Write>(
     asked: &NewVolume<'_>,
     faults: &mut F,
 ) -> Result<(), Failure> {
-    let octets = octets_at(rt, alloc, asked.path)?;
+    let Some(octets) = octets_at(rt, alloc, asked.path)? else {
+        program_files::format_new(rt, alloc, asked.path, &asked.plan)?;
+        return Ok(());
+    };
     if octets == 0 {
-        program_files::format(rt, alloc, asked.path, &asked.plan)?;
+        program_files::format_empty(rt, alloc, asked.path, &asked.plan)?;
         return Ok(());
     }
     if asked.is_new {
@@ -325,9 +359,9 @@ fn export<R: Files<File = File>, W: Write>(
     Ok(())
 }
 
-/// Prints the serial of a change.
-fn print_serial<W: Write>(serial: u64, output: &mut W) -> Result<(), Failure> {
-    Ok(writeln!(output, "{serial}")?)
+/// Prints the serial of a change that is durable.
+fn print_serial<W: Write>(serial: &Durable<u64>, output: &mut W) -> Result<(), Failure> {
+    Ok(writeln!(output, "{}", serial.get())?)
 }
 
 /// The group that a word names.

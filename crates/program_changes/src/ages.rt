@@ -1,24 +1,29 @@
 //! Removes the articles of groups by their age.
 
-ghost use Rattle.std.specs.Prelude.{OnOk};
-ghost use Rattle.journal.specs.Journal.{IsIdle};
+ghost use Rattle.std.specs.Prelude.{◌≡◌, ◌||◌, IfOk, OnOk};
+ghost use Rattle.kernel_expiring.specs.Ages.{IsAgedGroup};
+ghost use Rattle.kernel_expiring.specs.Treating.{Treats};
+ghost use Rattle.program_changes.specs.Ages.{Expires, expiry_of};
+ghost use Rattle.program_changes.specs.Made.{Changes};
+ghost use Rattle.spool.specs.Refusals.{expiry_refusal};
+ghost use Rattle.volume_store.specs.Saved.{GoesOn, IsSaved, StoreView};
 
-use crate::flush;
-use journal::Journal;
-use journal_volume::BatchBuf;
-use kernel::{Opened, Spool};
-use kernel_expiring::{AgedArticles, AgedGroup, aged_group, since};
-use kernel_locked::Locked;
-use kernel_shared::Kern;
+use crate::durable::{Durable, commit};
+use crate::not_done::NotDone;
+use crate::refusal_of;
+use disk::Disk;
+use kernel_expiring::{AgedArticles, AgedGroup, TreatOld, aged_group, since, treat_old};
 use model::Moment;
-use program_files::{VolumeDisk, VolumeFile, new_counts, open};
+use program_files::{VolumeFile, new_counts, open_store};
 use program_printing::CommandError;
+use spool::ExpireError;
 use std::alloc::Global;
 use std::fs::File;
 use std::io::Write;
+use std::marker::PhantomData;
 use std::rt::Files;
-use std::sync::Wait;
 use text_names::Wildmat;
+use volume_store::Store;
 
 /// Which articles are removed from their groups by their age.
 #[derive(Clone, Copy)]
@@ -36,10 +41,9 @@ pub struct AgeOrder<'a> {
 }
 
 /// Removes from the groups whose names the wildmat matches the articles before the first one that isn't older than so many
-/// days. Prints the expiry of each group once it is durable, and at last how many articles were removed; one that was in
-/// two groups counts twice. A dry run prints the same, and removes none. After a refusal what was printed is removed. Nothing
-/// here is proved but which articles are old.
-pub fn expire_older<R: Files<File = File> + Wait, W: Write>(
+/// days, as `expire_old` does, and prints at last how many articles were removed; one that was in two groups counts twice. A
+/// dry run prints the same, and removes none. After a refusal what was printed is removed.
+pub fn expire_older<R: Files<File = File>, W: Write>(
     rt: &R,
     alloc: Global,
     order: &AgeOrder<'_>,
@@ -50,115 +54,174 @@ pub fn expire_older<R: Files<File = File> + Wait, W: Write>(
     file.outcome(expire_aged(rt, alloc, file, order, output))
 }
 
-fn expire_aged<R: Files<File = File> + Wait, W: Write>(
+fn expire_aged<R: Files<File = File>, W: Write>(
     rt: &R,
     alloc: Global,
     file: VolumeFile<'_>,
     order: &AgeOrder<'_>,
     output: &mut W,
 ) -> Result<(), CommandError> {
-    let batch = BatchBuf::new(alloc)?;
-    let Opened { journal, kernel } = open(rt, alloc, file)?;
-    let from = since(order.now.seconds(), order.days);
-    let planned = plan(alloc, kernel.spool(), order.wildmat, from)?;
-    if order.is_dry {
-        print_all(&planned, output)?;
+    let mut store = open_store(rt, alloc, file)?;
+    let since = since(order.now.seconds(), order.days);
+    let articles = if order.is_dry {
+        tell_old(&mut store, order.wildmat, since, output)?
     } else {
-        let target = Target {
-            journal,
-            kern: Locked::new(kernel),
-            batch,
-        };
-        expire_all(rt, alloc, target, &planned, output)?;
+        expire_old(&mut store, order.wildmat, since, output)?
+    };
+    Ok(writeln!(output, "articles {articles}")?)
+}
+
+/// Takes old articles out of a volume, and prints each expiry once it is durable.
+struct TakingOut<D, W> {
+    of: PhantomData<(D, W)>,
+}
+
+impl<D, W> Drop for TakingOut<D, W> {
+    fn drop(self) {
+        let TakingOut { of: _ } = self;
     }
-    print_count(&planned, output)
 }
 
-/// An opened volume whose articles are removed.
-#[derive(Drop)]
-struct Target {
-    journal: Journal<VolumeDisk>,
-    kern: Locked,
-    batch: BatchBuf,
-}
+impl<D: Disk, W: Write> TreatOld for TakingOut<D, W> {
+    ghost use Rattle.kernel_expiring.specs.Ages.{IsAgedGroup};
+    ghost use Rattle.program_changes.specs.Ages.{Expires};
+    ghost use Rattle.volume_store.specs.Saved.{IsSaved};
 
-impl Target {
-    /// Removes what is old from one group, and makes that durable.
-    fn expire<R: Wait>(
-        &mut self,
-        rt: &R,
-        alloc: Global,
-        planned: &AgedArticles,
-    ) -> Result<(), CommandError>
-        requires { IsIdle self.old.journal }
-        ensures { OnOk result (IsIdle self.new.journal) }
-    {
-        if let Err(error) = self.kern.expire(rt, &planned.name, planned.number) {
-            return Err(CommandError::NotExpired(error));
+    type Volume = Store<D>;
+
+    type Output = W;
+
+    type Refusal = CommandError;
+
+    ghost is_ready = { λ _ store. IsSaved D.device store };
+
+    ghost found = { λ _ store place wildmat since group. IsAgedGroup store.spool.changes place wildmat since group };
+
+    ghost treated = { λ _ old new aged result. Expires D.device old new aged result };
+
+    fn find(&self, volume: &Store<D>, place: usize, wildmat: &Wildmat, since: u64) -> AgedGroup {
+        aged_group(volume.spool(), place, wildmat, since)
+    }
+
+    fn treat(
+        &self,
+        volume: &mut Store<D>,
+        output: &mut W,
+        aged: AgedArticles,
+    ) -> Result<(), CommandError> {
+        match take_out(volume, aged) {
+            Ok(expired) => print_expired(&expired, output),
+            Err(refusal) => Err(refusal_of(refusal)),
         }
-        flush(rt, alloc, &mut self.journal, &self.kern, &mut self.batch)
     }
 }
 
-/// The expiries of the groups whose names the wildmat matches, in rising serial of the groups.
-fn plan(
-    alloc: Global,
-    spool: &Spool,
+/// Says which articles of a volume are old, and changes nothing.
+struct Telling<D, W> {
+    of: PhantomData<(D, W)>,
+}
+
+impl<D, W> Drop for Telling<D, W> {
+    fn drop(self) {
+        let Telling { of: _ } = self;
+    }
+}
+
+impl<D: Disk, W: Write> TreatOld for Telling<D, W> {
+    ghost use Rattle.std.specs.Prelude.{◌≡◌};
+    ghost use Rattle.kernel_expiring.specs.Ages.{IsAgedGroup};
+
+    type Volume = Store<D>;
+
+    type Output = W;
+
+    type Refusal = CommandError;
+
+    ghost is_ready = { λ _ _. Unit {0} };
+
+    ghost found = { λ _ store place wildmat since group. IsAgedGroup store.spool.changes place wildmat since group };
+
+    ghost treated = { λ _ old new _ _. new ≡ old };
+
+    fn find(&self, volume: &Store<D>, place: usize, wildmat: &Wildmat, since: u64) -> AgedGroup {
+        aged_group(volume.spool(), place, wildmat, since)
+    }
+
+    fn treat(
+        &self,
+        _volume: &mut Store<D>,
+        output: &mut W,
+        aged: AgedArticles,
+    ) -> Result<(), CommandError> {
+        print(&aged, output)
+    }
+}
+
+/// Removes from the groups whose names the wildmat matches the articles before the first one that was filed at this moment or
+/// later, and nothing else, from a volume all of whose changes are durable. Prints the expiry of each group once it is durable,
+/// and answers how many articles these were; one that was in two groups counts twice.
+///
+/// A crash at any moment leaves the first of the changes, at least those that were there before. After a refusal what was
+/// printed is removed.
+pub fn expire_old<D: Disk, W: Write>(
+    store: &mut Store<D>,
     wildmat: &Wildmat,
     since: u64,
-) -> Result<Vec<AgedArticles>, CommandError> {
-    let mut planned = Vec::new(alloc);
-    for place in 0..usize::MAX {
-        match aged_group(spool, place, wildmat, since) {
-            AgedGroup::Missing => break,
-            AgedGroup::Spared => {}
-            AgedGroup::Aged(aged) => {
-                let Ok(()) = planned.push(aged) else {
-                    return Err(CommandError::Memory);
-                };
-            }
-        }
-    }
-    Ok(planned)
-}
-
-/// Carries out the expiries one after the other, and prints each once it is durable.
-fn expire_all<R: Wait, W: Write>(
-    rt: &R,
-    alloc: Global,
-    mut target: Target,
-    planned: &[AgedArticles],
     output: &mut W,
-) -> Result<(), CommandError>
-    requires { IsIdle target.journal }
+) -> Result<u64, CommandError>
+    requires { IsSaved D.device store.old }
+    ensures saved { OnOk result (IsSaved D.device store.new) }
+    ensures exactly { Treats (λ (now : StoreView D) place group. IsAgedGroup now.spool.changes place wildmat.now since group)
+        (Expires D.device) store.old store.new result }
+    ensures goes_on { GoesOn D.device store.old store.new }
 {
-    for each in planned {
-        target.expire(rt, alloc, each)?;
-        print(each, output)?;
-    }
-    Ok(())
+    let taking: TakingOut<D, W> = TakingOut { of: PhantomData };
+    treat_old(&taking, store, output, wildmat, since)
 }
 
-/// Prints the expiries.
-fn print_all<W: Write>(planned: &[AgedArticles], output: &mut W) -> Result<(), CommandError> {
-    for each in planned {
-        print(each, output)?;
+/// Prints the expiries that `expire_old` would make, and answers how many articles they would take out. Nothing changes.
+pub fn tell_old<D: Disk, W: Write>(
+    store: &mut Store<D>,
+    wildmat: &Wildmat,
+    since: u64,
+    output: &mut W,
+) -> Result<u64, CommandError>
+    ensures { store.new ≡ store.old }
+{
+    let telling: Telling<D, W> = Telling { of: PhantomData };
+    treat_old(&telling, store, output, wildmat, since)
+}
+
+/// Takes the old articles out of a group, and makes that durable, as `expire` does.
+fn take_out<D: Disk>(
+    store: &mut Store<D>,
+    aged: AgedArticles,
+) -> Result<Durable<AgedArticles>, NotDone<ExpireError>>
+    requires { IsSaved D.device store.old }
+    ensures changes { Changes D.device (D.write_grows || D.sync_grows) store.old store.new (expiry_of aged) ExpireError.Memory
+        (expiry_refusal store.old.spool aged.name aged.number) result }
+    ensures same { IfOk result (λ expired. expired.value ≡ aged) }
+{
+    match store.expire(&aged.name, aged.number) {
+        Ok(_) => match commit(store, aged) {
+            Ok(durable) => Ok(durable),
+            Err(error) => Err(NotDone::Device(error)),
+        },
+        Err(error) => Err(NotDone::Refused(error)),
     }
-    Ok(())
+}
+
+/// Prints an expiry that is durable.
+fn print_expired<W: Write>(
+    expired: &Durable<AgedArticles>,
+    output: &mut W,
+) -> Result<(), CommandError> {
+    print(expired.get(), output)
 }
 
 /// Prints an expiry as the operator would ask for it.
-fn print<W: Write>(planned: &AgedArticles, output: &mut W) -> Result<(), CommandError> {
+fn print<W: Write>(aged: &AgedArticles, output: &mut W) -> Result<(), CommandError> {
     write!(output, "expire ")?;
-    output.write_all(planned.name.as_slice())?;
-    Ok(writeln!(output, " {}", planned.number)?)
-}
-
-/// Prints how many articles are removed in all.
-fn print_count<W: Write>(planned: &[AgedArticles], output: &mut W) -> Result<(), CommandError> {
-    let mut articles = 0u64;
-    for each in planned {
-        articles = articles.saturating_add(each.articles);
-    }
-    Ok(writeln!(output, "articles {articles}")?)
+    output.write_all(aged.name.as_slice())?;
+    Ok(writeln!(output, " {}", aged.number)?)
 }

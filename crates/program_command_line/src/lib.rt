@@ -4,4 +4,6 @@
 mod word_reading;
 
 pub use program_command_table::VERSION;
-pub use word_reading::{AgedExpiry, Asked, Export, NewVolume, Renewal, ServeOptions, read_words};
+pub use word_reading::{
+    AgedExpiry, Asked, CallerLimits, Export, NewVolume, Question, Renewal, ServeOptions, read_words,
+};

@@ -5,11 +5,12 @@ ghost use Rattle.std.specs.Prelude.{◌≤◌, IfOk};
 use clap::ArgMatches;
 use clap::error::{Error, ErrorKind};
 use program_command_table::table::{
-    ALLOW, BLOCKS, CACHE, CRLF, DESCRIPTION, DRY_RUN, FORMAT, HOST, IN_PLACE, INODES, JSON, Kind,
-    LISTEN, METRICS, MOMENT, MOST_FROM, NAME, NEW, NUMBER, OLD, OLDER_THAN, PATH, PORT, PROXIED,
-    QUIET, SESSIONS, STATUS, SUBCOMMANDS, Subcommand, Word,
+    ALLOW, BLOCKS, CACHE, CONTROL, CRLF, DESCRIPTION, DRY_RUN, FORMAT, HOST, IN_PLACE, INODES,
+    JSON, Kind, LINE, LISTEN, METRICS, MOMENT, MOST_FROM, NAME, NEW, NUMBER, OLD, OLDER_THAN, PATH,
+    PORT, POSTS_FROM, PROXIED, QUIET, SESSIONS, STATUS, Subcommand, Word, first_subcommands,
+    last_subcommands, serving_subcommands,
 };
-use program_command_table::{Grammar, command_syntax, session_number};
+use program_command_table::{Grammar, article_number, command_syntax, session_number};
 use program_printing::{DONE, Failure, NOT_UNDERSTOOD};
 use program_script::{ParseError, escaped, number};
 use std::alloc::{AllocError, Global};
@@ -46,6 +47,15 @@ pub enum Asked<'a> {
     /// The volume in which a batch is filed.
     Import(&'a str),
     Renew(Renewal<'a>),
+    Ask(Question<'a>),
+}
+
+/// What a running server is asked, and at which socket.
+#[derive(Drop)]
+pub struct Question<'a> {
+    pub socket: &'a str,
+    /// The words of the line. There is one at least, and none has an LF.
+    pub words: Vec<&'a str>,
 }
 
 /// A volume to make in a file.
@@ -55,6 +65,17 @@ pub struct NewVolume<'a> {
     pub plan: VolumePlan<'a>,
     /// It replaces no file that isn't empty.
     pub is_new: bool,
+}
+
+/// How many callers a server has, and how much one address may ask of it.
+#[derive(Clone, Copy)]
+pub struct CallerLimits {
+    /// The most sessions at a time.
+    pub sessions: usize,
+    /// The most sessions of callers of one address, if that is given.
+    pub most_from: Option<usize>,
+    /// The most articles that are read from one address in a minute, if that is given.
+    pub posts_from: Option<u32>,
 }
 
 /// The volume that a server serves, where it listens, and whom it lets in.
@@ -67,12 +88,11 @@ pub struct ServeOptions<'a> {
     pub proxied: Vec<SocketAddr>,
     /// The networks from which callers are let in, besides the loopback networks.
     pub networks: Vec<Network>,
-    /// The most sessions at a time.
-    pub sessions: usize,
-    /// The most sessions of callers of one address, if that is given.
-    pub most_from: Option<usize>,
+    pub limits: CallerLimits,
     /// The file that is written for a monitor, if there is one.
     pub metrics: Option<&'a str>,
+    /// The socket at which the operator is answered, too, if there is one.
+    pub control: Option<&'a str>,
     /// The beginnings, posts and ends of sessions are not logged.
     pub is_quiet: bool,
 }
@@ -171,13 +191,26 @@ fn read_request<'a>(alloc: Global, matches: &ArgMatches<'a>) -> Result<Asked<'a>
         "import" => Ok(Asked::Import(word(words, PATH)?)),
         "export" => Ok(Asked::Export(read_export(words)?)),
         "renew" => Ok(Asked::Renew(read_renewal(alloc, words)?)),
+        "ask" => Ok(Asked::Ask(read_question(alloc, words)?)),
         _ => Err(Failure::Bad),
     }
 }
 
 /// Refuses the first word of a subcommand that is outside its grammar, in the order of the table.
 fn check_words(alloc: Global, name: &str, words: &ArgMatches<'_>) -> Result<(), Failure> {
-    for row in SUBCOMMANDS {
+    check_rows(alloc, first_subcommands(), name, words)?;
+    check_rows(alloc, serving_subcommands(), name, words)?;
+    check_rows(alloc, last_subcommands(), name, words)
+}
+
+/// The same of a part of the table.
+fn check_rows(
+    alloc: Global,
+    rows: &[Subcommand],
+    name: &str,
+    words: &ArgMatches<'_>,
+) -> Result<(), Failure> {
+    for row in rows {
         if row.name == name {
             check_row(alloc, row, words)?;
         }
@@ -207,7 +240,7 @@ fn check_values(alloc: Global, word: &Word, values: &[&str]) -> Result<(), Failu
 /// How help and refusals show a word.
 fn shown_name(alloc: Global, word: &Word) -> Result<String, AllocError> {
     match word.kind {
-        Kind::Operand | Kind::LastOperand => String::from_str(alloc, word.value),
+        Kind::Operand | Kind::LastOperand | Kind::Rest => String::from_str(alloc, word.value),
         _ => format!(in alloc; "--{}", word.id),
     }
 }
@@ -392,6 +425,15 @@ fn check_as(alloc: Global, name: &str, word: &str, grammar: Grammar) -> Result<(
     Err(Failure::bad_word(alloc, name, word, grammar.fault()))
 }
 
+/// What the words ask a running server.
+fn read_question<'a>(alloc: Global, words: &ArgMatches<'a>) -> Result<Question<'a>, Failure> {
+    let line = words.get_strs(LINE).unwrap_or(&[]);
+    Ok(Question {
+        socket: word(words, PATH)?,
+        words: Vec::from_slice(alloc, line)?,
+    })
+}
+
 /// The server that the words describe.
 fn read_service<'a>(alloc: Global, words: &ArgMatches<'a>) -> Result<ServeOptions<'a>, Failure> {
     Ok(ServeOptions {
@@ -399,9 +441,9 @@ fn read_service<'a>(alloc: Global, words: &ArgMatches<'a>) -> Result<ServeOption
         endpoints: read_endpoints(alloc, words)?,
         proxied: read_proxied(alloc, words)?,
         networks: read_networks(alloc, words)?,
-        sessions: read_sessions(words)?,
-        most_from: read_number(words, MOST_FROM)?,
+        limits: read_limits(words)?,
         metrics: words.get_str(METRICS),
+        control: words.get_str(CONTROL),
         is_quiet: words.get_flag(QUIET),
     })
 }
@@ -427,6 +469,15 @@ fn read_proxied(alloc: Global, words: &ArgMatches<'_>) -> Result<Vec<SocketAddr>
     Ok(endpoints)
 }
 
+/// How many callers the server has, and how much one address may ask of it.
+fn read_limits(words: &ArgMatches<'_>) -> Result<CallerLimits, Failure> {
+    Ok(CallerLimits {
+        sessions: read_sessions(words)?,
+        most_from: read_number(words, MOST_FROM)?,
+        posts_from: read_rate(words)?,
+    })
+}
+
 /// The most sessions, which are given or have a default.
 fn read_sessions(words: &ArgMatches<'_>) -> Result<usize, Failure> {
     read_number(words, SESSIONS)?.ok_or(Failure::Bad)
@@ -438,6 +489,17 @@ fn read_number(words: &ArgMatches<'_>, name: &str) -> Result<Option<usize>, Fail
         return Ok(None);
     };
     match session_number(most.as_bytes()) {
+        Some(most) => Ok(Some(most)),
+        None => Err(Failure::Bad),
+    }
+}
+
+/// The number of articles in a minute, if it is given.
+fn read_rate(words: &ArgMatches<'_>) -> Result<Option<u32>, Failure> {
+    let Some(most) = words.get_str(POSTS_FROM) else {
+        return Ok(None);
+    };
+    match article_number(most.as_bytes()) {
         Some(most) => Ok(Some(most)),
         None => Err(Failure::Bad),
     }

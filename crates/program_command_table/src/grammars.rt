@@ -1,10 +1,11 @@
 //! What each word may be.
 
-ghost use Rattle.std.specs.Prelude.{◌≡◌, ◌≤◌, ℕ, Some, IfSome, IfNone};
-ghost use Rattle.program_script.specs.Words.{number_of};
+ghost use Rattle.std.specs.Prelude.{◌≡◌, ◌≤◌, ◌&&◌, not, ℕ, Some, IfSome, IfNone};
+ghost use Rattle.program_script.specs.Words.{is_blank, number_of};
+ghost use Rattle.text_names.specs.Descriptions.{is_description};
 
 use kernel_shared::MOST_SESSIONS;
-use program_script::{days, moment, number, status};
+use program_script::{days, is_blank, moment, number, status};
 use text_names::{is_description, is_group_name, is_host, is_wildmat, number_of};
 use text_networks::{Network, is_loopback, read_endpoint};
 use volume_new::{FEWEST_INODES, MOST_BLOCKS, are_sizes};
@@ -28,7 +29,7 @@ pub enum Grammar {
     Status,
     /// Seconds since 1970, before the year 10000.
     Moment,
-    /// The description of a group.
+    /// The description of a group, which isn't blank.
     Description,
     /// The number of an article.
     Article,
@@ -44,6 +45,10 @@ pub enum Grammar {
     Network,
     /// A number of sessions.
     Seats,
+    /// A number of articles in a minute.
+    Articles,
+    /// A word of a line, or several.
+    LineWord,
 }
 
 impl Grammar {
@@ -60,7 +65,7 @@ impl Grammar {
             Grammar::Group => is_group_name(octets),
             Grammar::Status => status(octets).is_some(),
             Grammar::Moment => moment(octets).is_some(),
-            Grammar::Description => is_description(octets),
+            Grammar::Description => is_shown(octets),
             Grammar::Article => number_of(octets).is_some(),
             Grammar::Wildmat => is_wildmat(octets),
             Grammar::Days => days(octets).is_some(),
@@ -68,6 +73,8 @@ impl Grammar {
             Grammar::OwnEndpoint => read_endpoint(word).is_some_and(|at| is_loopback(at.ip())),
             Grammar::Network => Network::read(word).is_some(),
             Grammar::Seats => session_number(octets).is_some(),
+            Grammar::Articles => article_number(octets).is_some(),
+            Grammar::LineWord => !octets.contains(&b'\n'),
         }
     }
 
@@ -82,7 +89,7 @@ impl Grammar {
             Grammar::Group => "is no name of a group",
             Grammar::Status => "is neither y nor n",
             Grammar::Moment => "is no number of seconds before the year 10000",
-            Grammar::Description => "is no line of at most 200 octets of ASCII",
+            Grammar::Description => "is no line of at most 200 octets of ASCII, or is blank",
             Grammar::Article => "is no number of an article",
             Grammar::Wildmat => "is no wildmat",
             Grammar::Days => "is no number of days from 1 to 36500",
@@ -90,8 +97,18 @@ impl Grammar {
             Grammar::OwnEndpoint => "is no ADDRESS:PORT of 127.0.0.0/8 or ::1",
             Grammar::Network => "is no ADDRESS or ADDRESS/LENGTH",
             Grammar::Seats => "is no number from 1 to 4096",
+            Grammar::Articles => "is no number from 1 to 1000000",
+            Grammar::LineWord => "is more than one line",
         }
     }
+}
+
+/// Whether the operator may give this description to a group: it is one, and readers can be shown it as RFC 3977 asks (section
+/// 9.7), since it isn't blank.
+fn is_shown(text: &[u8]) -> bool
+    ensures { result ≡ (is_description text.now && not (is_blank text.now)) }
+{
+    is_description(text) && !is_blank(text)
 }
 
 /// The number of sessions that a word names: one from 1 to `MOST_SESSIONS`.
@@ -101,6 +118,20 @@ pub fn session_number(word: &[u8]) -> Option<usize>
 {
     match number(word) {
         Some(most) if most >= 1 && most <= MOST_SESSIONS as u64 => Some(most as usize),
+        _ => None,
+    }
+}
+
+/// The most articles of an address in a minute that an operator may name.
+const MOST_ARTICLES: u64 = 1_000_000;
+
+/// The number of articles in a minute that a word names: one from 1 to `MOST_ARTICLES`.
+pub fn article_number(word: &[u8]) -> Option<u32>
+    ensures some { IfSome result (λ most. (number_of word.now ≡ Some most) × (1 ≤ most) × (most ≤ 1_000_000)) }
+    ensures none { IfNone result ((most : ℕ) → number_of word.now ≡ Some most → 1 ≤ most → most ≤ 1_000_000 → ⊥) }
+{
+    match number(word) {
+        Some(most) if most >= 1 && most <= MOST_ARTICLES => Some(most as u32),
         _ => None,
     }
 }

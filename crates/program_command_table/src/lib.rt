@@ -5,5 +5,5 @@ mod grammars;
 mod syntax;
 pub mod table;
 
-pub use grammars::{Grammar, session_number};
+pub use grammars::{Grammar, article_number, session_number};
 pub use syntax::{VERSION, command_syntax};

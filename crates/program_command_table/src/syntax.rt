@@ -1,6 +1,8 @@
 //! The grammar of the program's words, and its help.
 
-use crate::table::{Kind, SUBCOMMANDS, Subcommand, Word};
+use crate::table::{
+    Kind, Subcommand, Word, first_subcommands, last_subcommands, serving_subcommands,
+};
 use clap::{Arg, ArgAction, ArgGroup, Command, value_parser};
 use std::alloc::{AllocError, Global};
 
@@ -12,12 +14,24 @@ const ONE_OF: &str = "one of";
 
 /// The program's words, one level of subcommands.
 pub fn command_syntax<'a>(alloc: Global) -> Result<Command<'a>, AllocError> {
-    let mut command = Command::new(alloc, "newsd")
+    let command = Command::new(alloc, "newsd")
         .bin_name("newsd")?
         .version(VERSION)
         .about("A Usenet server that releases no reply before what it says is on disk")
         .subcommand_required(true);
-    for row in SUBCOMMANDS {
+    let command = with_rows(alloc, command, first_subcommands())?;
+    let command = with_rows(alloc, command, serving_subcommands())?;
+    with_rows(alloc, command, last_subcommands())
+}
+
+/// Adds the subcommands of a part of the table.
+fn with_rows<'a>(
+    alloc: Global,
+    command: Command<'a>,
+    rows: &[Subcommand],
+) -> Result<Command<'a>, AllocError> {
+    let mut command = command;
+    for row in rows {
         command = command.subcommand(subcommand(alloc, row)?)?;
     }
     Ok(command)
@@ -55,6 +69,12 @@ fn argument<'a>(alloc: Global, word: &Word) -> Arg<'a> {
             .value_parser(value_parser!(u16).range(1..)),
         Kind::Option => argument.long(word.id),
         Kind::Repeated => argument.long(word.id).action(ArgAction::Append),
+        Kind::Rest => argument
+            .required(true)
+            .action(ArgAction::Append)
+            .num_args(1..)
+            .trailing_var_arg(true)
+            .allow_hyphen_values(true),
         Kind::LastOperand | Kind::Flag => argument,
     }
 }

@@ -26,9 +26,15 @@ pub const ALLOW: &str = "allow";
 
 pub const MOST_FROM: &str = "most-from";
 
+pub const POSTS_FROM: &str = "posts-from";
+
 pub const SESSIONS: &str = "sessions";
 
 pub const METRICS: &str = "metrics";
+
+pub const CONTROL: &str = "control";
+
+pub const LINE: &str = "line";
 
 pub const QUIET: &str = "quiet";
 
@@ -87,6 +93,8 @@ pub enum Kind {
     Repeated,
     /// As an option without a value.
     Flag,
+    /// By their places: all that follow, at least one, even such as begin with a hyphen.
+    Rest,
 }
 
 /// A subcommand.
@@ -134,7 +142,8 @@ const INODES_OF_FILE: Word = Word {
     id: INODES,
     value: "I",
     help: "Files on the volume",
-    kind: Kind::Default("8192"),
+    // the fewest of which a part is left to the operator, and in which short articles share the pack
+    kind: Kind::Default("2048"),
     grammar: Grammar::Inodes,
 };
 
@@ -189,6 +198,11 @@ With NAME and N prints the serial of the change. With --older-than it makes a ch
 `expire NAME N` once that change is durable; the last line, `articles COUNT`, says how many were taken out in all. What counts is when \
 an article was filed. In each group it stops before the first article that isn't older than DAYS days, whatever comes behind it.";
 
+/// What `ask` does, in short.
+const ASKING: &str = "\
+The lines are those of standard input: `newsd serve --help` has them. Status 0 where the server has done what the line asks for, \
+status 1 where it answers with a refusal, as `E12 NotFound`, and status 2 where nobody answers, or not to the end.";
+
 /// What `import` does, in short.
 const IMPORTING: &str = "\
 Reads the batch from standard input. Its lines end in LF or CRLF. Each article is filed as a transfer (IHAVE) would be; one that \
@@ -202,8 +216,23 @@ of anything else all. Numbers, message-ids and what each client is answered stay
 volume grows. The new volume is made in a file whose name ends in .part, which is renamed once all of it is on disk. Until then OLD \
 has all that it had. Prints how many articles were kept, and how many blocks and inodes are used before and after.";
 
-/// The subcommands, in the order of the help.
-pub const SUBCOMMANDS: &[Subcommand] = &[
+/// The first subcommands in the order of the help, which make a volume or change one. Functions hand the table out in parts, so that no
+/// proof of their callers reads it.
+pub fn first_subcommands() -> &'static [Subcommand] {
+    FIRST_ROWS
+}
+
+/// Those behind them, which serve a volume or ask its server.
+pub fn serving_subcommands() -> &'static [Subcommand] {
+    SERVING_ROWS
+}
+
+/// The last ones.
+pub fn last_subcommands() -> &'static [Subcommand] {
+    LAST_ROWS
+}
+
+const FIRST_ROWS: &[Subcommand] = &[
     Subcommand {
         name: "format",
         about: "Makes an empty volume in a file, in place of any file there",
@@ -254,7 +283,7 @@ pub const SUBCOMMANDS: &[Subcommand] = &[
             Word {
                 id: DESCRIPTION,
                 value: "DESCRIPTION",
-                help: "What it is about, at most 200 octets of ASCII",
+                help: "What it is about, at most 200 octets of ASCII; not blank",
                 kind: Kind::Operand,
                 grammar: Grammar::Description,
             },
@@ -298,6 +327,9 @@ pub const SUBCOMMANDS: &[Subcommand] = &[
         ],
         one_of: &[],
     },
+];
+
+const SERVING_ROWS: &[Subcommand] = &[
     Subcommand {
         name: "serve",
         about: "Serves a volume to news readers",
@@ -347,9 +379,23 @@ pub const SUBCOMMANDS: &[Subcommand] = &[
                 grammar: Grammar::Seats,
             },
             Word {
+                id: POSTS_FROM,
+                value: "N",
+                help: "Reads at most so many articles a minute from one address, 1 to 1000000; further ones wait",
+                kind: Kind::Option,
+                grammar: Grammar::Articles,
+            },
+            Word {
                 id: METRICS,
                 value: "FILE",
                 help: "Writes what a monitor wants to know into this file, each 15 seconds",
+                kind: Kind::Option,
+                grammar: Grammar::Any,
+            },
+            Word {
+                id: CONTROL,
+                value: "SOCKET",
+                help: "Takes the lines of standard input at this Unix socket as well, from `newsd ask`",
                 kind: Kind::Option,
                 grammar: Grammar::Any,
             },
@@ -363,6 +409,31 @@ pub const SUBCOMMANDS: &[Subcommand] = &[
         ],
         one_of: &[PORT, LISTEN, PROXIED],
     },
+    Subcommand {
+        name: "ask",
+        about: "Asks a running server by the socket of --control, and prints its answer",
+        after_help: Some(ASKING),
+        words: &[
+            Word {
+                id: PATH,
+                value: "SOCKET",
+                help: "The socket, as `newsd serve --control` names it",
+                kind: Kind::Operand,
+                grammar: Grammar::Any,
+            },
+            Word {
+                id: LINE,
+                value: "LINE",
+                help: "A line of the operator, as in status or expire x.announce 7; each word of it may be one of its own",
+                kind: Kind::Rest,
+                grammar: Grammar::LineWord,
+            },
+        ],
+        one_of: &[],
+    },
+];
+
+const LAST_ROWS: &[Subcommand] = &[
     Subcommand {
         name: "status",
         about: "Prints the state of a volume that no server serves: its blocks, its inodes and its groups",

@@ -8,5 +8,5 @@ mod volume_file;
 pub use opening_refusals::refusal_of;
 pub use volume_file::{
     ReadDisk, VolumeDisk, VolumeFile, block_octets, changes_at, find, find_to_read, format,
-    new_counts, octets_at, open, open_found, open_to_read,
+    format_empty, format_new, new_counts, octets_at, open, open_found, open_store, open_to_read,
 };

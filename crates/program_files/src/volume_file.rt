@@ -1,27 +1,31 @@
 //! A volume in a file.
 
-ghost use Rattle.std.specs.Prelude.{◌≡◌, ◌-◌, IfOk, Ok, OnOk, false};
+ghost use Rattle.std.specs.Prelude.{◌≡◌, ◌-◌, IfOk, IsErr, Ok, OnErr, OnOk, false};
 ghost use Rattle.disk_file.specs.FileDisk.{file_device};
 ghost use Rattle.disk_file.specs.declared.FileDisk.{FileDisk};
 ghost use Rattle.journal_gates.specs.Gates.{WritesBack};
 ghost use Rattle.journal.specs.Journal.{IsReady};
 ghost use Rattle.volume_new.specs.Sizes.{device_size};
+ghost use Rattle.volume_store.specs.Saved.{IsSaved};
 
 use crate::opening_refusals::refusal_of;
 use disk::{Disk, DiskError};
 use disk_cache::WCache;
-use disk_file::{CountedDisk, Counts, Explains, FileDisk, FileError, holder};
+use disk_causes::Cause;
+use disk_file::{CountedDisk, Counts, Explains, FileDisk, FileError, holder, sync_directory};
 use disk_overlay::Overlay;
 use journal_gates::write_gates_back;
 use kernel::{Opened, Refused};
 use kernel_shared::SESSIONS;
 use program_printing::CommandError;
 use std::alloc::{AllocError, Global};
-use std::fs::File;
+use std::fs::{self, File};
+use std::io::{self, ErrorKind};
 use std::rt::Files;
 use std::sync::Arc;
 use volume_new::{VolumePlan, device_octets, format as format_device};
 use volume_states::state_on;
+use volume_store::Store;
 
 /// The device of a volume in a file: it collects writes until a sync. The syncs and the octets that are read are counted.
 pub type VolumeDisk = WCache<CountedDisk<FileDisk>>;
@@ -51,7 +55,8 @@ impl<'a> VolumeFile<'a> {
     /// The outcome of a command over this volume. A refusal that says only that the device failed gets the cause of its
     /// first failure.
     pub fn outcome<T>(&self, outcome: Result<T, CommandError>) -> Result<T, CommandError>
-        ensures { OnOk outcome (result ≡ outcome) }
+        ensures ok { OnOk outcome (result ≡ outcome) }
+        ensures err { OnErr outcome (IsErr result) }
     {
         match outcome {
             Ok(done) => Ok(done),
@@ -70,17 +75,17 @@ impl<'a> VolumeFile<'a> {
     }
 }
 
-/// How many octets stand in the file with this path, where a volume is to be made; 0 if there is no file. Refused as
+/// How many octets stand in the file with this path, where a volume is to be made; `None` if there is no file. Refused as
 /// `format` is if the file can't be opened for reading and writing, or a server or another command has it. The file stays
 /// as it was.
 pub fn octets_at<R: Files<File = File>>(
     rt: &R,
     alloc: Global,
     path: &str,
-) -> Result<u64, CommandError> {
+) -> Result<Option<u64>, CommandError> {
     match FileDisk::open_existing(rt, path) {
-        Ok(disk) => Ok(disk.len()),
-        Err(FileError::Missing) => Ok(0),
+        Ok(disk) => Ok(Some(disk.len())),
+        Err(FileError::Missing) => Ok(None),
         Err(error) => Err(no_device(rt, alloc, path, error)),
     }
 }
@@ -93,12 +98,138 @@ pub fn changes_at<R: Files<File = File>>(rt: &R, alloc: Global, path: &str) -> O
     Some(examined.state.changes)
 }
 
-/// Makes an empty volume in place of any file with this path.
+/// Makes an empty volume where no file is. It is made in a file beside that, whose name ends in `.part`, and gets its name once it
+/// is whole: so a refusal leaves nothing, and after a kill the same command can be run again. Refused as well if something has come
+/// there meanwhile, as a link, and if the file beside it is in use; these leave what is there.
+pub fn format_new<R: Files<File = File>>(
+    rt: &R,
+    alloc: Global,
+    path: &str,
+    plan: &VolumePlan<'_>,
+) -> Result<(), CommandError> {
+    let part = format!(in alloc; "{path}.part")?;
+    let disk = match FileDisk::make(rt, part.as_str(), device_octets(plan.blocks), None) {
+        Ok(disk) => disk,
+        Err(error) => return Err(no_device(rt, alloc, part.as_str(), error)),
+    };
+    // its device keeps the lock until it has its name
+    let _locked = format_part(rt, alloc, part.as_str(), disk, plan)?;
+    let named = give_name(rt, part.as_str(), path);
+    put(rt, path, named)
+}
+
+/// Makes an empty volume in place of an empty file, whose owner, group and mode it gets, as `format_new` makes one; the file stays as it was
+/// until then. Where no file may be made beside it, the volume is made within it, and a refusal makes it empty again.
+pub fn format_empty<R: Files<File = File>>(
+    rt: &R,
+    alloc: Global,
+    path: &str,
+    plan: &VolumePlan<'_>,
+) -> Result<(), CommandError> {
+    // a link names the file that is replaced
+    let place = rt.canonicalize(alloc, path)?.into_string();
+    let part = format!(in alloc; "{place}.part")?;
+    let empty = match fs::metadata(rt, place.as_str()) {
+        Ok(empty) => empty,
+        Err(error) => return Err(CommandError::NoDevice(FileError::of(error.kind()))),
+    };
+    let octets = device_octets(plan.blocks);
+    let disk = match FileDisk::make(rt, part.as_str(), octets, Some(&empty)) {
+        Ok(disk) => disk,
+        Err(FileError::Refused(ErrorKind::PermissionDenied) | FileError::Failed(Cause::Denied)) =>
+            return format_within(rt, alloc, place.as_str(), plan, true),
+        Err(error) => return Err(no_device(rt, alloc, part.as_str(), error)),
+    };
+    let _locked = format_part(rt, alloc, part.as_str(), disk, plan)?;
+    let renamed = replace_empty(rt, part.as_str(), place.as_str());
+    put(rt, place.as_str(), renamed)
+}
+
+/// Makes an empty volume in place of the file with this path.
 pub fn format<R: Files<File = File>>(
     rt: &R,
     alloc: Global,
     path: &str,
     plan: &VolumePlan<'_>,
+) -> Result<(), CommandError> {
+    format_within(rt, alloc, path, plan, false)
+}
+
+/// Makes an empty volume on the device of a file that was just made. A refusal removes that.
+fn format_part<R: Files<File = File>>(
+    rt: &R,
+    alloc: Global,
+    part: &str,
+    disk: FileDisk,
+    plan: &VolumePlan<'_>,
+) -> Result<FileDisk, CommandError>
+    requires { (file_device disk).size ≡ device_size plan.now.blocks }
+{
+    match format_device(alloc, disk, plan) {
+        Ok(disk) => Ok(disk),
+        Err(refused) => {
+            let _ = fs::remove_file(rt, part);
+            let error = CommandError::from(refused.error);
+            Err(error.because(refused.disk.cause()))
+        }
+    }
+}
+
+/// Gives a new volume its name, which no file has, and takes the one away under which it was made. Where the file system has no second
+/// names, it is renamed. A refusal leaves neither.
+fn give_name<R: Files<File = File>>(rt: &R, part: &str, path: &str) -> io::Result<()> {
+    let named = match rt.hard_link(part, path) {
+        Err(error) if error.kind() != ErrorKind::AlreadyExists => fs::rename(rt, part, path),
+        linked => linked,
+    };
+    // a renamed one isn't there any more
+    let _ = fs::remove_file(rt, part);
+    named
+}
+
+/// Puts a new volume in place of an empty file. Refused, and the new one removed, if another command has that file or has written to it
+/// meanwhile.
+fn replace_empty<R: Files<File = File>>(rt: &R, part: &str, path: &str) -> io::Result<()> {
+    let replaced = match FileDisk::open_existing(rt, path) {
+        Ok(empty) => {
+            // its lock keeps others away until it is replaced
+            if empty.len() == 0 {
+                fs::rename(rt, part, path)
+            } else {
+                Err(io::Error::from(ErrorKind::AlreadyExists))
+            }
+        }
+        Err(_) => Err(io::Error::from(ErrorKind::AlreadyExists)),
+    };
+    if replaced.is_err() {
+        let _ = fs::remove_file(rt, part);
+    }
+    replaced
+}
+
+/// Makes it durable that a new volume has its name, if it has got it.
+fn put<R: Files<File = File>>(
+    rt: &R,
+    path: &str,
+    named: io::Result<()>,
+) -> Result<(), CommandError> {
+    let durable = match named {
+        Ok(()) => sync_directory(rt, path),
+        Err(error) => Err(error),
+    };
+    match durable {
+        Ok(()) => Ok(()),
+        Err(error) => Err(CommandError::NoDevice(FileError::of(error.kind()))),
+    }
+}
+
+/// Makes an empty volume within the file with this path. A refusal makes one empty again that was empty.
+fn format_within<R: Files<File = File>>(
+    rt: &R,
+    alloc: Global,
+    path: &str,
+    plan: &VolumePlan<'_>,
+    was_empty: bool,
 ) -> Result<(), CommandError> {
     let disk = match FileDisk::open(rt, path, device_octets(plan.blocks)) {
         Ok(disk) => disk,
@@ -107,6 +238,10 @@ pub fn format<R: Files<File = File>>(
     match format_device(alloc, disk, plan) {
         Ok(_) => Ok(()),
         Err(refused) => {
+            if was_empty {
+                // its device still has the lock
+                let _ = File::options().write(true).truncate(true).open(rt, path);
+            }
             let error = CommandError::from(refused.error);
             Err(error.because(refused.disk.cause()))
         }
@@ -149,6 +284,26 @@ pub fn open_found<R: Files<File = File>>(
 {
     match kernel::open(alloc, file.collecting(alloc, disk)?, file.sessions) {
         Ok(opened) => Ok(opened),
+        Err(refused) => {
+            let Refused { disk, error } = refused;
+            // so that the file is no longer locked
+            drop(disk);
+            Err(refusal_of(rt, alloc, file, error))
+        }
+    }
+}
+
+/// Opens the volume in a file that no server serves, so that changes can be added to it. All its changes are durable.
+pub fn open_store<R: Files<File = File>>(
+    rt: &R,
+    alloc: Global,
+    file: VolumeFile<'_>,
+) -> Result<Store<VolumeDisk>, CommandError>
+    ensures { IfOk result (IsSaved ⟦<VolumeDisk as Disk>⟧.device) }
+{
+    let disk = find(rt, alloc, file.path)?;
+    match Store::open(alloc, file.collecting(alloc, disk)?) {
+        Ok(store) => Ok(store),
         Err(refused) => {
             let Refused { disk, error } = refused;
             // so that the file is no longer locked

@@ -2,7 +2,7 @@
 #![tactic(auto)]
 
 use model::Moment;
-use program_files::{VolumeFile, find, new_counts, refusal_of};
+use program_files::{VolumeFile, new_counts, open_store};
 use program_printing::CommandError;
 use server_logging::{beginning_of_1970, moment};
 use std::alloc::Global;
@@ -11,7 +11,6 @@ use std::io::{self, Read, Write};
 use std::rt::Files;
 use std::time::{Clock, Duration, Instant};
 use volume_importing::{ImportCounts, ImportError, Place, Report, Watcher};
-use volume_store::Store;
 
 /// The seconds between two lines of progress.
 const PAUSE_SECS: u64 = 1;
@@ -121,16 +120,7 @@ pub fn import<R: Files<File = File> + Clock, I: Read, F: Write>(
 ) -> Result<Report, CommandError> {
     let counts = new_counts(alloc)?;
     let file = VolumeFile::new(path, &counts);
-    let disk = find(rt, alloc, path)?;
-    let mut store = match Store::open(alloc, file.collecting(alloc, disk)?) {
-        Ok(store) => store,
-        Err(refused) => {
-            let error = refused.error;
-            // so that the file is no longer locked
-            drop(refused);
-            return Err(refusal_of(rt, alloc, file, error));
-        }
-    };
+    let mut store = open_store(rt, alloc, file)?;
     let mut teller = Teller::new(rt, faults, is_terminal)?;
     let imported = volume_importing::import(alloc, &mut store, input, &mut teller);
     // a line of progress that can't be erased is no reason to withhold the report

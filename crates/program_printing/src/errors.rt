@@ -9,7 +9,6 @@ use disk_causes::Cause;
 use disk_file::FileError;
 use journal::JournalError;
 use kernel::OpenError;
-use kernel_shared::{AdminError, ExpireError};
 use std::alloc::AllocError;
 use std::io::{self, ErrorKind};
 use std::net::SocketAddr;
@@ -45,12 +44,9 @@ pub enum CommandError {
     /// The volume holds no spool, and this is wrong with it, in words.
     #[error("{0}: {1}")]
     Found(OpenError, String),
-    /// The group was not made.
-    #[error(transparent)]
-    NotMade(AdminError),
-    /// The articles were not removed from the group.
-    #[error(transparent)]
-    NotExpired(ExpireError),
+    /// There is no room for the change.
+    #[error("E6 Full")]
+    Full,
     /// The group exists already.
     #[error("E11 Exists: the group is here already")]
     Exists,
@@ -66,6 +62,24 @@ pub enum CommandError {
     /// The file for a monitor can't be written.
     #[error("can't write the file of --metrics: {0}")]
     NoMetrics(io::Error),
+    /// The file for a monitor, or the one beside it, is the volume.
+    #[error("E14 Bad: --metrics FILE or FILE.part is the volume")]
+    MetricsOverVolume,
+    /// It is no regular file.
+    #[error("E14 Bad: --metrics FILE is no regular file")]
+    MetricsIrregular,
+    /// It, or the one beside it, has octets that no server wrote.
+    #[error("E14 Bad: --metrics FILE or FILE.part isn't empty, and newsd hasn't written it")]
+    MetricsForeign,
+    /// What stands where the control socket is to be is no socket.
+    #[error("E14 Bad: --control SOCKET is no socket")]
+    ControlForeign,
+    /// Somebody answers at the socket that stands there.
+    #[error("E14 Bad: --control SOCKET is one that somebody answers")]
+    ControlAnswered,
+    /// The control socket can't be made.
+    #[error("can't make the socket of --control: {0}")]
+    NoControl(io::Error),
     /// A socket or a stream failed.
     #[error(transparent)]
     Stream(io::Error),

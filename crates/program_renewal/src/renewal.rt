@@ -150,14 +150,14 @@ fn fill<R: Files<File = File> + Clock, F: Write>(
     }
 }
 
-/// Makes an empty volume in the file beside a place, whatever a renewal that was killed left there.
+/// Makes an empty volume in the file beside a place, whatever stands there.
 fn make<R: Files<File = File>>(
     rt: &R,
     alloc: Global,
     target: &Target,
     plan: &VolumePlan<'_>,
 ) -> Result<FileStore, CommandError> {
-    let disk = match FileDisk::open(rt, target.part.as_str(), device_octets(plan.blocks)) {
+    let disk = match target.make_part(rt, device_octets(plan.blocks)) {
         Ok(disk) => disk,
         Err(FileError::Failed(cause)) => return Err(CommandError::Failed(cause)),
         Err(error) => return Err(CommandError::NoDevice(error)),

@@ -1,14 +1,15 @@
 //! Where the new volume is made, and where it is put.
 
+ghost use Rattle.std.specs.Prelude.{◌≡◌, IfOk};
+ghost use Rattle.disk_file.specs.FileDisk.{file_device};
+
 use disk_causes::Cause;
-use disk_file::{Counts, FileError};
+use disk_file::{Counts, FileDisk, FileError, are_one, sync_directory};
 use program_files::{VolumeFile, new_counts};
 use program_printing::{CommandError, Failure};
 use std::alloc::{AllocError, Global};
 use std::fs::{self, File};
 use std::io::{self, ErrorKind};
-use std::os::unix::fs::{MetadataExt, chown};
-use std::path::Path;
 use std::rt::Files;
 use std::sync::Arc;
 
@@ -71,21 +72,33 @@ impl Target {
         self.counts.cause.read()
     }
 
-    /// Puts the new volume in its place, all octets of which are durable, and makes that durable. A volume that it replaces
-    /// stays whole until then, and the new one gets its owner, its group and its mode.
-    pub(crate) fn put<R: Files<File = File>>(&self, rt: &R) -> io::Result<()> {
-        if self.replaces {
-            self.take_mode(rt)?;
+    /// Makes the file beside the place anew, as `FileDisk::make` does. One that is to replace a volume has the owner, the group and the
+    /// mode of that from the beginning on. A second name of that volume, as a `format` that was killed may leave it there, is taken away.
+    pub(crate) fn make_part<R: Files<File = File>>(
+        &self,
+        rt: &R,
+        len: u64,
+    ) -> Result<FileDisk, FileError>
+        ensures size { IfOk result (λ disk. (file_device disk).size ≡ len) }
+    {
+        let (path, part) = (self.path.as_str(), self.part.as_str());
+        if !self.replaces {
+            return FileDisk::make(rt, part, len, None);
         }
-        fs::rename(rt, self.part.as_str(), self.path.as_str())?;
-        sync_directory(rt, self.path.as_str())
+        if are_one(rt, path, part) {
+            let _ = fs::remove_file(rt, part);
+        }
+        match fs::metadata(rt, path) {
+            Ok(old) => FileDisk::make(rt, part, len, Some(&old)),
+            Err(error) => Err(FileError::Failed(Cause::of(&error))),
+        }
     }
 
-    /// Gives the new volume the owner, the group and the mode of the one that it replaces.
-    fn take_mode<R: Files<File = File>>(&self, rt: &R) -> io::Result<()> {
-        let old = fs::metadata(rt, self.path.as_str())?;
-        chown(rt, self.part.as_str(), Some(old.uid()), Some(old.gid()))?;
-        fs::set_permissions(rt, self.part.as_str(), old.permissions())
+    /// Puts the new volume in its place, all octets of which are durable, and makes that durable. A volume that it replaces
+    /// stays whole until then.
+    pub(crate) fn put<R: Files<File = File>>(&self, rt: &R) -> io::Result<()> {
+        fs::rename(rt, self.part.as_str(), self.path.as_str())?;
+        sync_directory(rt, self.path.as_str())
     }
 
     /// Removes the file of a new volume that was not finished. What is left of it is made anew by the next renewal.
@@ -97,13 +110,4 @@ impl Target {
 /// The refusal of a path at which the system doesn't look.
 fn not_found(error: &io::Error) -> CommandError {
     CommandError::NoDevice(FileError::of(error.kind()))
-}
-
-/// Makes the entry of a file in its directory durable.
-fn sync_directory<R: Files<File = File>>(rt: &R, path: &str) -> io::Result<()> {
-    let directory = match Path::new(path).parent() {
-        Some(directory) if !directory.as_str().is_empty() => File::open(rt, directory)?,
-        _ => File::open(rt, ".")?,
-    };
-    directory.sync_all()
 }

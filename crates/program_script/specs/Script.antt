@@ -11,7 +11,7 @@ use Rattle.disk.specs.declared.DiskCall.{DiskCall}
 use Rattle.disk.specs.declared.DiskCall.TheVariants.{Read, Write, Sync}
 use Rattle.disk_memory.specs.declared.Pick.{Pick}
 use Rattle.disk_memory.specs.declared.Pick.TheVariants.{Old, New, Fill}
-use Rattle.program_script.specs.Words.{expiry_number_of, hex_octet, hex_octets, moment_of, number_of, split_word, status_of}
+use Rattle.program_script.specs.Words.{expiry_number_of, hex_octet, hex_octets, is_blank, moment_of, number_of, split_word, status_of}
 use Rattle.program_script.specs.declared.script_lines.Line.{Line}
 use Rattle.program_script.specs.declared.script_lines.Line.TheVariants.{Group, Expire, Join, Leave, Arrive, Exec, Take, Dev, Told, Release, Commit, Settle}
 use Rattle.program_script.specs.declared.script_lines.Line.TheVariants.{Drain, FailAt, FailKind, Crash, Renew, ReleaseOf, Spool, Stop}
@@ -120,6 +120,12 @@ new_group_of name status moment description = do
   yes_or_no ← status_of status
   seconds ← moment_of moment
   if is_group_name name && is_description description then Some (new_group name yes_or_no description seconds) else None
+
+-- the same of a group that is made for readers, whose description has to show something (RFC 3977, section 9.7,
+-- newsgroup-description). A script may make others, as there are in volumes
+unfoldable pub shown_group_of : Octets → Octets → Octets → Octets → Option NewGroup
+shown_group_of name status moment description =
+    if is_blank description then None else new_group_of name status moment description
 
 -- NAME STATUS MOMENT TEXT
 unfoldable pub group_of : Octets → Option LineMeaning

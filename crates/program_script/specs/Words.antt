@@ -1,7 +1,7 @@
 -- Words of a script's line (this project's rule).
-use Rattle.std.specs.Prelude.{ℕ, ◌+◌, ◌^◌, ◌==◌, ◌&&◌, nat_le, nat_lt, if◌then◌else◌, [], ◌∷◌, take, drop, get_or, Option, Some, None}
+use Rattle.std.specs.Prelude.{ℕ, Bool, ◌+◌, ◌^◌, ◌==◌, ◌&&◌, ◌||◌, nat_le, nat_lt, if◌then◌else◌, [], ◌∷◌, take, drop, get_or, Option, Some, None}
 use Rattle.std.specs.Prelude.{option_and_then, option_map}
-use Rattle.std.specs.List.{position}
+use Rattle.std.specs.List.{list_all, position}
 use Rattle.std.specs.Result.{result_ok}
 use Rattle.std.specs.Char.{is_ascii_digit}
 use Rattle.std.specs.Str.Parse.{digits_value}
@@ -53,3 +53,7 @@ hex_octet digits = option_map (λ octets. get_or octets 0 0) (result_ok (decode_
 -- the octets that pairs of hexadecimal digits write
 abbrev pub hex_octets : Octets → Option Octets
 hex_octets digits = result_ok (decode_of digits)
+
+-- a text that shows nothing: it is empty, or each of its octets is SP or TAB
+abbrev pub is_blank : Octets → Bool
+is_blank text = list_all (λ x. x == 32 || x == 9) text

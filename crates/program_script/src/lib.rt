@@ -8,4 +8,4 @@ mod words;
 
 pub use printed::escaped;
 pub use script_lines::{Line, ParseError, parse, read_expiry, read_group};
-pub use words::{MOST_DAYS, days, moment, number, split_word, status};
+pub use words::{MOST_DAYS, days, is_blank, moment, number, split_word, status};

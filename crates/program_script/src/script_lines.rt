@@ -4,10 +4,10 @@ ghost use Rattle.std.specs.Prelude.{◌≡◌, IfOk, IfErr, Some, None, option_m
 ghost use Rattle.text_names.specs.Requests as requests;
 ghost use Rattle.program_script.specs.Words.{hex_octets, hex_octet};
 ghost use Rattle.program_script.specs.Script.{Expired, alone_of, arrival_of, expired_of, expiry_of, fail_of, group_of, hex_of, kind_of, meaning};
-ghost use Rattle.program_script.specs.Script.{new_group_of, numbered_of, pick_of, release_of, said};
+ghost use Rattle.program_script.specs.Script.{new_group_of, numbered_of, pick_of, release_of, said, shown_group_of};
 ghost use Rattle.program_script.specs.declared.script_lines.ParseError.TheVariants.{Memory};
 
-use crate::words::{expiry_number, moment, number, split_word, status};
+use crate::words::{expiry_number, is_blank, moment, number, split_word, status};
 use disk::DiskCall;
 use disk_memory::Pick;
 use hex::FromHexError;
@@ -260,10 +260,29 @@ fn hex_octet(digits: &[u8]) -> Option<u8>
     }
 }
 
-/// Reads the words of a group: its name, `y` or `n`, the moment at which it is made in seconds since 1970, and its
-/// description. `Bad` if one of them does not follow its grammar, `Memory` if an allocation was refused.
-#[tactic(auto, unfolding(crate::specs::Script::new_group_of))]
+/// Reads the words of a group that is made for readers: its name, `y` or `n`, the moment at which it is made in seconds since
+/// 1970, and its description. `Bad` if one of them does not follow its grammar, or the description is blank; `Memory` if an
+/// allocation was refused.
+#[tactic(auto, unfolding(crate::specs::Script::shown_group_of))]
 pub fn read_group(
+    alloc: Global,
+    name: &[u8],
+    yes_or_no: &[u8],
+    time: &[u8],
+    description: &[u8],
+) -> Result<GroupRequest, ParseError>
+    ensures ok { IfOk result (λ request. shown_group_of name.now yes_or_no.now time.now description.now ≡ Some (requests.group_of request)) }
+    ensures bad { IfErr result (λ error. error ≡ ParseError.Bad → shown_group_of name.now yes_or_no.now time.now description.now ≡ None) }
+{
+    if is_blank(description) {
+        return Err(ParseError::Bad);
+    }
+    any_group(alloc, name, yes_or_no, time, description)
+}
+
+/// The group that these words describe, as `read_group` has it, with a blank description, too.
+#[tactic(auto, unfolding(crate::specs::Script::new_group_of))]
+fn any_group(
     alloc: Global,
     name: &[u8],
     yes_or_no: &[u8],
@@ -294,7 +313,7 @@ pub fn read_group(
     }
 }
 
-/// `group NAME STATUS MOMENT TEXT`, after its first word.
+/// `group NAME STATUS MOMENT TEXT`, after its first word. The text may be blank.
 #[tactic(auto, unfolding(crate::specs::Script::group_of))]
 fn group(alloc: Global, words: &[u8]) -> Result<Line, ParseError>
     ensures ok { IfOk result (λ read. group_of words.now ≡ Some (said read)) }
@@ -309,7 +328,7 @@ fn group(alloc: Global, words: &[u8]) -> Result<Line, ParseError>
     let Some((time, description)) = split_word(words) else {
         return Err(ParseError::Bad);
     };
-    let request = read_group(alloc, name, yes_or_no, time, description)?;
+    let request = any_group(alloc, name, yes_or_no, time, description)?;
     Ok(Line::Group(request))
 }
 

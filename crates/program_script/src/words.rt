@@ -4,7 +4,7 @@ ghost use Rattle.std.specs.Prelude.{◌≡◌, option_map, true};
 ghost use Rattle.std.specs.Char.{is_ascii_digit};
 ghost use Rattle.std.specs.List.{list_all};
 ghost use Rattle.model.specs.Names.{is_run_of};
-ghost use Rattle.program_script.specs.Words.{days_of, expiry_number_of, moment_of, number_of, split_word, status_of, within_u64};
+ghost use Rattle.program_script.specs.Words.{days_of, expiry_number_of, is_blank, moment_of, number_of, split_word, status_of, within_u64};
 
 use model::{Moment, Status};
 use text_names::number_of;
@@ -102,4 +102,12 @@ pub(crate) fn expiry_number(word: &[u8]) -> Option<u32>
     } else {
         Some(0)
     }
+}
+
+/// Whether the text shows nothing: it is empty, or each of its octets is a space or a TAB. RFC 3977 has no such description of a
+/// group (section 9.7).
+pub fn is_blank(text: &[u8]) -> bool
+    ensures { result ≡ is_blank text.now }
+{
+    text.iter().all(|octet| *octet == b' ' || *octet == b'\t')
 }

@@ -7,7 +7,8 @@ ghost use Rattle.journal.specs.Journal.{IsIdle, IsReady};
 mod progress;
 
 use crate::progress::open_told;
-use disk_file::Counts;
+use disk_causes::Cause;
+use disk_file::{Counts, FileError};
 use journal::Journal;
 use kernel::{Kernel, Opened};
 use kernel_locked::Locked;
@@ -15,21 +16,28 @@ use kernel_shared::NoHooks;
 use model::Moment;
 use program_files::{VolumeDisk, VolumeFile, new_counts};
 use program_printing::CommandError;
-use server::{Limits, MetricsFile, ServeError, Server};
+use server::{Limits, Manager, MetricsFile, NoMetrics, Pace, ServeError, ServedFile, Server};
+use server_control::{ControlSocket, NoControl, may_be_put};
 use server_flusher::TurnSeat;
 use server_logging::{Log, Verbosity, beginning_of_1970};
 use server_mark::{Mark, Seat};
+use server_notify::Notice;
 use session_lookups::LookUps;
 use std::alloc::{AllocError, Global};
 use std::fs::File;
-use std::io::{BufRead, Write};
+use std::io::{BufRead, ErrorKind, Write};
 use std::net::{Net, SocketAddr, TcpListener, TcpStream};
+use std::os::fd::AsRawFd;
+use std::os::unix::net::UnixListener;
 use std::rt::Files;
 use std::sync::{Arc, Wait};
 use std::thread::Threads;
-use std::time::Clock;
+use std::time::{Clock, Instant};
 use text_networks::Network;
 use volume_usage::{BitmapMarks, Tally, VolumeFacts};
+
+/// So many callers can wait to be accepted at least.
+const LEAST_WAITING: i32 = 128;
 
 /// What is asked of a server.
 #[derive(Clone, Copy)]
@@ -46,8 +54,14 @@ pub struct Offer<'a> {
     pub sessions: usize,
     /// The most sessions of callers of one address. Where it is not given, an address may have as many as are free.
     pub most_from: Option<usize>,
+    /// The most articles that are read from one address in a minute, if that is given.
+    pub posts_from: Option<u32>,
     /// The file that is written for a monitor, if there is one.
     pub metrics: Option<&'a str>,
+    /// The socket at which the operator is answered, too, if there is one.
+    pub control: Option<&'a str>,
+    /// The name of the socket where the service manager listens, if there is one.
+    pub manager: Option<&'a str>,
     pub verbosity: Verbosity,
 }
 
@@ -61,7 +75,8 @@ pub struct Streams<L: Drop, A: Drop, F: Drop> {
 
 /// Opens a volume and serves it on some endpoints, and answers the operator's lines, until the operator stops the server
 /// or its device fails. If it cannot listen on one of the endpoints, nothing is served. The log begins before the opening,
-/// and its last line is written before this returns, if its reader takes it.
+/// and its last line is written before this returns, if its reader takes it. The service manager is told once the endpoints are printed,
+/// and when the server begins to end. What stands where the control socket is to be is looked at before the volume is opened.
 pub fn serve<
     R: Files<File = File>
         + Net<Listener = TcpListener, Stream = TcpStream>
@@ -89,6 +104,7 @@ pub fn serve<
 
 /// Opens a volume, listens on all endpoints, prints them, and serves.
 fn open_and_serve<
+    'x,
     R: Files<File = File>
         + Net<Listener = TcpListener, Stream = TcpStream>
         + Threads
@@ -103,28 +119,147 @@ fn open_and_serve<
 >(
     rt: &R,
     alloc: Global,
-    offer: &Offer<'_>,
-    log: &Log,
+    offer: &'x Offer<'x>,
+    log: &'x Log,
     lines: L,
-    mut answers: A,
+    answers: A,
 ) -> Result<(), CommandError> {
     let volume = OwnVolume::new(alloc, offer)?;
+    let files = OwnFiles::at(rt, alloc, offer)?;
     let opened = open_told(rt, alloc, volume.file(), log)?;
-    let metrics = metrics_file(rt, alloc, offer.metrics)?;
-    let listeners = listen(rt, alloc, offer.endpoints)?;
-    let proxied = listen(rt, alloc, offer.proxied)?;
-    announce(offer, &mut answers)?;
+    files.begin_metrics(rt)?;
+    let control = Control::at(rt, alloc, offer)?;
+    let (listener, own) = (control.listener(), &files);
+    let ground = Ground {
+        offer: &*offer,
+        log: &*log,
+        files: own,
+        control: listener,
+    };
+    let outcome = listen_and_run(rt, alloc, ground, opened, &volume.counts, lines, answers);
+    control.take_away(rt);
+    volume.file().outcome(outcome)
+}
+
+/// What is there before the server listens.
+#[derive(Clone, Copy)]
+struct Ground<'a> {
+    offer: &'a Offer<'a>,
+    log: &'a Log,
+    files: &'a OwnFiles,
+    control: Option<&'a UnixListener>,
+}
+
+/// Listens on all endpoints, prints them, tells the service manager so, and serves an opened volume.
+fn listen_and_run<
+    R: Files<File = File>
+        + Net<Listener = TcpListener, Stream = TcpStream>
+        + Threads
+        + Wait
+        + Clock
+        + Copy
+        + Send
+        + Sync
+        + 'static,
+    L: BufRead + Send + Drop + 'static,
+    A: Write + Send + Drop + 'static,
+>(
+    rt: &R,
+    alloc: Global,
+    ground: Ground<'_>,
+    opened: Opened<VolumeDisk>,
+    counts: &Arc<Counts, Global>,
+    lines: L,
+    mut answers: A,
+) -> Result<(), CommandError>
+    requires { IsReady opened.journal }
+{
+    let offer = ground.offer;
+    let listening = Listening::at(rt, alloc, offer, &mut answers)?;
+    let manager = offer.manager.and_then(manager_at);
+    if let Some(manager) = &manager {
+        let _ = manager.tell(Notice::Ready);
+    }
+    let pace = pace(rt, alloc, offer.posts_from)?;
     let entrance = Entrance {
-        listeners: listeners.as_slice(),
-        proxied: proxied.as_slice(),
+        listeners: listening.direct.as_slice(),
+        proxied: listening.proxied.as_slice(),
         networks: offer.networks,
         sessions: offer.sessions,
         most_from: offer.most_from,
-        log,
-        metrics: &metrics,
+        log: ground.log,
+        files: ground.files,
+        control: ground.control,
+        manager: manager.as_ref(),
+        pace: pace.as_ref(),
     };
-    let outcome = run(rt, alloc, entrance, opened, &volume.counts, lines, answers);
-    volume.file().outcome(outcome)
+    run(rt, alloc, entrance, opened, counts, lines, answers)
+}
+
+/// How many articles are read from one address in a minute, if that is limited. Where the clock can't be read it isn't.
+fn pace<R: Clock>(
+    rt: &R,
+    alloc: Global,
+    posts_from: Option<u32>,
+) -> Result<Option<Pace>, AllocError> {
+    match (posts_from, Instant::now(rt)) {
+        (Some(most), Ok(now)) => Ok(Some(Pace::new(alloc, most, now)?)),
+        _ => Ok(None),
+    }
+}
+
+/// The service manager that listens at a socket of this name. A name that no socket can have is passed over.
+fn manager_at(name: &str) -> Option<Manager> {
+    Manager::at(name.as_bytes())
+}
+
+/// The control socket, if one is asked for.
+#[derive(Drop)]
+struct Control {
+    socket: Option<ControlSocket>,
+}
+
+impl Control {
+    /// Makes the socket. Refused where something else stands there, and where the system refuses it.
+    fn at<R: Files + Net>(
+        rt: &R,
+        alloc: Global,
+        offer: &Offer<'_>,
+    ) -> Result<Control, CommandError> {
+        let Some(path) = offer.control else {
+            return Ok(Control { socket: None });
+        };
+        match ControlSocket::at(rt, alloc, path) {
+            Ok(socket) => Ok(Control {
+                socket: Some(socket),
+            }),
+            Err(refused) => Err(control_refusal(refused)),
+        }
+    }
+
+    fn listener(&self) -> Option<&UnixListener> {
+        match &self.socket {
+            Some(socket) => Some(&socket.listener),
+            None => None,
+        }
+    }
+
+    /// Removes the socket, if there is one.
+    fn take_away<R: Files>(&self, rt: &R) {
+        if let Some(socket) = &self.socket {
+            socket.take_away(rt);
+        }
+    }
+}
+
+/// Why there is no control socket, as the command says it.
+fn control_refusal(refused: NoControl) -> CommandError {
+    match refused {
+        NoControl::Foreign => CommandError::ControlForeign,
+        NoControl::Answered => CommandError::ControlAnswered,
+        NoControl::Failed(error) if error.kind() == ErrorKind::OutOfMemory => CommandError::Memory,
+        NoControl::Failed(error) => CommandError::NoControl(error),
+    }
 }
 
 /// The volume that is served.
@@ -163,30 +298,103 @@ struct Entrance<'a> {
     sessions: usize,
     most_from: Option<usize>,
     log: &'a Log,
-    metrics: &'a Option<MetricsFile>,
+    files: &'a OwnFiles,
+    control: Option<&'a UnixListener>,
+    manager: Option<&'a Manager>,
+    pace: Option<&'a Pace>,
 }
 
-/// The file for a monitor. It is made empty, so that a file that can't be written is refused before anybody is served.
-fn metrics_file<R: Files<File = File>>(
-    rt: &R,
-    alloc: Global,
-    path: Option<&str>,
-) -> Result<Option<MetricsFile>, CommandError> {
-    let Some(path) = path else {
-        return Ok(None);
-    };
-    let file = MetricsFile::at(alloc, path)?;
-    match file.put(rt, b"") {
-        Ok(()) => Ok(Some(file)),
-        Err(error) => Err(CommandError::NoMetrics(error)),
+/// The files that a server looks at or writes beside the device of its volume.
+#[derive(Drop)]
+struct OwnFiles {
+    /// The file of the volume.
+    served: ServedFile,
+    /// The file for a monitor, if one is asked for.
+    metrics: Option<MetricsFile>,
+}
+
+impl OwnFiles {
+    /// Looks at the file of the volume, before it is opened, and at what stands where the file for a monitor and the control socket are to be.
+    /// Refused where there is no volume, and where one of those may be something else. Nothing is written.
+    fn at<R: Files<File = File> + Net>(
+        rt: &R,
+        alloc: Global,
+        offer: &Offer<'_>,
+    ) -> Result<OwnFiles, CommandError> {
+        let served = match ServedFile::at(rt, alloc, offer.path) {
+            Ok(served) => served,
+            Err(error) if error.kind() == ErrorKind::OutOfMemory => {
+                return Err(CommandError::Memory);
+            }
+            Err(error) => return Err(CommandError::NoDevice(FileError::of(error.kind()))),
+        };
+        let metrics = match offer.metrics {
+            Some(path) => Some(metrics_file(rt, alloc, path, offer.path)?),
+            None => None,
+        };
+        if let Some(Err(refused)) = offer.control.map(|path| may_be_put(rt, path)) {
+            return Err(control_refusal(refused));
+        }
+        Ok(OwnFiles { served, metrics })
+    }
+
+    /// Makes the file for a monitor empty, so that one that can't be written is refused before anybody is served.
+    fn begin_metrics<R: Files<File = File>>(&self, rt: &R) -> Result<(), CommandError> {
+        let Some(file) = &self.metrics else {
+            return Ok(());
+        };
+        match file.put(rt, b"") {
+            Ok(()) => Ok(()),
+            Err(error) => Err(CommandError::NoMetrics(error)),
+        }
     }
 }
 
-/// Listens on all endpoints. The refusal names the first on which that fails.
+/// The file for a monitor. It is refused if it may be something else.
+fn metrics_file<R: Files<File = File>>(
+    rt: &R,
+    alloc: Global,
+    path: &str,
+    volume: &str,
+) -> Result<MetricsFile, CommandError> {
+    let file = MetricsFile::at(alloc, path)?;
+    match file.may_be_put(rt, volume) {
+        Ok(()) => Ok(file),
+        Err(NoMetrics::Volume) => Err(CommandError::MetricsOverVolume),
+        Err(NoMetrics::Irregular) => Err(CommandError::MetricsIrregular),
+        Err(NoMetrics::Foreign) => Err(CommandError::MetricsForeign),
+    }
+}
+
+/// The listeners of a server.
+#[derive(Drop)]
+struct Listening {
+    direct: Vec<TcpListener>,
+    proxied: Vec<TcpListener>,
+}
+
+impl Listening {
+    /// Listens on all endpoints of an offer, and prints them.
+    fn at<R: Net<Listener = TcpListener, Stream = TcpStream>, A: Write>(
+        rt: &R,
+        alloc: Global,
+        offer: &Offer<'_>,
+        answers: &mut A,
+    ) -> Result<Listening, CommandError> {
+        let direct = listen(rt, alloc, offer.endpoints, offer.sessions)?;
+        let proxied = listen(rt, alloc, offer.proxied, offer.sessions)?;
+        announce(offer, answers)?;
+        Ok(Listening { direct, proxied })
+    }
+}
+
+/// Listens on all endpoints. As many callers as may have sessions can wait to be accepted, where the system allows it. The refusal
+/// names the first endpoint on which that fails.
 fn listen<R: Net<Listener = TcpListener, Stream = TcpStream>>(
     rt: &R,
     alloc: Global,
     endpoints: &[SocketAddr],
+    sessions: usize,
 ) -> Result<Vec<TcpListener>, CommandError> {
     let mut listeners = Vec::with_capacity(alloc, endpoints.len())?;
     for endpoint in endpoints {
@@ -194,6 +402,11 @@ fn listen<R: Net<Listener = TcpListener, Stream = TcpStream>>(
             Ok(listener) => listener,
             Err(error) => return Err(CommandError::NotBound(*endpoint, error)),
         };
+        // `bind` has made room for 128
+        let waiting = i32::try_from(sessions)
+            .unwrap_or(i32::MAX)
+            .max(LEAST_WAITING);
+        let _ = libc::net::listen(listener.as_raw_fd(), waiting);
         if listeners.push(listener).is_err() {
             return Err(CommandError::Memory);
         }
@@ -340,11 +553,16 @@ fn serve_parts<
         newest,
         hooks: &NoHooks,
         limits: Limits::standard(),
-        metrics: entrance.metrics.as_ref(),
+        metrics: entrance.files.metrics.as_ref(),
+        file: Some(&entrance.files.served),
+        control: entrance.control,
+        manager: entrance.manager,
+        pace: entrance.pace,
     };
     match server::serve(rt, alloc, server, lines, answers) {
         Ok(()) => Ok(()),
         Err(ServeError::Fault) => Err(CommandError::Fault),
+        Err(ServeError::Replaced) => Err(CommandError::Failed(Cause::Replaced)),
         Err(ServeError::Memory) => Err(CommandError::Memory),
         Err(ServeError::Halted) => Err(CommandError::Halted),
     }

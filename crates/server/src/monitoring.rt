@@ -1,21 +1,43 @@
 //! What a monitor is told of a running server, in a file that is written again and again.
 
-use crossbeam_channel::{Receiver, RecvTimeoutError};
-use kernel_shared::Kern;
+use disk_file::{are_one, make_anew};
+use kernel_shared::{Kern, halt};
 use server_logging::{Cause, EventCounts, Log, LogEvent};
 use server_metrics::{CommitTimes, Metrics, SessionStates, VolumeCounts, text};
 use server_releasing::{Shared, Writers};
 use server_roster::SessionState;
 use std::alloc::{AllocError, Global};
-use std::fs::{self, File};
-use std::io;
+use std::fs::{self, File, Metadata};
+use std::io::{self, ErrorKind, Read, Write};
+use std::os::unix::fs::MetadataExt;
 use std::rt::Files;
 use std::sync::Wait;
+use std::sync::atomic::{AtomicBool, Ordering};
 use std::time::{Clock, Duration};
 use volume_usage::{Tally, VolumeFacts};
 
-/// The seconds from one writing to the next one.
-const WRITING_SECS: u64 = 15;
+/// The seconds from one look to the next one.
+const LOOK_SECS: u64 = 15;
+
+/// The mode of the file for a monitor, less what the process leaves out of modes.
+const MODE: u32 = 0o666;
+
+/// How a text for a monitor begins.
+const BEGIN: &[u8] = b"# HELP newsd_";
+
+/// The octets of `BEGIN`.
+const BEGIN_OCTETS: usize = 13;
+
+/// Why a file isn't written for a monitor.
+#[derive(Clone, Copy, Debug, Drop, PartialEq, Eq)]
+pub enum NoMetrics {
+    /// It, or the one beside it, is the volume.
+    Volume,
+    /// It is no regular file.
+    Irregular,
+    /// It, or the one beside it, has octets that no server has written there.
+    Foreign,
+}
 
 /// The file that a monitor reads. Another one beside it is written, and renamed, so that the monitor reads a whole text.
 #[derive(Drop)]
@@ -33,14 +55,54 @@ impl MetricsFile {
         })
     }
 
-    /// Puts this text in place of any file there. A refusal leaves that file as it was.
+    /// Whether the file may be written in place of what stands there, and another one beside it, while a volume at this path is served.
+    /// `Volume` if one of the two is the volume, however it is named. `Irregular` if the file is a directory, a device, a pipe or
+    /// something else that isn't a regular file. `Foreign` if one of the two has octets and doesn't begin as a text for a monitor does. What
+    /// else stands beside the file may go: a link there isn't followed. Each refusal leaves all files as they were.
+    pub fn may_be_put<R: Files<File = File>>(&self, rt: &R, volume: &str) -> Result<(), NoMetrics> {
+        let (path, part) = (self.path.as_str(), self.part.as_str());
+        if are_one(rt, path, volume) || are_one(rt, part, volume) {
+            return Err(NoMetrics::Volume);
+        }
+        if matches!(fs::metadata(rt, path), Ok(metadata) if !metadata.is_file()) {
+            return Err(NoMetrics::Irregular);
+        }
+        if is_foreign(rt, path, fs::metadata(rt, path))
+            || is_foreign(rt, part, fs::symlink_metadata(rt, part))
+        {
+            return Err(NoMetrics::Foreign);
+        }
+        Ok(())
+    }
+
+    /// Puts this text in place of any file there. It is written beside that first, into a file that is made anew. A refusal leaves the file
+    /// as it was, and nothing beside it.
     pub fn put<R: Files<File = File>>(&self, rt: &R, text: &[u8]) -> io::Result<()> {
-        fs::write(rt, self.part.as_str(), text)?;
-        let renamed = fs::rename(rt, self.part.as_str(), self.path.as_str());
-        if renamed.is_err() {
+        let put = self.put_anew(rt, text);
+        if put.is_err() {
             let _ = fs::remove_file(rt, self.part.as_str());
         }
-        renamed
+        put
+    }
+
+    fn put_anew<R: Files<File = File>>(&self, rt: &R, text: &[u8]) -> io::Result<()> {
+        let mut part = make_anew(rt, self.part.as_str(), MODE)?;
+        part.write_all(text)?;
+        fs::rename(rt, self.part.as_str(), self.path.as_str())
+    }
+}
+
+/// Whether a regular file stands at this path that isn't empty and doesn't begin as a text for a monitor does.
+fn is_foreign<R: Files<File = File>>(rt: &R, path: &str, seen: io::Result<Metadata>) -> bool {
+    matches!(seen, Ok(metadata) if metadata.is_file() && metadata.len() > 0) && !is_ours(rt, path)
+}
+
+/// Whether a regular file begins as a text for a monitor does.
+fn is_ours<R: Files<File = File>>(rt: &R, path: &str) -> bool {
+    let mut begin = [0; BEGIN_OCTETS];
+    match File::open(rt, path) {
+        Ok(mut file) => file.read_exact(&mut begin).is_ok() && begin.as_slice() == BEGIN,
+        Err(_) => false,
     }
 }
 
@@ -55,7 +117,7 @@ pub(crate) struct Monitor<'a> {
 
 /// What was written last.
 #[derive(Clone, Copy)]
-pub(crate) struct Written {
+struct Written {
     octets_in: u64,
     octets_out: u64,
     /// The last writing failed, and the log has said so.
@@ -64,7 +126,7 @@ pub(crate) struct Written {
 
 impl Written {
     /// Nothing was written yet.
-    pub(crate) fn nothing() -> Written {
+    fn nothing() -> Written {
         Written {
             octets_in: 0,
             octets_out: 0,
@@ -73,24 +135,140 @@ impl Written {
     }
 }
 
-/// Writes the file at once and then every fifteen seconds, until the server ends.
-pub(crate) fn write_all<R: Files<File = File> + Wait + Clock, K: Kern, G>(
-    shared: &Shared<'_, R, K, G>,
-    monitor: Monitor<'_>,
-    ended: &Receiver<()>,
-) {
-    let mut written = Written::nothing();
-    for _ in shared.rt.forever() {
-        write(shared, monitor, &mut written);
-        let waited = ended.recv_timeout(shared.rt, Duration::from_secs(WRITING_SECS));
-        if waited != Err(RecvTimeoutError::Timeout) {
-            return;
+/// The file of a volume, as it was just before it was opened.
+#[derive(Drop)]
+pub struct ServedFile {
+    path: String,
+    device: u64,
+    inode: u64,
+    octets: u64,
+}
+
+impl ServedFile {
+    /// The file at this path. Refused where the system doesn't look there, or memory is refused.
+    pub fn at<R: Files<File = File>>(rt: &R, alloc: Global, path: &str) -> io::Result<ServedFile> {
+        let metadata = fs::metadata(rt, path)?;
+        Ok(ServedFile {
+            path: String::from_str(alloc, path)?,
+            device: metadata.dev(),
+            inode: metadata.ino(),
+            octets: metadata.len(),
+        })
+    }
+
+    /// Whether its path still names it, and it has as many octets as it had. Where the system doesn't tell, nothing is known against it.
+    fn stands<R: Files<File = File>>(&self, rt: &R) -> bool {
+        match fs::metadata(rt, self.path.as_str()) {
+            Ok(there) => {
+                there.dev() == self.device
+                    && there.ino() == self.inode
+                    && there.len() == self.octets
+            }
+            Err(error) => {
+                !matches!(error.kind(), ErrorKind::NotFound | ErrorKind::NotADirectory)
+            }
         }
     }
 }
 
+/// What the watching thread looks at, and when it ends.
+pub(crate) struct Watch<'a> {
+    pub(crate) file: Option<&'a ServedFile>,
+    pub(crate) monitor: Option<Monitor<'a>>,
+    log: &'a Log,
+    /// The path of the volume's file named another one before anything else went wrong.
+    pub(crate) is_replaced: AtomicBool,
+    /// The log has said why the server fails.
+    has_told: AtomicBool,
+    /// All other threads have ended.
+    has_ended: AtomicBool,
+}
+
+impl<'a> Drop for Watch<'a> {
+    fn drop(self) {
+        let Watch {
+            file: _,
+            monitor: _,
+            log: _,
+            is_replaced: _,
+            has_told: _,
+            has_ended: _,
+        } = self;
+    }
+}
+
+impl<'a> Watch<'a> {
+    pub(crate) fn new(
+        file: Option<&'a ServedFile>,
+        monitor: Option<Monitor<'a>>,
+        log: &'a Log,
+    ) -> Watch<'a> {
+        Watch {
+            file,
+            monitor,
+            log,
+            is_replaced: AtomicBool::new(false),
+            has_told: AtomicBool::new(false),
+            has_ended: AtomicBool::new(false),
+        }
+    }
+
+    /// Has the log say why the server fails, unless it has done so.
+    pub(crate) fn tell<R: Wait + Clock>(&self, rt: &R, why: LogEvent) {
+        if !self.has_told.swap(true, Ordering::SeqCst) {
+            self.log.note(rt, why);
+        }
+    }
+
+    /// Has the watching thread look for the last time.
+    pub(crate) fn end<R, K, G>(&self, shared: &Shared<'_, R, K, G>) {
+        self.has_ended.store(true, Ordering::SeqCst);
+        shared.bells.watcher.unpark();
+    }
+
+    /// Looks at once, then every fifteen seconds and when the operator asks how the server is, and for the last time after all other
+    /// threads have ended.
+    pub(crate) fn look_all<R: Files<File = File> + Wait + Clock, K: Kern, G>(
+        &self,
+        shared: &Shared<'_, R, K, G>,
+    ) {
+        let mut written = Written::nothing();
+        for _ in shared.rt.forever() {
+            let is_last = self.has_ended.load(Ordering::SeqCst);
+            self.look_at_file(shared);
+            if let Some(monitor) = self.monitor {
+                write(shared, monitor, &mut written);
+            }
+            if is_last {
+                return;
+            }
+            shared
+                .bells
+                .watcher
+                .park_timeout(shared.rt, Duration::from_secs(LOOK_SECS));
+        }
+    }
+
+    /// Halts the kernel once the path names another file: the next start doesn't find what is written to this one.
+    fn look_at_file<R: Files<File = File> + Wait + Clock, K: Kern, G>(
+        &self,
+        shared: &Shared<'_, R, K, G>,
+    ) {
+        let Some(file) = self.file else {
+            return;
+        };
+        if file.stands(shared.rt) || self.has_told.swap(true, Ordering::SeqCst) {
+            return;
+        }
+        self.is_replaced.store(true, Ordering::SeqCst);
+        self.log.note(shared.rt, LogEvent::Fault(Cause::Replaced));
+        let _ = halt(shared.rt, shared.kern);
+        shared.bells.flush_now();
+    }
+}
+
 /// Writes the file. Of writings that fail one after the other the log tells once.
-pub(crate) fn write<R: Files<File = File> + Wait + Clock, K: Kern, G>(
+fn write<R: Files<File = File> + Wait + Clock, K: Kern, G>(
     shared: &Shared<'_, R, K, G>,
     monitor: Monitor<'_>,
     written: &mut Written,

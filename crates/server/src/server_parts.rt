@@ -3,16 +3,19 @@
 ghost use Rattle.std.specs.Prelude.{◌≡◌};
 ghost use Rattle.journal.specs.Journal.{IsIdle};
 
-use crate::MetricsFile;
+use crate::{MetricsFile, ServedFile};
 use disk::Disk;
 use journal::Journal;
 use model::Moment;
 use server_flusher::{FlushError, TurnSeat};
 use server_logging::Log;
 use server_mark::{Mark, Seat};
+use server_notify::Manager;
+use server_pace::Pace;
 use server_releasing::Limits;
 use std::alloc::AllocError;
 use std::net::TcpListener;
+use std::os::unix::net::UnixListener;
 use text_networks::Network;
 use thiserror::Error;
 use volume_usage::{BitmapMarks, Tally, VolumeFacts};
@@ -48,6 +51,14 @@ pub struct Server<'a, D: Disk, K, H> {
     pub limits: Limits,
     /// The file that is written for a monitor, if there is one.
     pub metrics: Option<&'a MetricsFile>,
+    /// The file of the volume, if the volume is in one that others may replace.
+    pub file: Option<&'a ServedFile>,
+    /// The listener at which the operator is answered, too, if there is one.
+    pub control: Option<&'a UnixListener>,
+    /// The service manager that is told when the server begins to end, if there is one.
+    pub manager: Option<&'a Manager>,
+    /// How many articles are read from one address in a minute, if that is limited.
+    pub pace: Option<&'a Pace>,
     ghost idle: { IsIdle journal },
     ghost flushes: { flush_seat.mark ≡ mark.now },
     ghost looks: { seat.mark ≡ mark.now },
@@ -62,6 +73,9 @@ pub enum ServeError {
     /// Memory, a thread or a descriptor was refused before the start.
     #[error("E2 Memory")]
     Memory,
+    /// The path of the volume's file names another one or none, or the file has another length.
+    #[error("E1 Fault")]
+    Replaced,
     /// The journal or the kernel was halted before.
     #[error("E4 Halted")]
     Halted,

@@ -4,7 +4,7 @@ use crate::threads::Hall;
 use kernel_shared::{Hooks, Kern};
 use server_accepting::Crew;
 use server_answering::SessionThread;
-use server_releasing::ReplyWriter;
+use server_releasing::{Hand, ReplyWriter};
 use std::sync::Wait;
 use std::thread::Scope;
 use std::time::Clock;
@@ -148,7 +148,7 @@ impl<'s, E, R: Wait + Clock + Sync, K: Kern + Sync, H: Hooks + Sync> Staff<'s, E
             return false;
         };
         let session = self.scope.spawn(move || {
-            let thread = SessionThread {
+            let mut thread = SessionThread {
                 shared: hall.shared,
                 writer,
                 moments: hall.moments,
@@ -156,6 +156,8 @@ impl<'s, E, R: Wait + Clock + Sync, K: Kern + Sync, H: Hooks + Sync> Staff<'s, E
                 doors: hall.doors,
                 partings: &hall.channels.parting,
                 verdicts: hall.verdicts,
+                pace: hall.pace,
+                hand: Hand::new(),
             };
             thread.serve_calls(&hall.channels.calls)
         });

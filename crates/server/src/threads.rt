@@ -3,7 +3,7 @@
 ghost use Rattle.std.specs.Prelude.{◌≡◌};
 ghost use Rattle.journal.specs.Journal.{IsIdle};
 
-use crate::monitoring::{Monitor, Written, write, write_all};
+use crate::monitoring::{Monitor, Watch};
 use crate::staff::{Recruiter, Staff, Started, Wanted};
 use crate::{ServeError, Server};
 use crossbeam_channel::{Receiver, Sender, bounded};
@@ -16,13 +16,17 @@ use server_flusher::{FlushError, Flusher, FlusherEnd, flush_all};
 use server_logging::{Cause, Log, LogEvent, Moments};
 use server_mark::{Mark, Seat};
 use server_metrics::LongestTime;
+use server_notify::{Manager, Notice};
 use server_operator::Operator;
+use server_pace::Pace;
 use server_releasing::{Shared, Writers, release_all};
 use std::alloc::{AllocError, Global};
 use std::fs::File;
 use std::io::{BufRead, Write};
 use std::net::{Net, TcpListener, TcpStream};
+use std::os::unix::net::UnixListener;
 use std::rt::Files;
+use std::sync::atomic::Ordering;
 use std::sync::{Mutex, Wait};
 use std::thread::{self, JoinHandle, Scope, Threads};
 use std::time::{Clock, Duration, Instant};
@@ -39,6 +43,8 @@ const LAST_CALL_SECS: u64 = 5;
 /// flusher is refused. Then callers get the reply that the service ends, what is durable is released, all threads end,
 /// and the result says why: `Ok` after a stop. After a refusal the server ends with the next caller that is let in, once
 /// the operator asks for it, or after some seconds; a stop that the operator asked for before waits for no caller either.
+/// `Replaced` if the path of the volume's file names another one or none, or the file has another length, which is looked for at the
+/// start, every fifteen seconds, at each line `status` and at the end; nothing is acknowledged from then on.
 pub fn serve<
     R: Files<File = File>
         + Net<Listener = TcpListener, Stream = TcpStream>
@@ -81,6 +87,10 @@ pub fn serve<
         hooks,
         limits,
         metrics,
+        file,
+        control,
+        manager,
+        pace,
     } = server;
     let guests = Guests::new(alloc, sessions, most_from)?;
     let doors = Doors::new(alloc, listeners, proxied, networks, guests).ok_or(ServeError::Memory)?;
@@ -90,6 +100,7 @@ pub fn serve<
         channels,
         caller,
     } = Parts::make(rt, alloc, sessions, lines, answers)?;
+    attend(rt, alloc, control, &channels.operator)?;
     let moments = Moments::new(newest);
     let longest = LongestTime::new();
     let shared = Shared {
@@ -131,6 +142,7 @@ pub fn serve<
         }),
         None => None,
     };
+    let watch = Watch::new(file, monitor, log);
     let started = Mutex::new(Started::none());
     let recruiting = Mutex::new(());
     let hall = Hall {
@@ -142,11 +154,13 @@ pub fn serve<
         doors: &doors,
         verdicts,
         log,
-        monitor,
+        watch: &watch,
+        manager,
+        pace,
     };
     let outcome = run_and_watch(&hall, flusher, looker, caller);
-    if let Some(monitor) = monitor {
-        write(&shared, monitor, &mut Written::nothing());
+    if watch.is_replaced.load(Ordering::SeqCst) {
+        return Err(ServeError::Replaced);
     }
     outcome
 }
@@ -167,9 +181,6 @@ pub(crate) struct Channels {
     pub(crate) parting: Sender<Parting>,
     partings: Receiver<Parting>,
     operator: Operator,
-    /// It is sent to once the monitor is to be told no more.
-    unwatched: Sender<()>,
-    watched: Receiver<()>,
     /// How many sessions are to have threads, and whether they have.
     pub(crate) wanted: Sender<Wanted>,
     pub(crate) asked: Receiver<Wanted>,
@@ -185,7 +196,6 @@ impl Channels {
         operator: Operator,
     ) -> Result<Channels, AllocError> {
         let (parting, partings) = bounded(alloc, FAREWELLS)?;
-        let (unwatched, watched) = bounded(alloc, 1)?;
         let (wanted, asked) = bounded(alloc, 1)?;
         let (staffed, told) = bounded(alloc, 1)?;
         Ok(Channels {
@@ -193,8 +203,6 @@ impl Channels {
             parting,
             partings,
             operator,
-            unwatched,
-            watched,
             wanted,
             asked,
             staffed,
@@ -215,7 +223,9 @@ pub(crate) struct Hall<'a, R, K, H> {
     pub(crate) doors: &'a Doors<'a>,
     pub(crate) verdicts: Verdicts<'a>,
     pub(crate) log: &'a Log,
-    pub(crate) monitor: Option<Monitor<'a>>,
+    pub(crate) watch: &'a Watch<'a>,
+    pub(crate) manager: Option<&'a Manager>,
+    pub(crate) pace: Option<&'a Pace>,
 }
 
 impl<'a, R, K, H> Drop for Hall<'a, R, K, H> {
@@ -229,7 +239,9 @@ impl<'a, R, K, H> Drop for Hall<'a, R, K, H> {
             doors: _,
             verdicts: _,
             log: _,
-            monitor: _,
+            watch: _,
+            manager: _,
+            pace: _,
         } = self;
     }
 }
@@ -265,8 +277,25 @@ impl Parts {
     }
 }
 
-/// Runs all threads except the two that wait for the operator. If a monitor is told of the server, the calling thread writes
-/// for it meanwhile: of all threads it alone may make files.
+/// Starts the threads of a control socket, if there is one. `Memory` if one can't be started.
+fn attend<R: Threads + Wait + Clock + Copy + Send + 'static>(
+    rt: &R,
+    alloc: Global,
+    control: Option<&UnixListener>,
+    operator: &Operator,
+) -> Result<(), ServeError> {
+    let Some(listener) = control else {
+        return Ok(());
+    };
+    let console = operator.console()?;
+    match server_control::start(rt, alloc, listener, console) {
+        Ok(()) => Ok(()),
+        Err(_) => Err(ServeError::Memory),
+    }
+}
+
+/// Runs all threads except the two that wait for the operator. If there is something to watch, the calling thread does that
+/// meanwhile: of all threads it alone may look at files and make them.
 fn run_and_watch<
     'a,
     R: Files<File = File>
@@ -284,18 +313,19 @@ fn run_and_watch<
     looker: Looker<'a>,
     caller: Sender<Caller>,
 ) -> Result<(), ServeError> {
-    let Some(monitor) = hall.monitor else {
+    let watch = hall.watch;
+    if watch.file.is_none() && watch.monitor.is_none() {
         return run(hall, flusher, looker, caller);
-    };
+    }
     let rt = hall.shared.rt;
     let (outcome, ()) = thread::join(
         rt,
         move || {
             let outcome = run(hall, flusher, looker, caller);
-            let _ = hall.channels.unwatched.try_send(rt, ());
+            watch.end(hall.shared);
             outcome
         },
-        || write_all(hall.shared, monitor, &hall.channels.watched),
+        || watch.look_all(hall.shared),
     );
     outcome
 }
@@ -334,6 +364,9 @@ fn run<
                 give_up(hall.shared, flusher);
                 Err(ServeError::Memory)
             };
+            if let Some(manager) = hall.manager {
+                let _ = manager.tell(Notice::Stopping);
+            }
             wake(hall.shared);
             if matches!(outcome, Err(ServeError::Fault | ServeError::Halted)) {
                 wait_for_caller_or_stop(hall);
@@ -458,7 +491,7 @@ fn flush<R: Wait + Clock, D: Disk + Drop, K: Kern, H: Hooks>(
     match end {
         FlusherEnd::Stopped => Ok(()),
         FlusherEnd::Failed(error) => {
-            hall.log.note(*rt, event_of(error, tally));
+            hall.watch.tell(*rt, event_of(error, tally));
             Err(ServeError::from(error))
         }
     }
@@ -483,11 +516,17 @@ fn give_up<R: Wait, D: Disk + Drop, K: Kern, H>(
 }
 
 /// Wakes the threads that wait for the flusher. The acceptors and the operator's thread go on: they refuse what comes.
-fn wake<R, K, H>(shared: &Shared<'_, R, K, H>) {
-    let Shared { bells, .. } = shared;
+fn wake<R: Wait, K, H>(shared: &Shared<'_, R, K, H>) {
+    let Shared {
+        rt,
+        bells,
+        writers,
+        ..
+    } = shared;
     bells.operator.unpark();
     bells.releaser.unpark();
     bells.later.ring();
+    writers.open_places(*rt);
 }
 
 /// Waits until a caller was told that the service ends, or the operator has asked for the server's end, for

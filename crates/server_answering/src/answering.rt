@@ -15,10 +15,11 @@ use server_attending::Verdicts;
 use server_logging::{
     BegunSession, CountedMessage, EndedSession, Ending, Log, LogEvent, Moments, SessionCounts,
 };
-use server_releasing::{Cut, Delivery, ReplyWriter, Shared};
+use server_pace::Pace;
+use server_releasing::{Cut, Delivery, Hand, ReplyWriter, Shared, Unanswered};
 use server_roster::Guest;
 use std::alloc::{AllocError, Global};
-use std::net::{SocketAddr, TcpStream};
+use std::net::{IpAddr, SocketAddr, TcpStream};
 use std::sync::{Arc, Wait};
 use std::time::Clock;
 use text_framing::Reader;
@@ -35,6 +36,10 @@ pub struct SessionThread<'a, 'b, R, K, H> {
     pub doors: &'b Doors<'a>,
     pub partings: &'b Sender<Parting>,
     pub verdicts: Verdicts<'b>,
+    /// How many articles are read from one address in a minute, if that is limited.
+    pub pace: Option<&'b Pace>,
+    /// The thread's own.
+    pub hand: Hand,
 }
 
 impl<'a, 'b, R, K, H> Drop for SessionThread<'a, 'b, R, K, H> {
@@ -47,13 +52,15 @@ impl<'a, 'b, R, K, H> Drop for SessionThread<'a, 'b, R, K, H> {
             doors: _,
             partings: _,
             verdicts: _,
+            pace: _,
+            hand: _,
         } = self;
     }
 }
 
 impl<'a, 'b, R: Wait + Clock, K: Kern, H: Hooks> SessionThread<'a, 'b, R, K, H> {
     /// Serves one caller after another, until no more come.
-    pub fn serve_calls(&self, calls: &Receiver<Caller>) {
+    pub fn serve_calls(&mut self, calls: &Receiver<Caller>) {
         for _ in self.shared.rt.forever() {
             let Ok(call) = calls.recv(self.shared.rt) else {
                 return;
@@ -69,7 +76,7 @@ impl<'a, 'b, R: Wait + Clock, K: Kern, H: Hooks> SessionThread<'a, 'b, R, K, H> 
 
     /// Serves a caller to its end, and notes that end. If memory for serving is refused, the session ends without a
     /// reply.
-    fn serve_call(&self, call: Caller) {
+    fn serve_call(&mut self, call: Caller) {
         let Shared { rt, kern, .. } = self.shared;
         let Caller {
             sid,
@@ -85,11 +92,11 @@ impl<'a, 'b, R: Wait + Clock, K: Kern, H: Hooks> SessionThread<'a, 'b, R, K, H> 
             return;
         };
         self.begin(sid, peer, writing, ending);
-        let stop = self.serve_messages(sid, &stream, &mut counts);
+        let stop = self.serve_messages(sid, peer.ip(), &stream, &mut counts);
         if may_release(stop) {
-            self.writer.finish(self.shared);
+            self.writer.finish(self.shared, &mut self.hand);
         }
-        let sent = self.writer.end(*rt, *kern);
+        let sent = self.writer.end(self.shared, &mut self.hand);
         let told = self.told(&counts, stop, sent);
         self.note_end(sid, peer, told, self.ending(stop, sent.cut));
         if matches!(stop, Ending::Quit | Ending::Stopped) && sent.cut.is_none() {
@@ -110,14 +117,14 @@ impl<'a, 'b, R: Wait + Clock, K: Kern, H: Hooks> SessionThread<'a, 'b, R, K, H> 
 
     /// What the log tells of a session that was served so much and ended so. Where all that it held was released, all that it was
     /// told is durable.
-    fn told(&self, counts: &Counted, stop: Ending, sent: Delivery) -> SessionCounts {
+    fn told(&mut self, counts: &Counted, stop: Ending, sent: Delivery) -> SessionCounts {
         let is_released = may_release(stop)
             && sent.cut.is_none()
             && !self.shared.closing.has_begun();
         let mut told = if is_released {
             counts.all
         } else {
-            counts.durable(self.shared)
+            counts.durable(self.shared, &mut self.hand)
         };
         told.octets_out = sent.octets;
         told
@@ -131,13 +138,14 @@ impl<'a, 'b, R: Wait + Clock, K: Kern, H: Hooks> SessionThread<'a, 'b, R, K, H> 
             Some(Cut::Dropped) => Ending::Dropped,
             Some(_) if self.shared.closing.has_begun() => Ending::Stopped,
             Some(Cut::Stalled) => Ending::Stalled,
+            Some(Cut::Slow) => Ending::Slow,
             Some(Cut::Failed) => Ending::Failed,
         }
     }
 
     /// Begins a session. Both handles are of its caller's socket.
     fn begin(
-        &self,
+        &mut self,
         session: u64,
         peer: SocketAddr,
         writing: Arc<TcpStream, Global>,
@@ -152,7 +160,7 @@ impl<'a, 'b, R: Wait + Clock, K: Kern, H: Hooks> SessionThread<'a, 'b, R, K, H> 
             since: self.moments.now(rt, self.log),
             socket,
         };
-        self.writer.begin(rt, guest, writing);
+        self.writer.begin(rt, &mut self.hand, guest, writing);
     }
 
     fn note_end(&self, session: u64, peer: SocketAddr, counts: SessionCounts, why: Ending) {
@@ -166,7 +174,13 @@ impl<'a, 'b, R: Wait + Clock, K: Kern, H: Hooks> SessionThread<'a, 'b, R, K, H> 
     }
 
     /// Has a caller's messages answered, counts them, and answers why there are no more.
-    fn serve_messages(&self, sid: u64, stream: &TcpStream, counts: &mut Counted) -> Ending {
+    fn serve_messages(
+        &mut self,
+        sid: u64,
+        caller: IpAddr,
+        stream: &TcpStream,
+        counts: &mut Counted,
+    ) -> Ending {
         let Shared {
             rt,
             alloc,
@@ -177,11 +191,12 @@ impl<'a, 'b, R: Wait + Clock, K: Kern, H: Hooks> SessionThread<'a, 'b, R, K, H> 
         let mut incoming = Incoming::new(*rt, stream, self.shared.limits);
         let mut reader = Reader::new(*alloc);
         let mut awaited = Awaited::at_start(sid, kern.mode(*rt, sid));
-        self.writer.release(self.shared);
+        self.writer.release(self.shared, &mut self.hand);
         'messages: for _ in rt.forever() {
             let Some(mode) = awaited.mode else {
                 return Ending::Quit;
             };
+            self.keep_pace(mode, caller);
             let next = self.next_message(&mut reader, mode, &mut incoming, &mut piece);
             counts.all.octets_in = incoming.octets();
             let settled = self.settle_left(awaited, counts);
@@ -203,7 +218,7 @@ impl<'a, 'b, R: Wait + Clock, K: Kern, H: Hooks> SessionThread<'a, 'b, R, K, H> 
     /// The next whole message of a stream, or why there is none: `Closed` only at its end. Sends pending replies before
     /// the first read; none can appear while it waits.
     fn next_message<S: Socket>(
-        &self,
+        &mut self,
         reader: &mut Reader,
         mode: Mode,
         incoming: &mut Incoming<S>,
@@ -224,7 +239,7 @@ impl<'a, 'b, R: Wait + Clock, K: Kern, H: Hooks> SessionThread<'a, 'b, R, K, H> 
                 Err(_) => return Err(Ending::Memory),
             }
             if !is_sent {
-                self.writer.send(self.shared);
+                self.writer.send(self.shared, &mut self.hand);
                 incoming.await_message(reader.held());
                 is_sent = true;
             }
@@ -246,7 +261,7 @@ impl<'a, 'b, R: Wait + Clock, K: Kern, H: Hooks> SessionThread<'a, 'b, R, K, H> 
     }
 
     /// Whether nothing more is read from callers.
-    fn is_ending(&self) -> bool {
+    pub(crate) fn is_ending(&self) -> bool {
         self.shared.closing.has_begun() || self.shared.bells.is_stopping()
     }
 
@@ -260,17 +275,21 @@ impl<'a, 'b, R: Wait + Clock, K: Kern, H: Hooks> SessionThread<'a, 'b, R, K, H> 
     }
 
     /// Has a message answered, and tries again after each refusal that asks for that. Otherwise answers why the session ends.
-    pub(crate) fn have_answered(&self, message: &Message) -> Result<ExecOutcome, Ending> {
+    pub(crate) fn have_answered(&mut self, message: &Message) -> Result<ExecOutcome, Ending> {
         let Shared { rt, bells, .. } = self.shared;
         for _ in rt.forever() {
             let noted = bells.later.count();
             let moment = self.moments.now(*rt, self.log);
-            match self.writer.answer(self.shared, message, moment) {
+            let answered = self
+                .writer
+                .answer(self.shared, &mut self.hand, message, moment);
+            match answered {
                 Ok(answered) => {
                     note(bells, message, answered.next);
                     return Ok(answered);
                 }
-                Err(error) => {
+                Err(Unanswered::NoPlace) => self.await_place()?,
+                Err(Unanswered::Refused(error)) => {
                     if let Err(error) = self.put_off(error, noted) {
                         return Err(ending_of(error));
                     }
@@ -280,10 +299,24 @@ impl<'a, 'b, R: Wait + Clock, K: Kern, H: Hooks> SessionThread<'a, 'b, R, K, H> 
         unreachable!()
     }
 
+    /// Waits until the session has a place for a large reply. Otherwise answers why it ends.
+    fn await_place(&mut self) -> Result<(), Ending> {
+        let Shared { bells, closing, .. } = self.shared;
+        bells.flush_now();
+        if self.writer.wait_for_place(self.shared, &mut self.hand) {
+            return Ok(());
+        }
+        Err(if closing.has_begun() {
+            Ending::Stopped
+        } else {
+            Ending::Failed
+        })
+    }
+
     /// Waits until a message may be tried again. If too many blocks are dirty, that is after a batch was taken since
     /// the noted count; if too many octets of the session are held, after some of them were released. Other refusals
     /// are returned.
-    fn put_off(&self, error: ExecError, noted: u64) -> Result<(), ExecError> {
+    fn put_off(&mut self, error: ExecError, noted: u64) -> Result<(), ExecError> {
         let Shared {
             rt,
             bells,
@@ -294,14 +327,14 @@ impl<'a, 'b, R: Wait + Clock, K: Kern, H: Hooks> SessionThread<'a, 'b, R, K, H> 
             return Err(error);
         }
         bells.flush_now();
-        let released = self.writer.release(self.shared);
+        let released = self.writer.release(self.shared, &mut self.hand);
         if closing.has_begun() {
             return Err(error);
         }
         if matches!(error, ExecError::LaterDirty) {
-            bells.later.wait_past(*rt, noted);
+            bells.later.wait_past(*rt, &mut self.hand, noted);
         } else if !released.has_taken && released.is_held {
-            self.writer.wait_for_release(*rt);
+            self.writer.wait_for_release(*rt, &mut self.hand);
         }
         Ok(())
     }

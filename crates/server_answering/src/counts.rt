@@ -1,6 +1,6 @@
 //! What a session was served, as the log tells it: of the posts and transfers that were taken only those that no crash undoes.
 
-use kernel_shared::{ExecOutcome, Hooks, Kern};
+use kernel_shared::{ExecOutcome, Hand, Hooks, Kern};
 use model::Mode;
 use server_attending::await_durable;
 use server_logging::{CountedMessage, SessionCounts};
@@ -37,9 +37,10 @@ impl Counted {
     pub(crate) fn durable<R: Wait + Clock, K: Kern, H: Hooks>(
         &self,
         shared: &Shared<'_, R, K, H>,
+        hand: &mut Hand,
     ) -> SessionCounts {
         let mut told = self.all;
-        if self.durable < told.taken && !await_durable(shared) {
+        if self.durable < told.taken && !await_durable(shared, hand) {
             told.taken = self.durable;
         }
         told

@@ -45,7 +45,7 @@ impl<'a, 'b, R: Wait + Clock, K: Kern, H: Hooks> SessionThread<'a, 'b, R, K, H> 
     /// Has a message answered, or leaves it if it is a block with which the caller waits for its replies. What came of the
     /// block before it is known. Otherwise says why the session ends.
     pub(crate) fn serve_next(
-        &self,
+        &mut self,
         settled: Result<Awaited, Ending>,
         message: Message,
         is_last: bool,
@@ -69,7 +69,7 @@ impl<'a, 'b, R: Wait + Clock, K: Kern, H: Hooks> SessionThread<'a, 'b, R, K, H> 
 
     /// Has a message answered.
     fn serve_message(
-        &self,
+        &mut self,
         settled: Awaited,
         message: Message,
         counts: &mut Counted,
@@ -88,7 +88,7 @@ impl<'a, 'b, R: Wait + Clock, K: Kern, H: Hooks> SessionThread<'a, 'b, R, K, H> 
     }
 
     /// Has a post or a transfer answered that is awaited, and tells the log of it.
-    fn have_judged(&self, message: &Message, awaited: Awaited) -> Result<ExecOutcome, Ending> {
+    fn have_judged(&mut self, message: &Message, awaited: Awaited) -> Result<ExecOutcome, Ending> {
         let Awaited { session, asked, .. } = awaited;
         let offered = Offered {
             session,
@@ -108,11 +108,15 @@ impl<'a, 'b, R: Wait + Clock, K: Kern, H: Hooks> SessionThread<'a, 'b, R, K, H> 
     }
 
     /// Leaves a block, unless the session holds an output or has something to write. The block is given back then.
-    fn leave(&self, block: Message, settled: Awaited) -> Result<Awaited, Message> {
+    fn leave(&mut self, block: Message, settled: Awaited) -> Result<Awaited, Message> {
         let moment = self.moments.now(self.shared.rt, self.log);
-        let untold = self
-            .writer
-            .leave(self.shared.rt, block, settled.asked, moment)?;
+        let untold = self.writer.leave(
+            self.shared.rt,
+            &mut self.hand,
+            block,
+            settled.asked,
+            moment,
+        )?;
         untold.tell(self.shared.bells);
         Ok(Awaited {
             mode: Some(Mode::Line),
@@ -124,14 +128,14 @@ impl<'a, 'b, R: Wait + Clock, K: Kern, H: Hooks> SessionThread<'a, 'b, R, K, H> 
     /// Asks what became of the block that was left, if one was, and has it answered if nothing did. It is called before
     /// anything else of the session is answered, and before the session ends.
     pub(crate) fn settle_left(
-        &self,
+        &mut self,
         awaited: Awaited,
         counts: &mut Counted,
     ) -> Result<Awaited, Ending> {
         if !awaited.has_left {
             return Ok(awaited);
         }
-        let answered = match self.writer.take_back(self.shared.rt) {
+        let answered = match self.writer.take_back(self.shared.rt, &mut self.hand) {
             None => return Err(Ending::Failed),
             Some(TakenBack::Block(block)) => self.have_judged(&block, awaited)?,
             Some(TakenBack::Filed(Ok(answered))) => answered,

@@ -7,5 +7,6 @@ mod caller_reading;
 mod counts;
 mod http;
 mod leaving;
+mod pacing;
 
 pub use answering::SessionThread;

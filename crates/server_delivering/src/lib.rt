@@ -3,6 +3,8 @@
 
 mod limits;
 mod socket_writing;
+mod taking;
 
 pub use limits::Limits;
-pub use socket_writing::{Written, deliver, give_short_writes};
+pub use socket_writing::{Written, deliver, deliver_at_once, give_short_writes};
+pub use taking::Taking;

@@ -26,6 +26,10 @@ const PACE: u64 = 100;
 /// least as much.
 const STALL_SECS: u64 = 180;
 
+/// A caller that has a place for a large reply, or asks for one, has to take as many octets a second while the server waits for it. It is
+/// judged each time that the server has waited for it for `STALL_SECS`.
+pub(crate) const TAKING_PACE: u64 = 100;
+
 /// A caller whose session is closed is read from for this many seconds.
 const LINGER_SECS: u64 = 1;
 
@@ -38,7 +42,8 @@ pub struct Limits {
     pub silence: Duration,
     /// For a whole message, from its first octet on. `left` gives a block more.
     pub message: Duration,
-    /// For its socket to take any octet of what is written.
+    /// For its socket to take any octet of what is written. A caller that has a place for a large reply is judged each time by what it
+    /// took in so long.
     pub stall: Duration,
     /// For the end of its socket, after its session was closed.
     pub linger: Duration,

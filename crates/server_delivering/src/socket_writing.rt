@@ -1,13 +1,14 @@
 //! Octets that are written to a socket in as many pieces as it takes.
 
-ghost use Rattle.std.specs.Prelude.{◌≡◌, ◌≤◌, length, take};
+ghost use Rattle.std.specs.Prelude.{◌≡◌, ◌≢◌, ◌≤◌, length, take};
 ghost use Rattle.std.specs.Io.KnownBytes.{Appends};
 ghost use Rattle.server_delivering.specs.Delivery.{Wrote};
 
+use crate::Taking;
 use std::io::{self, ErrorKind, Write};
 use std::net::TcpStream;
 use std::sync::Wait;
-use std::time::Duration;
+use std::time::{Clock, Duration};
 
 /// A write that may not wait gets this many milliseconds, the fewest that the system allows. A socket that does not
 /// block at all would not block its reads either.
@@ -26,6 +27,8 @@ pub enum Written {
     Part,
     /// The socket took nothing for the time that it had.
     Stalled,
+    /// In this time it took too little, of a caller that has to keep a pace.
+    Slow,
     /// The socket failed.
     Failed,
 }
@@ -36,47 +39,64 @@ pub fn give_short_writes(stream: &TcpStream) -> io::Result<()> {
 }
 
 /// Writes the octets from the place `written` on to a socket whose writes hardly wait, and advances that place. What the socket
-/// does not take in one call is left, so that a caller who takes an octet at a time holds nobody. With a time `stall` it is written
-/// until the socket has taken nothing for so long.
-pub fn deliver<R: Wait>(
+/// does not take in one call is left, so that a caller who takes an octet at a time holds nobody.
+pub fn deliver_at_once<R: Wait>(
     rt: &R,
     stream: &TcpStream,
     octets: &[u8],
     written: &mut usize,
-    stall: Option<Duration>,
 ) -> Written {
     let mut socket = stream;
-    let Some(stall) = stall else {
-        return write_piece(rt, &mut socket, octets, written);
-    };
+    write_piece(rt, &mut socket, octets, written)
+}
+
+/// Writes the octets from the place `written` on to a socket whose writes hardly wait, and advances that place, until the socket has
+/// taken nothing for the time of `taking`, or in such a time fewer octets than its caller has to take.
+pub fn deliver<R: Wait + Clock>(
+    rt: &R,
+    stream: &TcpStream,
+    octets: &[u8],
+    written: &mut usize,
+    taking: &mut Taking,
+) -> Written {
+    let mut socket = stream;
+    let before = *written;
     let at_once = write_on(rt, &mut socket, octets, written);
     if at_once != Written::Part {
+        taking.end();
         return at_once;
     }
-    if stream.set_write_timeout(Some(stall / WAITS)).is_err() {
+    if stream
+        .set_write_timeout(Some(taking.wait() / WAITS))
+        .is_err()
+    {
         return Written::Failed;
     }
-    match write_patiently(rt, &mut socket, octets, written) {
-        Written::All if give_short_writes(stream).is_ok() => Written::All,
-        Written::Part => Written::Stalled,
-        _ => Written::Failed,
+    taking.took(written.saturating_sub(before));
+    taking.begin(rt);
+    match write_patiently(rt, &mut socket, octets, written, taking) {
+        Written::All if give_short_writes(stream).is_err() => Written::Failed,
+        written => written,
     }
 }
 
 /// Writes the octets from the place `written` on, and advances that place, until the writer took none in all waits of a
-/// limit.
-fn write_patiently<R: Wait, W: Write>(
+/// limit, or fewer in this time than its caller has to take. It never answers `Part`.
+fn write_patiently<R: Wait + Clock, W: Write>(
     rt: &R,
     stream: &mut W,
     octets: &[u8],
     written: &mut usize,
+    taking: &mut Taking,
 ) -> Written
-    ensures { Wrote octets.now written.old written.new (W.contents stream.old) (W.contents stream.new) }
+    ensures wrote { Wrote octets.now written.old written.new (W.contents stream.old) (W.contents stream.new) }
+    ensures ends { result ≢ Written.Part }
 {
     let mut idle: u32 = 0;
     'waits: for _ in rt.forever() {
         let before = *written;
         let step = write_on(rt, stream, octets, written);
+        taking.took(written.saturating_sub(before));
         if step != Written::Part {
             return step;
         }
@@ -86,7 +106,10 @@ fn write_patiently<R: Wait, W: Write>(
             1
         };
         if idle >= WAITS {
-            return Written::Part;
+            return Written::Stalled;
+        }
+        if taking.is_too_slow(rt) {
+            return Written::Slow;
         }
     }
     unreachable!()

@@ -21,6 +21,8 @@ pub enum Ending {
     Silent,
     /// The caller took none of its replies for too long.
     Stalled,
+    /// The caller took too few octets of its replies, while its session had a place for a large reply, or asked for one.
+    Slow,
     /// The socket failed.
     Failed,
     /// The caller speaks HTTP.
@@ -42,6 +44,7 @@ impl Display for Ending {
             Ending::Closed => "closed",
             Ending::Silent => "silent",
             Ending::Stalled => "stalled",
+            Ending::Slow => "slow",
             Ending::Failed => "failed",
             Ending::Http => "http",
             Ending::Memory => "memory",

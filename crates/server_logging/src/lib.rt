@@ -4,6 +4,7 @@
 
 mod clock;
 mod log_writer;
+mod output;
 mod refused_callers;
 mod waiting;
 

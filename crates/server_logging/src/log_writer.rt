@@ -3,14 +3,16 @@
 //! That thread may wait forever for the reader of the log, so it is not joined. No other thread waits for it: a line
 //! that finds no room is counted, as is one that cannot be written, and the count is written before the next line.
 //!
-//! Refused callers are summed up by address and cause, for a second. Posts that were taken wait until they are durable.
+//! Lines that are there are written in one write. Refused callers are summed up by address and cause, for a second. Posts that were
+//! taken wait until they are durable, and the thread is woken for all that a batch makes so.
 //!
-//! Events that come once have a channel of their own, so that no caller can take the room of their lines. The thread
-//! waits for the other channel alone, and is woken through it.
+//! Events that come once have a channel of their own, so that no caller can take the room of their lines. One whose line cannot be
+//! written is kept until it can. The thread waits for the other channel alone, and is woken through it.
 
+use crate::output::{Lines, Output};
 use crate::refused_callers::Refusals;
 use crate::waiting::{Durable, Waiting, WaitingPost};
-use crate::{LogEntry, LogEvent, SessionRefusal, TakenPost, beginning_of_1970, line, moment};
+use crate::{LogEntry, LogEvent, SessionRefusal, TakenPost, beginning_of_1970, moment};
 use crossbeam_channel::{Receiver, RecvTimeoutError, Sender, bounded};
 use model::Moment;
 use server_metrics::EventCounts;
@@ -30,8 +32,14 @@ const LINES: usize = 1024;
 /// or `halted`.
 const LINES_ONCE: usize = 8;
 
+/// The most lines that are written at once.
+const LINES_TOGETHER: u32 = 256;
+
 /// Refused callers are counted for so many seconds before the log tells of them.
 const COUNTING_SECS: u64 = 1;
+
+/// After so many seconds an event that comes once is tried again, where its line could not be written and no other came.
+const TRYING_SECS: u64 = 10;
 
 /// At the end the reader of the log has this many seconds to take the lines that are due.
 const ENDING_SECS: u64 = 1;
@@ -66,6 +74,8 @@ struct Untold {
     /// The lines that found no room or could not be written.
     lost: Arc<AtomicU64, Global>,
     durable: Arc<Durable, Global>,
+    /// Posts that were taken, until the thread that writes keeps them.
+    taken: Arc<Mutex<Waiting>, Global>,
 }
 
 impl Untold {
@@ -74,6 +84,7 @@ impl Untold {
             refused: Arc::new(alloc, Mutex::new(Refusals::new(alloc)?))?,
             lost: Arc::new(alloc, AtomicU64::new(0))?,
             durable: Arc::new(alloc, Durable::new())?,
+            taken: Arc::new(alloc, Mutex::new(Waiting::new(alloc)))?,
         })
     }
 
@@ -83,6 +94,7 @@ impl Untold {
             refused: Arc::try_clone(&self.refused)?,
             lost: Arc::try_clone(&self.lost)?,
             durable: Arc::try_clone(&self.durable)?,
+            taken: Arc::try_clone(&self.taken)?,
         })
     }
 }
@@ -92,8 +104,6 @@ impl Untold {
 enum Due {
     /// A line to be written.
     Line(LogEntry),
-    /// A post that was taken. Its line waits until it is durable.
-    Post(WaitingPost),
     /// An event that comes once, in the channel of those.
     Once,
     /// The first of the refused callers that are counted.
@@ -124,6 +134,7 @@ impl Log {
             refused: Refusals::new(alloc)?,
             due_at: None,
             posts: Waiting::new(alloc),
+            once: Vec::with_capacity(alloc, LINES_ONCE)?,
         };
         let own = *rt;
         let _writer = thread::spawn(rt, move || writing.write_all(&own, faults, telling))?;
@@ -205,9 +216,19 @@ impl Log {
             return;
         }
         let moment = moment(rt).unwrap_or(beginning_of_1970());
-        let due = Due::Post(WaitingPost { moment, post });
-        if self.due.try_send(rt, due).is_err() {
+        let serial = post.serial;
+        let is_kept = self
+            .untold
+            .taken
+            .lock(rt)
+            .push(WaitingPost { moment, post });
+        if !is_kept {
             self.note_lost();
+            return;
+        }
+        // one that is durable already waits for no commit
+        if self.untold.durable.await_more(serial) {
+            self.wake(rt);
         }
     }
 
@@ -220,8 +241,17 @@ impl Log {
     /// for posts that wait after each line.
     pub fn note_durable<R: Wait>(&self, rt: &R, changes: u64) {
         if self.untold.durable.note(changes) {
-            let _ = self.due.try_send(rt, Due::Durable);
+            self.wake(rt);
         }
+    }
+
+    /// Has the thread that writes look for posts that are durable, unless it was woken for that and has not looked since.
+    fn wake<R: Wait>(&self, rt: &R) {
+        if self.untold.durable.is_woken_already() {
+            return;
+        }
+        // where there is no room, it is awake, and looks once it has written what is there
+        let _ = self.due.try_send(rt, Due::Durable);
     }
 
     /// Notes a caller that got no session, now. A second after the first one there is a line for each address and cause.
@@ -278,14 +308,6 @@ fn entry(moment: Option<Moment>, event: LogEvent) -> LogEntry {
     }
 }
 
-/// What the lines are written to.
-#[derive(Drop)]
-struct Output<F> {
-    faults: F,
-    /// Its last line has no LF, because the rest of it could not be written.
-    is_cut: bool,
-}
-
 /// The refused callers that the log tells of next, and the posts.
 #[derive(Drop)]
 struct Telling {
@@ -294,45 +316,72 @@ struct Telling {
     /// When they are due. `None` if none are counted.
     due_at: Option<Instant>,
     posts: Waiting,
+    /// Events that come once, whose lines are not written yet.
+    once: Vec<LogEntry>,
 }
 
 impl Writing {
-    /// Writes the lines until there are no more. A line that cannot be written is lost.
+    /// Writes the lines until there are no more. A line that cannot be written is lost, unless its event comes once.
     fn write_all<R: Wait + Clock, F: Write + Drop>(self, rt: &R, faults: F, telling: Telling) {
         let mut telling = telling;
-        let mut output = Output {
-            faults,
-            is_cut: false,
-        };
+        let mut output = Output::new(faults);
         for _ in rt.forever() {
-            match self.next_due(rt, telling.due_at) {
-                Ok(Due::Line(entry)) => self.write_next(&mut output, &entry),
-                Ok(Due::Post(post)) => self.keep(&mut telling.posts, post),
-                Ok(Due::Once | Due::Refused | Due::Durable) | Err(RecvTimeoutError::Timeout) => {}
+            match self.next_due(rt, &telling) {
+                Ok(due) => {
+                    self.write_once(rt, &mut output, &mut telling.once);
+                    self.write_due(rt, &mut output, due);
+                }
+                Err(RecvTimeoutError::Timeout) => {
+                    self.write_once(rt, &mut output, &mut telling.once);
+                }
                 Err(RecvTimeoutError::Disconnected) => break,
             }
-            self.write_once(rt, &mut output);
             self.tell_of_posts(rt, &mut output, &mut telling.posts);
             self.tell_if_due(rt, &mut output, &mut telling);
         }
-        self.write_once(rt, &mut output);
+        self.write_once(rt, &mut output, &mut telling.once);
+        self.note_lost(telling.once.len() as u64);
         self.tell_of_last_posts(rt, &mut output, &mut telling.posts);
         self.tell_of_refused(rt, &mut output, &mut telling.refused);
-        self.write_lost(&mut output, &entry(moment(rt), LogEvent::Lost(0)));
+        self.write_lost(&mut output, moment(rt).unwrap_or(beginning_of_1970()));
     }
 
-    /// What is due next. `Timeout` once this time has come.
+    /// What is due next. `Timeout` once the refused callers are due, or an event that comes once is to be tried again.
     fn next_due<R: Wait + Clock>(
         &self,
         rt: &R,
-        due_at: Option<Instant>,
+        telling: &Telling,
     ) -> Result<Due, RecvTimeoutError> {
-        match due_at {
+        match telling.due_at {
             Some(due_at) => self.due.recv_deadline(rt, due_at),
+            None if !telling.once.is_empty() => self
+                .due
+                .recv_timeout(rt, Duration::from_secs(TRYING_SECS)),
             None => self
                 .due
                 .recv(rt)
                 .map_err(|_| RecvTimeoutError::Disconnected),
+        }
+    }
+
+    /// Writes the line that is due, and those that have come since.
+    fn write_due<R: Wait, F: Write + Drop>(&self, rt: &R, output: &mut Output<F>, first: Due) {
+        let mut lines = Lines::new(self.alloc);
+        self.add_due(&mut lines, first);
+        for _ in 1..LINES_TOGETHER {
+            let Ok(due) = self.due.try_recv(rt) else {
+                break;
+            };
+            self.add_due(&mut lines, due);
+        }
+        self.write(output, &lines);
+    }
+
+    /// Adds what is due to the lines that are written next. What has no line of its own has only woken this thread.
+    fn add_due(&self, lines: &mut Lines, due: Due) {
+        match due {
+            Due::Line(entry) => self.add(lines, &entry),
+            Due::Once | Due::Refused | Due::Durable => {}
         }
     }
 
@@ -366,19 +415,14 @@ impl Writing {
         refused: &mut Refusals,
     ) {
         mem::swap(&mut *self.untold.refused.lock(rt), refused);
+        let mut lines = Lines::new(self.alloc);
         for at in 0..refused.len() {
             if let Some(entry) = refused.entry(at) {
-                self.write_next(output, &entry);
+                self.add(&mut lines, &entry);
             }
         }
         refused.clear();
-    }
-
-    /// Keeps a post until it is durable.
-    fn keep(&self, posts: &mut Waiting, post: WaitingPost) {
-        if !posts.push(post) {
-            self.untold.lost.fetch_add(1, Ordering::SeqCst);
-        }
+        self.write(output, &lines);
     }
 
     /// Writes the lines of the posts that are durable. Where others wait, this thread is woken once more changes are durable.
@@ -389,14 +433,17 @@ impl Writing {
         posts: &mut Waiting,
     ) {
         let durable = &self.untold.durable;
+        durable.note_looking();
         for _ in rt.forever() {
-            if posts.is_empty() {
+            if !self.has_posts(rt, posts) {
                 return;
             }
-            match posts.take(durable.changes()) {
-                Some(post) => self.write_next(output, &post.into_entry()),
-                None if durable.is_awaited_already() => return,
-                None => {}
+            let mut lines = Lines::new(self.alloc);
+            let changes = durable.changes();
+            if self.add_posts(&mut lines, posts, changes) {
+                self.write(output, &lines);
+            } else if durable.is_awaited_already() {
+                return;
             }
         }
     }
@@ -409,77 +456,123 @@ impl Writing {
         posts: &mut Waiting,
     ) {
         for _ in rt.forever() {
-            let Some(post) = posts.take_any(self.untold.durable.changes()) else {
+            if !self.has_posts(rt, posts) {
                 return;
-            };
-            self.write_next(output, &post.into_entry());
+            }
+            let mut lines = Lines::new(self.alloc);
+            let changes = self.untold.durable.changes();
+            if self.add_last_posts(&mut lines, posts, changes) {
+                self.write(output, &lines);
+            }
         }
     }
 
-    /// Writes the lines of the events that come once, as far as they were noted.
-    fn write_once<R: Wait, F: Write + Drop>(&self, rt: &R, output: &mut Output<F>) {
+    /// Whether there are posts that wait. Those that came since are fetched once the others are told of.
+    fn has_posts<R: Wait>(&self, rt: &R, posts: &mut Waiting) -> bool {
+        if posts.is_empty() {
+            mem::swap(&mut *self.untold.taken.lock(rt), posts);
+        }
+        !posts.is_empty()
+    }
+
+    /// Adds the lines of the next posts, if so many changes are durable that they are. Answers whether there was one.
+    fn add_posts(&self, lines: &mut Lines, posts: &mut Waiting, changes: u64) -> bool {
+        let mut has_one = false;
+        for _ in 0..LINES_TOGETHER {
+            let Some(post) = posts.take(changes) else {
+                break;
+            };
+            has_one = true;
+            self.add(lines, &post.into_entry());
+        }
+        has_one
+    }
+
+    /// Adds the lines of the next posts that are among so many durable changes, and forgets those before them. Answers whether there
+    /// was one.
+    fn add_last_posts(&self, lines: &mut Lines, posts: &mut Waiting, changes: u64) -> bool {
+        let mut has_one = false;
+        for _ in 0..LINES_TOGETHER {
+            let Some(post) = posts.take_any(changes) else {
+                break;
+            };
+            has_one = true;
+            self.add(lines, &post.into_entry());
+        }
+        has_one
+    }
+
+    /// Writes the lines of the events that come once, also of those that are noted meanwhile. One that cannot be written stays, with
+    /// those behind it, and is tried again with each later line, or after some seconds.
+    fn write_once<R: Wait, F: Write + Drop>(
+        &self,
+        rt: &R,
+        output: &mut Output<F>,
+        kept: &mut Vec<LogEntry>,
+    ) {
+        for _ in rt.forever() {
+            self.keep_once(rt, kept);
+            let Some(entry) = kept.first() else {
+                return;
+            };
+            self.write_lost(output, entry.moment);
+            if !self.is_written(output, entry) {
+                return;
+            }
+            kept.remove(0);
+        }
+    }
+
+    /// Keeps the events that come once and were noted.
+    fn keep_once<R: Wait>(&self, rt: &R, kept: &mut Vec<LogEntry>) {
         for _ in rt.forever() {
             let Ok(entry) = self.once.try_recv(rt) else {
                 return;
             };
-            self.write_next(output, &entry);
+            // there is room for as many as come
+            if kept.push(entry).is_err() {
+                self.note_lost(1);
+            }
         }
     }
 
-    /// Writes the line of an entry, and before it how many lines were lost.
-    fn write_next<F: Write + Drop>(&self, output: &mut Output<F>, entry: &LogEntry) {
-        self.write_lost(output, entry);
-        self.write(output, entry, 1);
+    /// Adds the line of an entry. One for which memory is refused is lost.
+    fn add(&self, lines: &mut Lines, entry: &LogEntry) {
+        if !lines.add(entry) {
+            self.note_lost(1);
+        }
     }
 
-    /// Says how many lines were lost, if any were. The line has the time of this entry.
-    fn write_lost<F: Write + Drop>(&self, output: &mut Output<F>, entry: &LogEntry) {
+    /// Writes these lines, and before them how many were lost. Those that are not written whole are lost.
+    fn write<F: Write + Drop>(&self, output: &mut Output<F>, lines: &Lines) {
+        if let Some(moment) = lines.since() {
+            self.write_lost(output, moment);
+            self.note_lost(output.write_lines(lines.text()));
+        }
+    }
+
+    /// Says how many lines were lost, if any were. The line has this time.
+    fn write_lost<F: Write + Drop>(&self, output: &mut Output<F>, moment: Moment) {
         let lost = self.untold.lost.swap(0, Ordering::SeqCst);
-        if lost > 0 {
-            let told = LogEntry {
-                moment: entry.moment,
-                event: LogEvent::Lost(lost),
-            };
-            self.write(output, &told, lost);
+        if lost == 0 {
+            return;
         }
-    }
-
-    /// Writes the line of an entry. If it is not written whole, or memory for it is refused, this many lines count as lost.
-    fn write<F: Write + Drop>(&self, output: &mut Output<F>, entry: &LogEntry, lines: u64) {
-        let is_written = match line(self.alloc, entry) {
-            Ok(line) => output.write_line(line.as_slice()),
-            Err(AllocError) => false,
+        let told = LogEntry {
+            moment,
+            event: LogEvent::Lost(lost),
         };
-        if !is_written {
-            self.untold.lost.fetch_add(lines, Ordering::SeqCst);
+        if !self.is_written(output, &told) {
+            self.note_lost(lost);
         }
     }
-}
 
-impl<F: Write + Drop> Output<F> {
-    /// Writes a line. Answers false if not all of it could be written. If a part was written, the next line begins with
-    /// an LF.
-    fn write_line(&mut self, line: &[u8]) -> bool {
-        if self.is_cut && !self.rest_of(b"\n").is_empty() {
-            return false;
-        }
-        let rest = self.rest_of(line);
-        self.is_cut = !rest.is_empty() && rest.len() < line.len();
-        rest.is_empty() && self.faults.flush().is_ok()
+    /// Writes the line of an entry. Answers false if it is not written whole, or memory for it is refused.
+    fn is_written<F: Write + Drop>(&self, output: &mut Output<F>, entry: &LogEntry) -> bool {
+        let mut lines = Lines::new(self.alloc);
+        lines.add(entry) && output.write_lines(lines.text()) == 0
     }
 
-    /// Writes octets, and answers those that could not be written.
-    fn rest_of<'a>(&mut self, octets: &'a [u8]) -> &'a [u8] {
-        let mut rest = octets;
-        for _ in 0..octets.len() {
-            match self.faults.write(rest) {
-                Ok(count) if count > 0 => rest = &rest[count..],
-                _ => break,
-            }
-            if rest.is_empty() {
-                break;
-            }
-        }
-        rest
+    fn note_lost(&self, lines: u64) {
+        self.untold.lost.fetch_add(lines, Ordering::SeqCst);
     }
 }

@@ -77,11 +77,14 @@ impl Waiting {
     }
 }
 
-/// How many changes are durable, and whether the thread that writes waits for more.
+/// How many changes are durable, and what the thread that writes knows of that.
 #[derive(Drop)]
 pub(crate) struct Durable {
     changes: AtomicU64,
+    /// It is to be woken once more are.
     is_awaited: AtomicBool,
+    /// It was woken, and has not looked since.
+    is_woken: AtomicBool,
 }
 
 impl Durable {
@@ -90,6 +93,7 @@ impl Durable {
         Durable {
             changes: AtomicU64::new(0),
             is_awaited: AtomicBool::new(false),
+            is_woken: AtomicBool::new(false),
         }
     }
 
@@ -98,7 +102,7 @@ impl Durable {
         self.changes.load(Ordering::SeqCst)
     }
 
-    /// Notes that so many changes are durable. Answers whether the thread that writes waits for that.
+    /// Notes that so many changes are durable. Answers whether the thread that writes is to be woken for that.
     pub(crate) fn note(&self, changes: u64) -> bool {
         self.changes.store(changes, Ordering::SeqCst);
         self.is_awaited.swap(false, Ordering::SeqCst)
@@ -108,5 +112,22 @@ impl Durable {
     /// durable since it looked.
     pub(crate) fn is_awaited_already(&self) -> bool {
         self.is_awaited.swap(true, Ordering::SeqCst)
+    }
+
+    /// Has the thread that writes be woken once more changes are durable. Answers whether this one is among those that are, for which
+    /// nobody wakes it then.
+    pub(crate) fn await_more(&self, serial: u64) -> bool {
+        self.is_awaited.store(true, Ordering::SeqCst);
+        serial <= self.changes()
+    }
+
+    /// Notes that the thread that writes is woken. Answers whether it was, and has not looked since.
+    pub(crate) fn is_woken_already(&self) -> bool {
+        self.is_woken.swap(true, Ordering::SeqCst)
+    }
+
+    /// Notes that the thread that writes is going to look.
+    pub(crate) fn note_looking(&self) {
+        self.is_woken.store(false, Ordering::SeqCst);
     }
 }

@@ -1,32 +1,40 @@
 //! The call of the kernel that makes a change.
 
-ghost use Rattle.std.specs.Prelude.{◌≢◌, IfErr};
+ghost use Rattle.std.specs.Prelude.{◌≡◌, ◌≢◌, IfErr, IfOk};
+ghost use Rattle.server_operator.specs.Treated.{IsMadeOf};
 
 use crate::desk::OperatorService;
 use crate::line_answer::Refused;
-use kernel_shared::{AdminError, Bells, ExpireError, Kern};
+use crate::treated::Made;
+use kernel_shared::{AdminError, Admitted, Bells, ExpireError, Expired, Hand, Kern};
 use server_operator_lines::Change;
 use std::sync::Wait;
 use text_names::{GroupName, GroupRequest};
 
-/// Makes a change, and answers its serial. If the kernel cannot take it now, it is asked again after the next batch.
-pub(crate) fn make<R: Wait, K: Kern>(
+/// Makes the change that a line asks for, and answers it with its serial. If the kernel cannot take it now, it is asked again after
+/// the next batch.
+pub(crate) fn make<'c, R: Wait, K: Kern>(
     service: &OperatorService<'_, R, K>,
-    change: &Change,
-) -> Result<u64, Refused>
-    ensures { IfErr result (λ error. error ≢ Refused.Fault) }
+    hand: &mut Hand,
+    change: &'c Change,
+) -> Result<Made<'c>, Refused>
+    ensures made { IfOk result (IsMadeOf change.now) }
+    ensures refused { IfErr result (λ error. error ≢ Refused.Fault) }
 {
     match change {
-        Change::Group(request) => Ok(make_group(service, request)?),
-        Change::Expiry { name, number } => Ok(expire(service, name, *number)?),
+        Change::Group(request) => Ok(Made::Group(make_group(service, hand, request)?)),
+        Change::Expiry { name, number } => Ok(Made::Expiry(expire(service, hand, name, *number)?)),
     }
 }
 
-/// Makes a group, and answers its serial. If the kernel cannot take it now, it is asked again after the next batch.
-fn make_group<R: Wait, K: Kern>(
+/// Makes a group, and answers it with its serial. If the kernel cannot take it now, it is asked again after the next batch.
+fn make_group<'g, R: Wait, K: Kern>(
     service: &OperatorService<'_, R, K>,
-    request: &GroupRequest,
-) -> Result<u64, AdminError> {
+    hand: &mut Hand,
+    request: &'g GroupRequest,
+) -> Result<Admitted<'g>, AdminError>
+    ensures { IfOk result (λ admitted. admitted.group.now ≡ request.now) }
+{
     let OperatorService {
         rt,
         alloc,
@@ -37,20 +45,23 @@ fn make_group<R: Wait, K: Kern>(
     for _ in rt.forever() {
         let noted = bells.later.count();
         match kern.admin(*rt, *alloc, request) {
-            Err(AdminError::LaterDirty) => put_off(*rt, *bells, noted),
+            Err(AdminError::LaterDirty) => put_off(*rt, hand, *bells, noted),
             answer => return answer,
         }
     }
     unreachable!()
 }
 
-/// Takes the articles of a group up to a number out of it, and answers the serial of that change. If the kernel cannot take it
-/// now, it is asked again after the next batch.
-pub(crate) fn expire<R: Wait, K: Kern>(
+/// Takes the articles of a group up to a number out of it, and answers that expiry with its serial. If the kernel cannot take
+/// it now, it is asked again after the next batch.
+pub(crate) fn expire<'n, R: Wait, K: Kern>(
     service: &OperatorService<'_, R, K>,
-    name: &GroupName,
+    hand: &mut Hand,
+    name: &'n GroupName,
     number: u32,
-) -> Result<u64, ExpireError> {
+) -> Result<Expired<'n>, ExpireError>
+    ensures { IfOk result (λ expired. (expired.name.now ≡ name.now) × (expired.number ≡ number)) }
+{
     let OperatorService {
         rt,
         kern,
@@ -60,7 +71,7 @@ pub(crate) fn expire<R: Wait, K: Kern>(
     for _ in rt.forever() {
         let noted = bells.later.count();
         match kern.expire(*rt, name, number) {
-            Err(ExpireError::LaterDirty) => put_off(*rt, *bells, noted),
+            Err(ExpireError::LaterDirty) => put_off(*rt, hand, *bells, noted),
             answer => return answer,
         }
     }
@@ -68,7 +79,7 @@ pub(crate) fn expire<R: Wait, K: Kern>(
 }
 
 /// Waits until a batch has been taken, or something released, since the count was noted.
-fn put_off<R: Wait>(rt: &R, bells: &Bells, noted: u64) {
+fn put_off<R: Wait>(rt: &R, hand: &mut Hand, bells: &Bells, noted: u64) {
     bells.flush_now();
-    bells.later.wait_past(rt, noted);
+    bells.later.wait_past(rt, hand, noted);
 }

@@ -4,18 +4,20 @@
 //! The first and the last may wait for the operator forever, so neither is joined. The second waits for neither of
 //! them: at most `LINES` lines are under way, the channel of the lines has room for all of them, and that of the answers has no
 //! limit. A line about ages has an answer for each group; any other line has one.
+//! Other consoles hand their lines to the second thread, too (`consoles.rt`).
 
 ghost use Rattle.std.specs.Prelude.{◌≡◌, ◌≢◌, ◌≤◌, IfOk, IfErr, Ok, OnOk};
 ghost use Rattle.server_operator.specs.Told.{HasSeenStop, IsSeen};
 
 use crate::ages::take_out_old;
 use crate::change_calls::make;
+use crate::consoles::Console;
 use crate::durable::{is_durable, wait_for_stop};
 use crate::line_answer::{Answer, Refused, Told, write_answer};
 use crate::sessions::{Listing, let_go};
 use crate::status::Status;
 use crossbeam_channel::{Receiver, SendError, Sender, bounded, unbounded};
-use kernel_shared::{Asking, Bells, Kern};
+use kernel_shared::{Asking, Bells, Hand, Kern};
 use server_mark::{Mark, Seat};
 use server_operator_lines::{Change, LINE_OCTETS, Next, Request, next_line, request_of};
 use server_releasing::Writers;
@@ -30,14 +32,22 @@ use volume_usage::{Tally, VolumeFacts};
 /// stay in the stream.
 const LINES: usize = 64;
 
+/// The most consoles at a time besides the streams with which the server was started. Each has one line under way at most.
+pub const CONSOLES: usize = 8;
+
 /// At the end the operator has this many seconds to read the answers that are due.
 const ENDING_SECS: u64 = 1;
 
+/// A line without its LF, or why it was not kept.
+pub(crate) type Kept = Result<Vec<u8>, Refused>;
+
 /// What the thread that makes the changes waits for.
 #[derive(Drop)]
-enum Order {
-    /// A line without its LF, or why it was not kept.
-    Asked(Result<Vec<u8>, Refused>),
+pub(crate) enum Order {
+    /// A line of the streams with which the server was started.
+    Asked(Kept),
+    /// A line of another console, and where its answer goes.
+    AskedThere(Kept, Sender<Reply>),
     /// The server ends.
     Ends,
 }
@@ -49,6 +59,8 @@ pub(crate) enum Reply {
     Part(Told),
     /// The answer to a line, or the end of it.
     Answer(Answer),
+    /// The same for another console, which keeps what is beside it until the answer is written.
+    AnswerThere(Answer, Option<Sender<()>>),
     /// There are no more answers.
     Ends,
 }
@@ -106,7 +118,7 @@ impl Operator {
         L: BufRead + Send + Drop + 'static,
         A: Write + Send + Drop + 'static,
     >(rt: &R, alloc: Global, lines: L, answers: A) -> Result<Operator, AllocError> {
-        let (order, orders) = bounded(alloc, LINES + 1)?;
+        let (order, orders) = bounded(alloc, LINES + CONSOLES + 1)?;
         let (replies, to_write) = unbounded(alloc)?;
         let (begun, under_way) = bounded(alloc, LINES)?;
         let written = Writing::start(rt, alloc, answers, to_write, under_way)?;
@@ -119,9 +131,14 @@ impl Operator {
         })
     }
 
+    /// A way in for the lines of other consoles. Refused only for want of memory.
+    pub fn console(&self) -> Result<Console, AllocError> {
+        Ok(Console::new(self.order.clone()?))
+    }
+
     /// Does what the lines ask for and answers each line, until `end` is called. Lines that were handed on
-    /// before that are still answered, and the operator has a second to read the answers. Then it returns, whether they
-    /// are read or not.
+    /// before that are still answered. The operator has a second to read the answers, and so have those at other consoles. Then it
+    /// returns, whether they are read or not.
     pub fn answer_all<R: Wait + Clock, K: Kern>(
         &self,
         service: &OperatorService<'_, R, K>,
@@ -130,14 +147,27 @@ impl Operator {
         requires { seat.mark ≡ service.now.mark.now }
     {
         let mut seat = seat;
+        let mut hand = Hand::new();
+        let unwritten = Unwritten::new(service.alloc);
         'orders: for _ in service.rt.forever() {
-            let Ok(Order::Asked(line)) = self.orders.recv(service.rt) else {
-                break;
-            };
-            let answer = answer(service, &mut seat, line, &self.replies);
-            hand_on(service.rt, &self.replies, Reply::Answer(answer));
+            match self.orders.recv(service.rt) {
+                Ok(Order::Asked(line)) => {
+                    let answer = answer(service, &mut seat, &mut hand, line, &self.replies);
+                    hand_on(service.rt, &self.replies, Reply::Answer(answer));
+                }
+                Ok(Order::AskedThere(line, replies)) => {
+                    let answer = answer(service, &mut seat, &mut hand, line, &replies);
+                    hand_on(
+                        service.rt,
+                        &replies,
+                        Reply::AnswerThere(answer, unwritten.one()),
+                    );
+                }
+                Ok(Order::Ends) | Err(_) => break,
+            }
         }
         hand_on(service.rt, &self.replies, Reply::Ends);
+        unwritten.wait(service.rt);
         let _ = self
             .written
             .recv_timeout(service.rt, Duration::from_secs(ENDING_SECS));
@@ -146,6 +176,45 @@ impl Operator {
     /// Makes `answer_all` end. It is called once, after the flusher has stopped and its bells were rung.
     pub fn end<R: Wait>(&self, rt: &R) {
         let _ = self.order.send(rt, Order::Ends);
+    }
+}
+
+/// Those answers of other consoles that are not written yet.
+#[derive(Drop)]
+struct Unwritten {
+    /// Each of them has one more of these.
+    each: Option<Sender<()>>,
+    /// It is disconnected once all are written.
+    written: Option<Receiver<()>>,
+}
+
+impl Unwritten {
+    /// None. Where memory is refused, nobody waits for any.
+    fn new(alloc: Global) -> Unwritten {
+        match bounded(alloc, 1) {
+            Ok((each, written)) => Unwritten {
+                each: Some(each),
+                written: Some(written),
+            },
+            Err(_) => Unwritten {
+                each: None,
+                written: None,
+            },
+        }
+    }
+
+    /// What an answer has until it is written.
+    fn one(&self) -> Option<Sender<()>> {
+        self.each.as_ref()?.clone().ok()
+    }
+
+    /// Waits until all are written, for `ENDING_SECS` at most.
+    fn wait<R: Wait + Clock>(self, rt: &R) {
+        let Unwritten { each, written } = self;
+        drop(each);
+        if let Some(written) = written {
+            let _ = written.recv_timeout(rt, Duration::from_secs(ENDING_SECS));
+        }
     }
 }
 
@@ -170,6 +239,7 @@ pub(crate) fn hand_on<R: Wait>(rt: &R, replies: &Sender<Reply>, reply: Reply) {
 fn answer<R: Wait + Clock, K: Kern>(
     service: &OperatorService<'_, R, K>,
     seat: &mut Seat,
+    hand: &mut Hand,
     line: Result<Vec<u8>, Refused>,
     replies: &Sender<Reply>,
 ) -> Answer
@@ -180,9 +250,12 @@ fn answer<R: Wait + Clock, K: Kern>(
 {
     let line = line?;
     match request_of(service.alloc, line.as_slice())? {
-        Request::Change(change) => carry_out(service, seat, &change),
-        Request::Ages(request) => take_out_old(service, seat, &request, replies),
-        Request::Status => Ok(Told::Status(Status::of(service)?)),
+        Request::Change(change) => carry_out(service, seat, hand, &change),
+        Request::Ages(request) => take_out_old(service, seat, hand, &request, replies),
+        Request::Status => {
+            service.bells.watcher.unpark();
+            Ok(Told::Status(Status::of(service)?))
+        }
         Request::Sessions => Ok(Told::Sessions(Listing::of(
             service.rt,
             service.alloc,
@@ -197,6 +270,7 @@ fn answer<R: Wait + Clock, K: Kern>(
 fn carry_out<R: Wait, K: Kern>(
     service: &OperatorService<'_, R, K>,
     seat: &mut Seat,
+    hand: &mut Hand,
     change: &Change,
 ) -> Answer
     requires { seat.old.mark ≡ service.now.mark.now }
@@ -204,7 +278,10 @@ fn carry_out<R: Wait, K: Kern>(
     ensures gone { IfErr result (λ error. error ≡ Refused.Fault → HasSeenStop seat.new) }
     ensures mark { seat.new.mark ≡ seat.old.mark }
 {
-    let made = make(service, change);
+    let made = match make(service, hand, change) {
+        Ok(made) => Ok(made.serial()),
+        Err(refused) => Err(refused),
+    };
     Ok(Told::Serial(make_durable(service, seat, made)?))
 }
 
@@ -342,6 +419,11 @@ impl Writing {
                 Ok(Reply::Answer(answer)) => {
                     let _ = write_answer(&mut answers, &answer);
                     let _ = self.under_way.recv(rt);
+                }
+                // another console's, which has a channel of its own
+                Ok(Reply::AnswerThere(answer, unwritten)) => {
+                    drop(answer);
+                    drop(unwritten);
                 }
                 Ok(Reply::Ends) | Err(_) => return,
             }

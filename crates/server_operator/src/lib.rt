@@ -6,10 +6,13 @@
 
 mod ages;
 mod change_calls;
+mod consoles;
 mod desk;
 mod durable;
 mod line_answer;
 mod sessions;
 mod status;
+mod treated;
 
-pub use desk::{Operator, OperatorService};
+pub use consoles::{Console, write_end};
+pub use desk::{CONSOLES, Operator, OperatorService};

@@ -1,7 +1,8 @@
 -- What the operator's lines ask for.
-use Rattle.std.specs.Prelude.{◌≡◌, ◌≢◌, ℕ, List, ◌++◌, Option, Some, None, codes}
+use Rattle.std.specs.Prelude.{◌≡◌, ◌≢◌, ℕ, List, ◌++◌, if◌then◌else◌, Option, Some, None, codes}
 use Rattle.text_names.specs.Requests as requests
 use Rattle.program_script.specs.Script.{LineMeaning, Made, Expired, Came, Asked, meaning}
+use Rattle.program_script.specs.Words.{is_blank}
 use Rattle.server_operator_lines.specs.Ages.{AsksNoAges, IsAgesLine}
 use Rattle.server_operator_lines.specs.declared.line_changes.Change.{Change}
 use Rattle.server_operator_lines.specs.declared.line_changes.Change.TheVariants.{Group, Expiry}
@@ -14,6 +15,14 @@ use Rattle.server_roster.specs.declared.chosen.Chosen.{Chosen}
 abbrev pub asked : Change → LineMeaning
 asked (Group request) = Made (requests.group_of request)
 asked (Expiry name number) = Expired name number
+
+-- what the operator may ask for by a line: what it means in a script, without a group whose description is blank
+abbrev pub permitted : Option LineMeaning → Option LineMeaning
+permitted None = None
+permitted (Some (Made group)) = if is_blank group.description then None else Some (Made group)
+permitted (Some (Expired name number)) = Some (Expired name number)
+permitted (Some (Came session octets)) = Some (Came session octets)
+permitted (Some (Asked line)) = Some (Asked line)
 
 -- a line asks for no change
 abbrev pub IsNone : Option LineMeaning → Type 0
@@ -33,7 +42,7 @@ DropsNothing line = (word : List ℕ) → line ≡ codes "drop " ++ word → Nam
 
 -- a line asks for this: a change, an expiry by age, one of the words, or the end of sessions
 abbrev pub IsAskedBy : List ℕ → Request → Type 0
-IsAskedBy line (request.Change change) = meaning line ≡ Some (asked change)
+IsAskedBy line (request.Change change) = permitted (meaning line) ≡ Some (asked change)
 IsAskedBy line (request.Ages ages) = IsAgesLine line ages
 IsAskedBy line request.Status = line ≡ codes "status"
 IsAskedBy line request.Sessions = line ≡ codes "sessions"
@@ -44,4 +53,4 @@ IsAskedBy line request.Stop = line ≡ codes "stop"
 abbrev pub AsksNothing : List ℕ → Type 0
 AsksNothing line =
     (line ≢ codes "status") × (line ≢ codes "stop") × (line ≢ codes "sessions") × DropsNothing line × AsksNoAges line
-    × IsNone (meaning line)
+    × IsNone (permitted (meaning line))

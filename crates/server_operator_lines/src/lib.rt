@@ -10,5 +10,5 @@ mod requests;
 
 pub use ages::AgeRequest;
 pub use line_changes::Change;
-pub use line_reader::{LINE_OCTETS, Next, next_line};
+pub use line_reader::{ANSWER_END, LINE_OCTETS, Next, next_line};
 pub use requests::{Request, request_of};

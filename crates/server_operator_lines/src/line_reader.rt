@@ -11,6 +11,9 @@ use std::sync::Wait;
 /// The most octets of a line, without its LF. The longest line that makes a change has fewer than 300.
 pub const LINE_OCTETS: usize = 1024;
 
+/// The line behind each answer at a control socket, without its LF (docs/FORMATS.md, "The control socket"). No answer has such a line.
+pub const ANSWER_END: &[u8] = b".";
+
 /// What a reader found next.
 #[derive(Clone, Copy)]
 pub enum Next {

@@ -5,9 +5,10 @@
 //! A block is left only while the session holds no output and has nothing to write. So nothing can be released for its
 //! session, no thread writes to its caller under the lock, and whoever has the lock has it for a short time.
 
+use crate::admitted::Admitted;
 use crate::outgoing::{LeftBlock, Patience};
 use crate::turns::Turn;
-use crate::{ReplyWriter, Shared};
+use crate::{Hand, ReplyWriter, Shared};
 use kernel_shared::{Asked, Bells, ExecError, ExecOutcome, Hooks, Kern};
 use model::{Message, Moment};
 use std::sync::Wait;
@@ -50,11 +51,12 @@ impl ReplyWriter {
     pub fn leave<R: Wait>(
         &self,
         rt: &R,
+        hand: &mut Hand,
         block: Message,
         asked: Asked,
         moment: Moment,
     ) -> Result<Untold, Message> {
-        let mut turn = self.desk.turn(rt);
+        let mut turn = self.desk.turn(rt, hand);
         if self.is_waiting() || self.is_slow() {
             turn.end_before_send();
             return Err(block);
@@ -75,8 +77,8 @@ impl ReplyWriter {
 
     /// What became of the block that was left; `None` if none was, or this was answered before. The session's thread
     /// calls this before it has anything else answered, and before it ends.
-    pub fn take_back<R: Wait>(&self, rt: &R) -> Option<TakenBack> {
-        let mut turn = self.desk.turn(rt);
+    pub fn take_back<R: Wait>(&self, rt: &R, hand: &mut Hand) -> Option<TakenBack> {
+        let mut turn = self.desk.turn(rt, hand);
         let taken = match turn.outgoing().take_left() {
             Some(LeftBlock { block, .. }) => {
                 turn.note_left(false);
@@ -128,7 +130,11 @@ impl ReplyWriter {
         turn: &mut Turn<'_>,
     ) -> Option<FiledBlock> {
         let left = turn.outgoing().take_left()?;
-        let answer = self.answer_into(shared, turn, &left.block, left.moment);
+        let answer = match Admitted::without_place(&left.block) {
+            Some(admitted) => self.answer_into(shared, turn, admitted, left.moment),
+            // only blocks are left
+            None => Err(ExecError::NoSession),
+        };
         if let Err(ExecError::LaterDirty | ExecError::LaterOut) = answer {
             self.desk.note_waiting(false);
             let _ = turn.outgoing().leave(left);

@@ -4,11 +4,13 @@ use crate::Shared;
 use kernel_outbox::{RELEASE_ENTRIES, RELEASE_OCTETS, ReadyBuf};
 use kernel_shared::{Asked, ExecError, ExecOutcome, Hooks, Kern};
 use model::{Message, Moment};
-use server_delivering::{Written, deliver};
+use server_delivering::{Taking, Written, deliver, deliver_at_once};
+use server_places::Held;
 use std::alloc::{AllocError, Global};
-use std::net::{Shutdown, TcpStream};
+use std::net::{IpAddr, Shutdown, TcpStream};
 use std::sync::{Arc, Wait};
-use std::time::Duration;
+use std::time::{Clock, Duration};
+use text_networks::Guest;
 
 /// Whether a write may wait until its socket takes more.
 #[derive(Clone, Copy, PartialEq, Eq)]
@@ -24,6 +26,8 @@ pub(crate) enum Patience {
 pub enum Cut {
     /// The socket took nothing for `Limits::stall`.
     Stalled,
+    /// In this time it took too little, while its session had a place for a large reply, or asked for one.
+    Slow,
     /// The socket failed.
     Failed,
     /// The operator ended the session.
@@ -50,6 +54,12 @@ pub(crate) struct LeftBlock {
 #[derive(Drop)]
 pub(crate) struct Outgoing {
     pub(crate) sid: u64,
+    /// By its address.
+    pub(crate) guest: Guest,
+    /// Its place among the sessions that hold a large reply, if it has one.
+    pub(crate) place: Option<Held>,
+    /// It asked for a place that it doesn't have yet.
+    pub(crate) asks: bool,
     /// `None` if there is no caller.
     pub(crate) stream: Option<Arc<TcpStream, Global>>,
     pub(crate) ready: ReadyBuf,
@@ -61,12 +71,17 @@ pub(crate) struct Outgoing {
     filed: Option<Result<ExecOutcome, ExecError>>,
     /// What was written to this caller so far.
     sent: Delivery,
+    /// How fast it takes that.
+    taking: Taking,
 }
 
 impl Outgoing {
     pub(crate) fn new(alloc: Global) -> Result<Outgoing, AllocError> {
         Ok(Outgoing {
             sid: 0,
+            guest: Guest::Unnamed,
+            place: None,
+            asks: false,
             stream: None,
             ready: ReadyBuf::new(alloc)?,
             written: 0,
@@ -76,12 +91,16 @@ impl Outgoing {
                 octets: 0,
                 cut: None,
             },
+            taking: Taking::new(),
         })
     }
 
     /// Begins a session with a caller.
-    pub(crate) fn begin(&mut self, sid: u64, stream: Arc<TcpStream, Global>) {
+    pub(crate) fn begin(&mut self, sid: u64, caller: IpAddr, stream: Arc<TcpStream, Global>) {
         self.sid = sid;
+        self.guest = Guest::At(caller);
+        self.asks = false;
+        self.taking = Taking::new();
         self.stream = Some(stream);
         self.sent = Delivery {
             octets: 0,
@@ -96,6 +115,11 @@ impl Outgoing {
         self.filed = None;
         self.clear();
         self.sent
+    }
+
+    /// Whether nothing more is written to the caller.
+    pub(crate) fn is_cut(&self) -> bool {
+        self.sent.cut.is_some()
     }
 
     /// The octets that were written to this caller so far.
@@ -148,7 +172,7 @@ impl Outgoing {
 
     /// Writes what was taken and discards it, unless the socket takes no more and the patience runs out. If the socket
     /// fails, the session ends. After the last reply of a session nothing more is written to its socket.
-    pub(crate) fn write<R: Wait, K: Kern, H: Hooks>(
+    pub(crate) fn write<R: Wait + Clock, K: Kern, H: Hooks>(
         &mut self,
         shared: &Shared<'_, R, K, H>,
         patience: Patience,
@@ -167,6 +191,7 @@ impl Outgoing {
             Written::All if !self.ends() => {}
             Written::All => self.shut_down(Shutdown::Write),
             Written::Stalled => self.cut_off(shared, Cut::Stalled),
+            Written::Slow => self.cut_off(shared, Cut::Slow),
             Written::Failed => self.cut_off(shared, Cut::Failed),
         }
         self.clear();
@@ -196,19 +221,29 @@ impl Outgoing {
     }
 
     /// Writes what is not written yet, as long as the patience lasts.
-    fn write_rest<R: Wait>(&mut self, rt: &R, stall: Duration, patience: Patience) -> Written {
+    fn write_rest<R: Wait + Clock>(
+        &mut self,
+        rt: &R,
+        stall: Duration,
+        patience: Patience,
+    ) -> Written {
         let Outgoing {
             stream,
             ready,
             written,
+            taking,
+            place,
+            asks,
             ..
         } = self;
-        match stream {
-            Some(stream) => {
-                let stall = (patience == Patience::Long).then_some(stall);
-                deliver(rt, stream, ready.octets(), written, stall)
+        // one that asks may be given a place at any time
+        taking.set(stall, *asks || place.is_some());
+        match (stream, patience) {
+            (Some(stream), Patience::Long) => deliver(rt, stream, ready.octets(), written, taking),
+            (Some(stream), Patience::None) => {
+                deliver_at_once(rt, stream, ready.octets(), written)
             }
-            None => Written::Failed,
+            (None, _) => Written::Failed,
         }
     }
 }

@@ -5,7 +5,7 @@ use crate::{Shared, Writers};
 use kernel_shared::{Hooks, Kern};
 use std::net::Shutdown;
 use std::sync::Wait;
-use std::time::Duration;
+use std::time::{Clock, Duration};
 
 /// The number of pauses that callers get at the server's end to take what is ready of their sessions, and the length of
 /// a pause in milliseconds.
@@ -19,7 +19,7 @@ const FEW: usize = 12;
 /// Releases the replies that waited for a commit. The thread that flushes calls this after each commit. It leaves callers
 /// that once took less than was written to the releaser, since each write to them may cost it a tick, and has the releaser
 /// help where many wait.
-pub fn release_committed<R: Wait, K: Kern, H: Hooks>(shared: &Shared<'_, R, K, H>) {
+pub fn release_committed<R: Wait + Clock, K: Kern, H: Hooks>(shared: &Shared<'_, R, K, H>) {
     if count_waiting(shared.writers) > FEW {
         shared.bells.releaser.unpark();
     }
@@ -48,7 +48,7 @@ fn count_waiting(writers: &Writers) -> usize {
 
 /// Each time that it is woken, releases the replies that waited for a commit, until the server's end begins. Then it
 /// disconnects the callers. It begins with the last session, since the thread that flushes begins with the first.
-pub fn release_all<R: Wait, K: Kern, H: Hooks>(shared: &Shared<'_, R, K, H>) {
+pub fn release_all<R: Wait + Clock, K: Kern, H: Hooks>(shared: &Shared<'_, R, K, H>) {
     for _ in shared.rt.forever() {
         let is_last = shared.closing.has_begun();
         release_from_last(shared);
@@ -61,7 +61,7 @@ pub fn release_all<R: Wait, K: Kern, H: Hooks>(shared: &Shared<'_, R, K, H>) {
 }
 
 /// Releases the replies that waited for a commit, those of the last session first.
-fn release_from_last<R: Wait, K: Kern, H: Hooks>(shared: &Shared<'_, R, K, H>) {
+fn release_from_last<R: Wait + Clock, K: Kern, H: Hooks>(shared: &Shared<'_, R, K, H>) {
     for place in (0..shared.writers.len()).rev() {
         if let Some(writer) = shared.writers.get(place) {
             writer.release_waiting(shared);

@@ -1,5 +1,6 @@
 //! The lock on what a session has outside of the kernel, and the flags that other threads set and read without it.
 
+use crate::Hand;
 use crate::outgoing::Outgoing;
 use std::alloc::{AllocError, Global};
 use std::sync::atomic::{AtomicBool, AtomicU64, Ordering};
@@ -23,7 +24,8 @@ pub(crate) struct Desk {
 }
 
 /// A thread's turn with the lock of a desk. It has no `Drop`, so a thread ends it by one of the two functions that say who
-/// looks at `is_missed` after it.
+/// looks at `is_missed` after it. Until then the thread's hand is lent, or the thread was given none: so it can't wait for
+/// another session.
 pub(crate) struct Turn<'a> {
     outgoing: MutexGuard<'a, Outgoing>,
     desk: &'a Desk,
@@ -42,8 +44,8 @@ impl Desk {
         })
     }
 
-    /// Takes the lock.
-    pub(crate) fn turn<R: Wait>(&self, rt: &R) -> Turn<'_> {
+    /// Takes the lock. The hand is lent until the turn ends.
+    pub(crate) fn turn<'a, R: Wait>(&'a self, rt: &R, _hand: &'a mut Hand) -> Turn<'a> {
         Turn {
             outgoing: self.outgoing.lock(rt),
             desk: self,

@@ -1,6 +1,7 @@
 //! The writers of all sessions' threads.
 
 use crate::ReplyWriter;
+use server_places::{Held, Places};
 use std::alloc::{AllocError, Global};
 use std::sync::atomic::{AtomicUsize, Ordering};
 use std::sync::{OnceLock, Wait};
@@ -10,6 +11,8 @@ use std::sync::{OnceLock, Wait};
 pub struct Writers {
     made: Vec<OnceLock<Box<ReplyWriter>>>,
     count: AtomicUsize,
+    /// For their sessions' large replies.
+    pub(crate) places: Places,
 }
 
 impl Writers {
@@ -22,6 +25,7 @@ impl Writers {
         Ok(Writers {
             made,
             count: AtomicUsize::new(0),
+            places: Places::new(alloc, most)?,
         })
     }
 
@@ -29,7 +33,7 @@ impl Writers {
     pub fn make<R: Wait>(&self, rt: &R, alloc: Global) -> Option<&ReplyWriter> {
         let place = self.len();
         let slot = self.made.get(place)?;
-        let writer = Box::new(alloc, ReplyWriter::new(alloc).ok()?).ok()?;
+        let writer = Box::new(alloc, ReplyWriter::new(alloc, place).ok()?).ok()?;
         if slot.set(rt, writer).is_err() {
             return None;
         }
@@ -47,6 +51,33 @@ impl Writers {
         match self.made.get(place)?.get() {
             Some(writer) => Some(&**writer),
             None => None,
+        }
+    }
+
+    /// Frees a place, and wakes the thread whose session is given it.
+    pub(crate) fn free_place<R: Wait>(&self, rt: &R, place: Held) {
+        self.wake(self.places.free(rt, place));
+    }
+
+    /// Has a writer's session wait for a place no more.
+    pub(crate) fn forget<R: Wait>(&self, rt: &R, writer: usize) {
+        self.wake(self.places.forget(rt, writer));
+    }
+
+    /// Has nobody wait for a place from now on, as the kernel is halted.
+    pub fn open_places<R: Wait>(&self, rt: &R) {
+        self.places.open(rt);
+        for place in 0..self.len() {
+            self.wake(Some(place));
+        }
+    }
+
+    /// Wakes a session's thread.
+    fn wake(&self, writer: Option<usize>) {
+        if let Some(place) = writer
+            && let Some(writer) = self.get(place)
+        {
+            writer.wake_session();
         }
     }
 }

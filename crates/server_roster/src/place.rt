@@ -81,6 +81,14 @@ impl Place {
         }
     }
 
+    /// Whether the operator ended the session that there is.
+    pub fn is_let_go<R: Wait>(&self, rt: &R) -> bool {
+        match &*self.present.lock(rt) {
+            Some(present) => present.is_let_go,
+            None => false,
+        }
+    }
+
     /// Whether there is no caller.
     pub fn is_free<R: Wait>(&self, rt: &R) -> bool {
         self.present.lock(rt).is_none()

@@ -1,4 +1,5 @@
-//! Whether there is room for an article: what it leaves to other changes, and whether the files of its groups may grow.
+//! Whether there is room for an article: what it leaves to other changes, and whether the files of its groups may grow. Then
+//! where its own file goes.
 
 ghost use Rattle.std.specs.Prelude.{◌≡◌, ◌*◌, ◌||◌, true, length, nat_lt};
 ghost use Rattle.std.specs.List.{list_any};
@@ -11,9 +12,11 @@ ghost use Rattle.spool_groups.specs.Filing.{end_of};
 ghost use Rattle.spool_groups.specs.Shown.{shown};
 ghost use Rattle.spool_index.specs.View.{Indexes};
 ghost use Rattle.spool_opening.specs.Replayed.{AreHere};
+ghost use Rattle.spool.specs.Packing as packing;
 
 use model::Text;
 use spool_groups::Group;
+use spool_growing::PlaceKind;
 use spool_index::Index;
 
 /// The most octets of a file that may still grow: 12,288 less than the largest file has.
@@ -27,6 +30,9 @@ const LARGE_BLOCKS: u32 = 8_192;
 
 /// A volume with fewer inodes than this has none to leave to the operator.
 const LARGE_INODES: u32 = 2_048;
+
+/// The most octets of a text whose file goes into the pack. A longer one would save a sixteenth of its octets on average.
+const PACKED_TEXT: usize = 32_768;
 
 /// The number of free blocks that an article leaves to expiries and groups, in a volume of so many blocks.
 pub fn blocks_left(blocks: u32) -> u32
@@ -71,4 +77,16 @@ pub(crate) fn extends_large(index: &Index, groups: &[Text]) -> bool
         }
     }
     false
+}
+
+/// Where the file of an article with this text goes, in a volume of so many inodes (docs/FORMATS.md). A small volume, which
+/// leaves no inodes to the operator, has one for each article.
+pub(crate) fn kind_for(inodes: u32, text: &[u8]) -> PlaceKind
+    ensures { result ≡ packing.kind_for inodes text.now }
+{
+    if inodes < LARGE_INODES || PACKED_TEXT < text.len() {
+        PlaceKind::Alone
+    } else {
+        PlaceKind::Packed
+    }
 }

@@ -24,7 +24,7 @@ mod look_ups;
 mod open;
 mod stored_changes;
 
-use article_room::extends_large;
+use article_room::{extends_large, kind_for};
 pub use article_room::{blocks_left, inodes_left};
 pub use errors::{AddError, ExpireError};
 use fs::{free_block_count, free_inode_count};
@@ -322,8 +322,9 @@ impl Spool {
         self.lacks_room(1, blocks, inodes) || extends_large(&self.index, envelope.groups.as_slice())
     }
 
-    /// Files an article with this envelope, its file in an inode of its own, and answers its serial. Its change must be one
-    /// that may follow. Refused as `Full` or `Memory`, tested in that order. A refusal changes nothing.
+    /// Files an article with this envelope, and answers its serial. Its change must be one that may follow, and the volume one
+    /// of format 3. Its file goes into the pack or into an inode of its own, as `kind_for` says, and into one where the pack
+    /// can't grow by it. Refused as `Full` or `Memory`, tested in that order. A refusal changes nothing.
     pub fn add_article(
         &mut self,
         article: &Article<'_>,
@@ -335,11 +336,12 @@ impl Spool {
             (λ serial. (serial ≡ length self.old.changes + 1) × Adds self.old self.new (changed.Article
             (record { text = article.now; envelope = envelope.now }))) }
     {
-        self.add_in(PlaceKind::Alone, article, envelope)
+        let kind = kind_for(self.inodes, article.text());
+        self.add_in(kind, article, envelope)
     }
 
-    /// Files an article as `add_article` does, but its file in the pack, if that may grow by it. The volume must be one of
-    /// format 3.
+    /// Files an article as `add_article` does, but its file in the pack whatever its size and the volume's, if that may grow
+    /// by it.
     pub fn pack_article(
         &mut self,
         article: &Article<'_>,

@@ -2,7 +2,7 @@
 //! in chosen orders, by one thread.
 
 use kernel_shared::{Hooks, Kern, NoHooks};
-use server_releasing::Limits;
+use server_releasing::{Hand, Limits};
 use std::alloc::Global;
 use std::io::Read;
 use std::net::{Net, TcpListener, TcpStream};
@@ -67,9 +67,9 @@ pub(crate) fn leave<R: Net<Listener = TcpListener, Stream = TcpStream> + Wait + 
         journal: &store.journal,
         batch: &store.batch,
     };
-    session.writer().release(&shared);
+    session.writer().release(&shared, &mut Hand::new());
     session.asks(b"POST")?;
-    session.writer().send(&shared);
+    session.writer().send(&shared, &mut Hand::new());
     let is_begun = caller.reads(GREETING) && caller.reads(REPLIES[0]);
     let is_good = match fate {
         Fate::Accepted | Fate::Untold | Fate::Filed => is_filed(
@@ -89,7 +89,7 @@ pub(crate) fn leave<R: Net<Listener = TcpListener, Stream = TcpStream> + Wait + 
         Fate::Unsent | Fate::Held | Fate::Slow => is_kept(&session, fate, number)?,
         Fate::Refused | Fate::Halted => is_refused(&session, &mut caller, fate, number)?,
     };
-    session.writer().end(rt, &kern);
+    session.writer().end(&shared, &mut Hand::new());
     Some(is_begun && is_good)
 }
 
@@ -128,7 +128,7 @@ fn is_filed<R: Wait + Clock, K: Kern, H: Hooks>(
     }
     let was_filed = !session.takes_back()?;
     session.asks(b"DATE")?;
-    session.writer().send(session.shared);
+    session.writer().send(session.shared, &mut Hand::new());
     Some(is_left && is_read && was_filed && caller.reads(DATED))
 }
 
@@ -139,7 +139,7 @@ fn is_taken_back<R: Wait + Clock, K: Kern, H: Hooks>(
 ) -> Option<bool> {
     let is_left = session.leaves(number)? && session.takes_back()?;
     session.asks(b"DATE")?;
-    session.writer().send(session.shared);
+    session.writer().send(session.shared, &mut Hand::new());
     let is_once = turn(session)? == (false, true) && turn(session)? == (false, false);
     Some(is_left && is_once && caller.reads(REPLIES[1]) && caller.reads(DATED))
 }
@@ -159,7 +159,7 @@ fn is_put_off<R: Wait + Clock, K: Kern, H: Hooks>(
     } else {
         session.takes_back()? && turn(session)? == (false, true)
     };
-    session.writer().send(session.shared);
+    session.writer().send(session.shared, &mut Hand::new());
     Some(is_left && is_refused && is_good && caller.reads(REPLIES[1]))
 }
 
@@ -180,7 +180,7 @@ fn is_kept<R: Wait + Clock, K: Kern, H: Hooks>(
         }
         Fate::Held => {
             session.posts(number)?;
-            session.writer().send(session.shared);
+            session.writer().send(session.shared, &mut Hand::new());
             Some(!session.leaves(number)? && turn(session)? == (false, true))
         }
         _ => {

@@ -7,7 +7,7 @@ use server_logging::{
 use std::alloc::Global;
 use std::io::{self, Write};
 use std::net::{Ipv4Addr, SocketAddr};
-use std::sync::atomic::{AtomicBool, Ordering};
+use std::sync::atomic::{AtomicBool, AtomicU64, Ordering};
 use std::sync::{Arc, Mutex, Wait};
 use std::thread::{self, Threads};
 use std::time::{Clock, Duration, Instant};
@@ -25,7 +25,7 @@ const FEW: usize = 10;
 const WAIT_MILLIS: u32 = 20_000;
 
 /// An event that may come often.
-const OFTEN: LogEvent = LogEvent::Opening(OpeningStep::Checking);
+pub(crate) const OFTEN: LogEvent = LogEvent::Opening(OpeningStep::Checking);
 
 /// What a log is written to: nothing is taken before the reader comes.
 #[derive(Drop)]
@@ -41,6 +41,8 @@ struct Shared {
     is_awaited: AtomicBool,
     /// The reader takes lines.
     is_reading: AtomicBool,
+    /// The number of writes.
+    writes: AtomicU64,
 }
 
 impl<R: Wait + Clock> Write for Reader<R> {
@@ -52,6 +54,7 @@ impl<R: Wait + Clock> Write for Reader<R> {
             }
             thread::sleep(&self.rt, Duration::from_millis(1));
         }
+        self.shared.writes.fetch_add(1, Ordering::SeqCst);
         self.shared.text.lock(&self.rt).extend_from_slice(octets)?;
         Ok(octets.len())
     }
@@ -78,6 +81,7 @@ fn start<R: Threads + Wait + Clock + Copy + Send + 'static>(
         text: Mutex::new(Vec::new(alloc)),
         is_awaited: AtomicBool::new(false),
         is_reading: AtomicBool::new(is_reading),
+        writes: AtomicU64::new(0),
     };
     let shared = Arc::new(alloc, shared).ok()?;
     let reader = Reader {
@@ -186,26 +190,35 @@ fn has_lines<R: Wait + Clock>(rt: &R, shared: &Shared, lines: usize) -> bool {
     false
 }
 
-/// What a log is written to: it takes nothing of the first line, and only a few octets of the next one.
+/// What a log is written to: its first write takes nothing, its second one a few octets, and its third one nothing.
 #[derive(Drop)]
 struct Failing<R> {
     rt: R,
-    writes: u32,
-    text: Arc<Mutex<Vec<u8>>, Global>,
+    taken: Arc<Taken, Global>,
+}
+
+#[derive(Drop)]
+struct Taken {
+    text: Mutex<Vec<u8>>,
+    /// The number of writes.
+    writes: AtomicU64,
 }
 
 impl<R: Wait> Write for Failing<R> {
     fn write(&mut self, octets: &[u8]) -> io::Result<usize> {
-        self.writes = self.writes.saturating_add(1);
-        let taken = match self.writes {
-            1 | 3 => return Err(io::Error::from(io::ErrorKind::WouldBlock)),
-            2 => octets.len().min(FEW),
-            _ => octets.len(),
+        let taken = match self.taken.writes.load(Ordering::SeqCst) {
+            0 | 2 => Err(io::Error::from(io::ErrorKind::WouldBlock)),
+            1 => Ok(octets.len().min(FEW)),
+            _ => Ok(octets.len()),
         };
-        self.text
-            .lock(&self.rt)
-            .extend_from_slice(&octets[..taken])?;
-        Ok(taken)
+        if let Ok(taken) = taken {
+            self.taken
+                .text
+                .lock(&self.rt)
+                .extend_from_slice(&octets[..taken])?;
+        }
+        self.taken.writes.fetch_add(1, Ordering::SeqCst);
+        taken
     }
 
     fn flush(&mut self) -> io::Result<()> {
@@ -213,33 +226,64 @@ impl<R: Wait> Write for Failing<R> {
     }
 }
 
-/// Whether a log reports a line that could not be written, and ends one that was written in part.
+/// Whether a log whose first line finds three writes that fail has lines with these ends after the part that was taken. Two more lines
+/// are noted, each once the writes for those before it were made.
 pub(crate) fn written_in_part<R: Threads + Wait + Clock + Copy + Drop + Send + 'static>(
     rt: &R,
     alloc: Global,
+    first: LogEvent,
+    expected: &[&str],
 ) -> Option<bool> {
-    let text = Arc::new(alloc, Mutex::new(Vec::new(alloc))).ok()?;
+    let taken = Taken {
+        text: Mutex::new(Vec::new(alloc)),
+        writes: AtomicU64::new(0),
+    };
+    let taken = Arc::new(alloc, taken).ok()?;
     let failing = Failing {
         rt: *rt,
-        writes: 0,
-        text: Arc::try_clone(&text).ok()?,
+        taken: Arc::try_clone(&taken).ok()?,
     };
     let log = Log::start(rt, alloc, failing, Verbosity::All).ok()?;
-    for event in [
-        LogEvent::Fault(Cause::Io),
-        LogEvent::Halted,
-        LogEvent::Clock,
-    ] {
-        log.note(rt, event);
-    }
+    log.note(rt, first);
+    let has_failed = has_writes(rt, &taken, 1);
+    log.note(rt, OFTEN);
+    let is_ended = has_writes(rt, &taken, 5);
+    log.note(rt, OFTEN);
+    let is_written = has_writes(rt, &taken, 7);
     log.end(rt);
-    let text = text.lock(rt);
+    let text = taken.text.lock(rt);
     let mut lines = text.split(|octet| *octet == b'\n');
-    let is_first = lines.next().map(<[u8]>::len) == Some(FEW);
-    let is_second = ends(lines.next(), b" event=halted");
-    let is_third = ends(lines.next(), b" event=lost lines=1");
-    let is_fourth = ends(lines.next(), b" event=clock");
-    Some(is_first && is_second && is_third && is_fourth)
+    let is_part = lines.next().map(<[u8]>::len) == Some(FEW);
+    let mut are_expected = true;
+    for end in expected {
+        are_expected = ends(lines.next(), end.as_bytes()) && are_expected;
+    }
+    Some(has_failed && is_ended && is_written && is_part && are_expected)
+}
+
+/// Waits until so many writes were made. Answers false at the limit.
+fn has_writes<R: Clock>(rt: &R, taken: &Taken, writes: u64) -> bool {
+    for _ in 0..WAIT_MILLIS {
+        if taken.writes.load(Ordering::SeqCst) >= writes {
+            return true;
+        }
+        thread::sleep(rt, Duration::from_millis(1));
+    }
+    false
+}
+
+/// How many writes a log makes of as many lines as find room while its reader has not come, once it comes.
+pub(crate) fn writes_of_a_full_log<R: Threads + Wait + Clock + Copy + Send + 'static>(
+    rt: &R,
+    alloc: Global,
+) -> Option<u64> {
+    let Play { log, shared } = start_full(rt, alloc)?;
+    shared.is_reading.store(true, Ordering::SeqCst);
+    log.end(rt);
+    if !has_lines(rt, &shared, 1026) {
+        return None;
+    }
+    Some(shared.writes.load(Ordering::SeqCst))
 }
 
 fn ends(line: Option<&[u8]>, end: &[u8]) -> bool {

@@ -1,10 +1,10 @@
 //! The tests of the log.
 
 use crate::logs::{
-    lines_of, never_read, once_of_a_full_log, once_of_an_idle_log, posts_told, read_late,
-    written_in_part,
+    OFTEN, lines_of, never_read, once_of_a_full_log, once_of_an_idle_log, posts_told, read_late,
+    writes_of_a_full_log, written_in_part,
 };
-use server_logging::Verbosity;
+use server_logging::{Cause, LogEvent, Verbosity};
 
 #[test]
 fn a_log_tells_of_lost_lines(rt: HostRuntime) {
@@ -17,9 +17,32 @@ fn no_caller_takes_the_room_of_what_comes_once(rt: HostRuntime) {
     assert_eq!(rt; once_of_an_idle_log(&rt, rt.alloc()), Some(true));
 }
 
+/// The fault has a write of its own, and so have the lost lines. The others are written 256 at a time: among the first is the call that woke
+/// the thread for the fault, so there are five writes of them.
+#[test]
+fn lines_that_are_there_are_written_together(rt: HostRuntime) {
+    assert_eq!(rt; writes_of_a_full_log(&rt, rt.alloc()), Some(7));
+}
+
 #[test]
 fn a_log_tells_of_lines_that_cannot_be_written(rt: HostRuntime) {
-    assert_eq!(rt; written_in_part(&rt, rt.alloc()), Some(true));
+    let ends = [
+        " event=opening step=checking",
+        " event=lost lines=1",
+        " event=opening step=checking",
+    ];
+    assert_eq!(rt; written_in_part(&rt, rt.alloc(), OFTEN, &ends), Some(true));
+}
+
+#[test]
+fn what_comes_once_stays_until_it_is_written(rt: HostRuntime) {
+    let ends = [
+        " event=opening step=checking",
+        " event=fault error=io",
+        " event=opening step=checking",
+    ];
+    let fault = LogEvent::Fault(Cause::Io);
+    assert_eq!(rt; written_in_part(&rt, rt.alloc(), fault, &ends), Some(true));
 }
 
 #[test]

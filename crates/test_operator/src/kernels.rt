@@ -4,8 +4,8 @@ use journal_volume::BatchBuf;
 use kernel_expiring::{AgedArticles, AgedGroup, GonePart};
 use kernel_outbox::ReadyBuf;
 use kernel_shared::{
-    AdminError, ExecError, ExecOutcome, ExpireError, JoinError, Kern, KernelCounts, Obstacle,
-    Receipt, Stale, Ticket,
+    AdminError, Admitted, ExecError, ExecOutcome, ExpireError, Expired, JoinError, Kern,
+    KernelCounts, Obstacle, Receipt, Stale, Ticket,
 };
 use model::{Message, Mode, Moment, Text};
 use std::alloc::Global;
@@ -65,6 +65,8 @@ impl Counting {
 }
 
 impl Kern for Counting {
+    ghost found = { λ _ _ _ _ _. Unit {0} };
+
     fn join<R: Wait>(&self, _rt: &R, _alloc: Global) -> Result<u64, JoinError> {
         Err(JoinError::TooManySessions)
     }
@@ -89,23 +91,38 @@ impl Kern for Counting {
         None
     }
 
+    fn asks_for_few<R: Wait>(
+        &self,
+        _rt: &R,
+        _alloc: Global,
+        _message: &Message,
+        _moment: Moment,
+    ) -> bool {
+        false
+    }
+
     fn give_ready<R: Wait>(&self, _rt: &R, _sid: u64, _into: &mut ReadyBuf) -> bool {
         false
     }
 
-    fn admin<R: Wait>(
+    fn admin<'g, R: Wait>(
         &self,
         _rt: &R,
         _alloc: Global,
-        _group: &GroupRequest,
-    ) -> Result<u64, AdminError> {
+        group: &'g GroupRequest,
+    ) -> Result<Admitted<'g>, AdminError> {
         if self.is_halted.load(Ordering::SeqCst) {
             return Err(AdminError::Halted);
         }
-        Ok(self.count())
+        Ok(Admitted::new(group, self.count()))
     }
 
-    fn expire<R: Wait>(&self, _rt: &R, name: &GroupName, number: u32) -> Result<u64, ExpireError> {
+    fn expire<'n, R: Wait>(
+        &self,
+        _rt: &R,
+        name: &'n GroupName,
+        number: u32,
+    ) -> Result<Expired<'n>, ExpireError> {
         let is_asked = |group: &OldGroup| group.name == name.as_slice() && group.number == number;
         if !GROUPS.iter().any(is_asked) {
             return Err(ExpireError::NotFound);
@@ -113,7 +130,7 @@ impl Kern for Counting {
         if self.is_halted.load(Ordering::SeqCst) {
             return Err(ExpireError::Halted);
         }
-        Ok(self.count())
+        Ok(Expired::new(name, number, self.count()))
     }
 
     fn aged<R: Wait>(&self, _rt: &R, place: usize, wildmat: &Wildmat, since: u64) -> AgedGroup {

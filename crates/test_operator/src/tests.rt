@@ -111,7 +111,7 @@ fn a_refusal_waits_for_the_changes_that_it_may_report(rt: HostRuntime) -> Result
 }
 
 /// The rows with `status`, `stop` and expiries by age.
-const ROWS: [Row; 11] = [
+const ROWS: [Row; 12] = [
     Row {
         name: "what is old is taken out group by group, or listed",
         lines: "expire-older 30\nexpire-older 30 x.old\nlist-older 30 *,!x.old\nexpire-older 36500\nlist-older 1 x.new,y.*\nstop\n",
@@ -172,6 +172,14 @@ const ROWS: [Row; 11] = [
         durable: 5,
         stop: Stop::Asked,
         answers: "1\nstopped\n",
+    },
+    Row {
+        name: "a group has a description that isn't blank",
+        lines: "group x.a y 1\ngroup x.a y 1 \ngroup x.a y 1    \ngroup x.a y 1 \t\ngroup x.a y 1  a \nstop\n",
+        posts: 4,
+        durable: 5,
+        stop: Stop::Asked,
+        answers: "E14 Bad\nE14 Bad\nE14 Bad\nE14 Bad\n1\nstopped\n",
     },
     Row {
         name: "the server is stopped once, and says so twice",

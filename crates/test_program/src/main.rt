@@ -7,7 +7,7 @@
 #![tactic(auto)]
 
 use anyhow::{Result, anyhow};
-use program::{AfterRun, ServeOptions, import, renew, run};
+use program::{AfterRun, Question, ServeOptions, import, renew, run};
 use std::alloc::{AllocError, Global};
 use std::fs::File;
 use std::io::{BufRead, BufReader, BufWriter, Write};
@@ -125,12 +125,26 @@ impl Script {
                 Ok(import(rt, alloc, path, &mut input, output, faults, false))
             }
             AfterRun::Renews(asked) => Ok(renew(rt, alloc, &asked, output, faults, false)),
+            AfterRun::Asks(question) => {
+                describe_question(output, &question)?;
+                Ok(0)
+            }
             AfterRun::Serves(service) => {
                 describe(output, &service)?;
                 Ok(0)
             }
         }
     }
+}
+
+/// Prints what the words ask of a running server.
+fn describe_question<W: Write>(output: &mut W, question: &Question<'_>) -> Result<()> {
+    write!(output, "asks {}", question.socket)?;
+    for word in &question.words {
+        write!(output, " '{word}'")?;
+    }
+    writeln!(output)?;
+    Ok(())
 }
 
 /// Prints which server the words ask for.
@@ -145,12 +159,18 @@ fn describe<W: Write>(output: &mut W, service: &ServeOptions<'_>) -> Result<()> 
     let networks = service.networks.len();
     let quiet = if service.is_quiet { ", quiet" } else { "" };
     write!(output, ", networks {networks}{quiet}")?;
-    write!(output, ", sessions {}", service.sessions)?;
-    if let Some(most) = service.most_from {
+    write!(output, ", sessions {}", service.limits.sessions)?;
+    if let Some(most) = service.limits.most_from {
         write!(output, ", most {most}")?;
+    }
+    if let Some(most) = service.limits.posts_from {
+        write!(output, ", posts {most}")?;
     }
     if let Some(path) = service.metrics {
         write!(output, ", metrics {path}")?;
+    }
+    if let Some(path) = service.control {
+        write!(output, ", control {path}")?;
     }
     writeln!(output)?;
     Ok(())

@@ -2,7 +2,7 @@
 
 use journal_volume::BatchBuf;
 use kernel_shared::{Hooks, Kern};
-use server_releasing::Limits;
+use server_releasing::{Hand, Limits};
 use std::alloc::Global;
 use std::net::{Net, TcpListener, TcpStream};
 use std::sync::Wait;
@@ -50,7 +50,7 @@ fn serve<R: Wait + Clock, K: Kern, H: Hooks>(
     order: Order,
 ) -> Option<()> {
     let Order { then, .. } = order;
-    session.writer().release(session.shared);
+    session.writer().release(session.shared, &mut Hand::new());
     session.asks(b"POST")?;
     if then != Then::Date {
         stop.arm();
@@ -59,11 +59,11 @@ fn serve<R: Wait + Clock, K: Kern, H: Hooks>(
     stop.pass(session.rt(), Point::BeforeThen);
     match then {
         Then::Finish => finish(session, stop)?,
-        Then::End => session.writer().finish(session.shared),
+        Then::End => session.writer().finish(session.shared, &mut Hand::new()),
         Then::Release => {
-            session.writer().release(session.shared);
+            session.writer().release(session.shared, &mut Hand::new());
         }
-        _ => session.writer().send(session.shared),
+        _ => session.writer().send(session.shared, &mut Hand::new()),
     }
     match then {
         Then::Date => ask_for_date(session, stop)?,
@@ -83,12 +83,18 @@ fn finish<R: Wait + Clock, K: Kern, H: Hooks>(
     stop: &Stop,
 ) -> Option<()> {
     for _ in 0..WAITS {
-        if !session.writer().release(session.shared).is_held {
+        if !session
+            .writer()
+            .release(session.shared, &mut Hand::new())
+            .is_held
+        {
             return Some(());
         }
         stop.pass(session.rt(), Point::BeforeWait);
         stop.is_let_go.store(true, Ordering::SeqCst);
-        session.writer().wait_for_release(session.rt());
+        session
+            .writer()
+            .wait_for_release(session.rt(), &mut Hand::new());
     }
     None
 }
@@ -103,7 +109,7 @@ fn ask_for_date<R: Wait + Clock, K: Kern, H: Hooks>(
     wait_for(session.rt(), &stop.is_reached)?;
     stop.is_done.store(true, Ordering::SeqCst);
     session.asks(b"DATE")?;
-    session.writer().send(session.shared);
+    session.writer().send(session.shared, &mut Hand::new());
     Some(())
 }
 
@@ -196,6 +202,6 @@ fn run<'a, R: Threads + Wait + Clock + Sync, K: Kern + Sync, H: Hooks + Sync>(
             )
         },
     );
-    session.writer().end(rt, session.shared.kern);
+    session.writer().end(session.shared, &mut Hand::new());
     is_served.is_some() && is_read
 }

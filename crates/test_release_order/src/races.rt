@@ -2,7 +2,7 @@
 
 use journal_volume::BatchBuf;
 use kernel_shared::{Hooks, Kern, NoHooks, Ticket};
-use server_releasing::Limits;
+use server_releasing::{Hand, Limits};
 use std::alloc::Global;
 use std::net::{Net, TcpListener, TcpStream};
 use std::sync::Wait;
@@ -56,13 +56,13 @@ fn post_all<R: Wait + Clock, K: Kern, H: Hooks>(
     caller: Caller,
 ) -> Option<()> {
     let mut caller = caller;
-    session.writer().release(session.shared);
+    session.writer().release(session.shared, &mut Hand::new());
     if !caller.reads(GREETING) {
         return None;
     }
     for round in 0..ROUNDS {
         session.asks(b"POST")?;
-        session.writer().send(session.shared);
+        session.writer().send(session.shared, &mut Hand::new());
         if round % 3 == 0 {
             session.posts(round)?;
         } else if !session.leaves(round)? {
@@ -71,9 +71,9 @@ fn post_all<R: Wait + Clock, K: Kern, H: Hooks>(
             session.takes_back()?;
         }
         if round % 2 == 0 {
-            session.writer().send(session.shared);
+            session.writer().send(session.shared, &mut Hand::new());
         } else {
-            session.writer().release(session.shared);
+            session.writer().release(session.shared, &mut Hand::new());
         }
         if !caller.reads_all(&REPLIES) {
             return None;

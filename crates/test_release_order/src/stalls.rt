@@ -3,7 +3,7 @@
 use kernel_outbox::ReadyBuf;
 use kernel_shared::{Hooks, Kern, NoHooks};
 use model::{Message, Text};
-use server_releasing::{Limits, Shared};
+use server_releasing::{Hand, Limits, Shared};
 use std::alloc::Global;
 use std::net::{Net, TcpListener, TcpStream};
 use std::sync::Wait;
@@ -60,11 +60,11 @@ pub(crate) fn lets_go<R: Net<Listener = TcpListener, Stream = TcpStream> + Wait 
         journal: &store.journal,
         batch: &store.batch,
     };
-    session.writer().release(&shared);
+    session.writer().release(&shared, &mut Hand::new());
     fill(&stage.near)?;
     session.asks(b"DATE")?;
     let since = Instant::now(rt).ok()?;
-    session.writer().send(&shared);
+    session.writer().send(&shared, &mut Hand::new());
     let waited = since.elapsed(rt).ok()?;
     let is_gone = shared.kern.mode(rt, stage.sid).is_none();
     let mut caller = caller;
@@ -114,7 +114,7 @@ fn send_much<R: Wait + Clock, K: Kern, H: Hooks>(
     session: &Session<'_, R, K, H>,
     stop: &Stop,
 ) -> Option<u64> {
-    session.writer().release(session.shared);
+    session.writer().release(session.shared, &mut Hand::new());
     let filled = fill(&session.stage.near)?;
     stop.is_let_go.store(true, Ordering::SeqCst);
     let reply = reply_octets(session)?;
@@ -122,7 +122,7 @@ fn send_much<R: Wait + Clock, K: Kern, H: Hooks>(
         session.asks(ASKED)?;
     }
     session.asks(b"QUIT")?;
-    session.writer().send(session.shared);
+    session.writer().send(session.shared, &mut Hand::new());
     stop.has_ended.store(true, Ordering::SeqCst);
     let others = (GREETING.len() + BYE.len()) as u64;
     reply

@@ -13,7 +13,7 @@ use model::{Message, Moment, Status, Text};
 use server_flusher::commit_batch;
 use server_metrics::LongestTime;
 use server_releasing::{
-    Limits, ReplyWriter, Shared, TakenBack, Untold, Writers, give_short_writes,
+    Hand, Limits, ReplyWriter, Shared, TakenBack, Untold, Writers, give_short_writes,
 };
 use server_roster::Guest;
 use std::alloc::{AllocError, Global};
@@ -71,7 +71,7 @@ impl Stage {
             since: moment()?,
             socket: ending,
         };
-        writer.begin(rt, guest, writing);
+        writer.begin(rt, &mut Hand::new(), guest, writing);
         let stage = Stage {
             alloc,
             limits,
@@ -257,7 +257,7 @@ impl<'a, R: Wait + Clock, K: Kern, H: Hooks> Session<'a, R, K, H> {
         let text = text(self.shared.alloc, number).ok()?;
         let block = Message::Block(Text::new(text));
         self.writer()
-            .leave(self.rt(), block, Asked::Post, moment()?)
+            .leave(self.rt(), &mut Hand::new(), block, Asked::Post, moment()?)
             .ok()
     }
 
@@ -271,7 +271,7 @@ impl<'a, R: Wait + Clock, K: Kern, H: Hooks> Session<'a, R, K, H> {
 
     /// Takes back an article that was left, and has it answered. Answers false if it was filed before.
     pub fn takes_back(&self) -> Option<bool> {
-        match self.writer().take_back(self.rt())? {
+        match self.writer().take_back(self.rt(), &mut Hand::new())? {
             TakenBack::Block(block) => {
                 self.has_answered(&block)?;
                 Some(true)
@@ -291,7 +291,9 @@ impl<'a, R: Wait + Clock, K: Kern, H: Hooks> Session<'a, R, K, H> {
 
     fn has_answered(&self, message: &Message) -> Option<()> {
         let moment = moment()?;
-        self.writer().answer(self.shared, message, moment).ok()?;
+        self.writer()
+            .answer(self.shared, &mut Hand::new(), message, moment)
+            .ok()?;
         Some(())
     }
 

@@ -6,8 +6,8 @@ use kernel_expiring::{AgedGroup, GonePart};
 use kernel_locked::Locked;
 use kernel_outbox::ReadyBuf;
 use kernel_shared::{
-    AdminError, ExecError, ExecOutcome, ExpireError, JoinError, Kern, KernelCounts, Obstacle,
-    Receipt, Stale, Ticket,
+    AdminError, Admitted, ExecError, ExecOutcome, ExpireError, Expired, JoinError, Kern,
+    KernelCounts, Obstacle, Receipt, Stale, Ticket,
 };
 use model::{Message, Mode, Moment, Text};
 use std::alloc::Global;
@@ -44,6 +44,10 @@ impl<H> Hooked<H> {
 }
 
 impl<H: Hooks> Kern for Hooked<H> {
+    ghost use Rattle.kernel_locked.specs.Locked.{IsFoundAt};
+
+    ghost found = { λ _ place wildmat since group. IsFoundAt place wildmat since group };
+
     fn join<R: Wait>(&self, rt: &R, alloc: Global) -> Result<u64, JoinError> {
         self.inner.join(rt, alloc)
     }
@@ -71,20 +75,35 @@ impl<H: Hooks> Kern for Hooked<H> {
         self.inner.obstacle(rt, id, groups)
     }
 
+    fn asks_for_few<R: Wait>(
+        &self,
+        rt: &R,
+        alloc: Global,
+        message: &Message,
+        moment: Moment,
+    ) -> bool {
+        self.inner.asks_for_few(rt, alloc, message, moment)
+    }
+
     fn give_ready<R: Wait>(&self, rt: &R, sid: u64, into: &mut ReadyBuf) -> bool {
         self.inner.give_ready(rt, sid, into)
     }
 
-    fn admin<R: Wait>(
+    fn admin<'g, R: Wait>(
         &self,
         rt: &R,
         alloc: Global,
-        group: &GroupRequest,
-    ) -> Result<u64, AdminError> {
+        group: &'g GroupRequest,
+    ) -> Result<Admitted<'g>, AdminError> {
         self.inner.admin(rt, alloc, group)
     }
 
-    fn expire<R: Wait>(&self, rt: &R, name: &GroupName, number: u32) -> Result<u64, ExpireError> {
+    fn expire<'n, R: Wait>(
+        &self,
+        rt: &R,
+        name: &'n GroupName,
+        number: u32,
+    ) -> Result<Expired<'n>, ExpireError> {
         self.inner.expire(rt, name, number)
     }
 

@@ -9,7 +9,7 @@ use disk_file::Counts;
 use journal::Journal;
 use journal_volume::BatchBuf;
 use kernel_shared::{Hooks, Kern, KernelCounts, NoHooks, SESSIONS};
-use server::{Limits, MetricsFile, ServeError, Server, serve};
+use server::{Limits, Manager, MetricsFile, Pace, ServeError, ServedFile, Server, serve};
 use server_flusher::{TurnSeat, flush_turn};
 use server_logging::{Log, Verbosity, beginning_of_1970};
 use server_mark::{FlushSeat, Mark, Seat};
@@ -17,6 +17,7 @@ use std::alloc::{AllocError, Global};
 use std::fs::File;
 use std::io::{self, BufRead, Write};
 use std::net::{Net, TcpListener, TcpStream};
+use std::os::unix::net::UnixListener;
 use std::rt::Files;
 use std::sync::{Arc, Wait};
 use std::thread::Threads;
@@ -270,8 +271,32 @@ fn serve_parts<
         hooks,
         limits,
         metrics: for_nobody(),
+        file: unwatched(),
+        control: unattended(),
+        manager: unmanaged(),
+        pace: unpaced(),
     };
     serve(rt, alloc, server, lines, answers)
+}
+
+/// No file that is watched.
+fn unwatched<'a>() -> Option<&'a ServedFile> {
+    None
+}
+
+/// No limit of articles.
+fn unpaced<'a>() -> Option<&'a Pace> {
+    None
+}
+
+/// No listener for consoles.
+fn unattended<'a>() -> Option<&'a UnixListener> {
+    None
+}
+
+/// No service manager.
+fn unmanaged<'a>() -> Option<&'a Manager> {
+    None
 }
 
 /// No file for a monitor.

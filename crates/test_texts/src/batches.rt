@@ -2,14 +2,16 @@
 
 use std::alloc::Global;
 use test_support_data::{Answer, Area, Arguments, RowError};
-use text_rnews::{BatchError, BatchReader, BatchRefusal, TEXT_LIMIT, entry, with_crlf, with_lf};
+use text_rnews::{
+    BatchError, BatchReader, BatchRefusal, Member, TEXT_LIMIT, entry, with_crlf, with_lf,
+};
 
 #[derive(Drop)]
 pub struct Batches;
 
 impl Area for Batches {
-    /// `batch SIZE OCTETS`: the texts that are read when the octets arrive in pieces of this size, and the refusal, if
-    /// one ends them. `entry TEXT`: the text in a batch. `lf TEXT`, `crlf TEXT`: the text with other line ends.
+    /// `batch SIZE OCTETS`: the texts that are read when the octets arrive in pieces of this size, with `long` and its size for
+    /// one that is too long, and the refusal, if one ends them. `entry TEXT`: the text in a batch. `lf TEXT`, `crlf TEXT`: the text with other line ends.
     fn answer(
         &mut self,
         alloc: Global,
@@ -73,7 +75,11 @@ fn answer_texts(
 ) -> Result<Option<BatchRefusal>, RowError> {
     for _ in 0..u64::MAX {
         match reader.next() {
-            Ok(Some(text)) => answer.octets(text.as_slice())?,
+            Ok(Some(Member::Text(text))) => answer.octets(text.as_slice())?,
+            Ok(Some(Member::TooLong(size))) => {
+                answer.word("long")?;
+                answer.number(size)?;
+            }
             Ok(None) => return Ok(None),
             Err(BatchError::Refused(refusal)) => return Ok(Some(refusal)),
             Err(BatchError::Memory) => return Err(RowError::Memory),

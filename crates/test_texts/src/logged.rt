@@ -145,6 +145,7 @@ fn ending_of(word: &str) -> Result<Ending, RowError> {
         "Closed" => Ok(Ending::Closed),
         "Silent" => Ok(Ending::Silent),
         "Stalled" => Ok(Ending::Stalled),
+        "Slow" => Ok(Ending::Slow),
         "Failed" => Ok(Ending::Failed),
         "Http" => Ok(Ending::Http),
         "Memory" => Ok(Ending::Memory),

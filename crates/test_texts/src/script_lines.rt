@@ -1,7 +1,7 @@
 //! How the lines of a script are read, and how octets are printed.
 
 use model::Status;
-use program_script::{Line, ParseError, days, escaped, number, parse};
+use program_script::{Line, ParseError, days, escaped, is_blank, number, parse};
 use std::alloc::{AllocError, Global};
 use test_support_data::{Answer, Area, Arguments, RowError};
 
@@ -9,7 +9,7 @@ use test_support_data::{Answer, Area, Arguments, RowError};
 pub struct ScriptLines;
 
 impl Area for ScriptLines {
-    /// `parse LINE`: what the line asks for. `number WORD`, `days WORD`. `escaped OCTETS`: the octets as they are printed.
+    /// `parse LINE`: what the line asks for. `number WORD`, `days WORD`. `blank TEXT`: whether it shows nothing. `escaped OCTETS`: the octets as they are printed.
     fn answer(
         &mut self,
         alloc: Global,
@@ -22,6 +22,7 @@ impl Area for ScriptLines {
             "parse" => answer_parsed(alloc, octets.as_slice(), answer),
             "number" => Ok(answer.found(number(octets.as_slice()))?),
             "days" => Ok(answer.found(days(octets.as_slice()))?),
+            "blank" => Ok(answer.is(is_blank(octets.as_slice()))?),
             "escaped" => Ok(answer.octets(escaped(alloc, octets.as_slice())?.as_slice())?),
             _ => Err(RowError::Unreadable),
         }

@@ -30,8 +30,9 @@ impl States {
 }
 
 impl Area for States {
-    /// `state HOST FORMAT BLOCKS INODES CHANGES GONE TEXTS SPARE`: a state; of blocks and inodes the number of those that are
-    /// used, and of all; last the articles that are gone, those of them with a text, and the blocks of these. `group NAME LOW HIGH COUNT STATUS OVERVIEW`: a group in it. `table` and `json` print it.
+    /// `state HOST FORMAT BLOCKS INODES CHANGES GONE TEXTS OCTETS`: a state; of blocks and inodes the number of those that are
+    /// used, and of all; last the articles that are gone, those of them with a text, and the octets that these give back.
+    /// `group NAME LOW HIGH COUNT STATUS OVERVIEW`: a group in it. `table` and `json` print it.
     fn answer(
         &mut self,
         alloc: Global,
@@ -76,7 +77,7 @@ fn read_gone(arguments: &mut Arguments<'_>) -> Result<Gone, RowError> {
     Ok(Gone {
         articles: arguments.number()?,
         texts: arguments.number()?,
-        blocks: arguments.number()?,
+        octets: arguments.number()?,
     })
 }
 

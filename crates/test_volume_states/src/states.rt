@@ -6,22 +6,30 @@ use spool_reading::ReadSpoolError;
 use std::alloc::Global;
 use std::test::Fail;
 use test_support_spool::{Call, Sent};
-use volume_states::{GroupStatus, VolumeStatus};
+use volume_states::{Gone, GroupStatus, VolumeStatus};
 
 const HOST: &[u8] = b"news.example";
 
 /// A group: its name, its lowest and its highest number, the number of articles, its status, the octets of its overview.
 type GroupRow = (&'static str, u64, u64, u64, Status, u32);
 
-/// The name of a row, the changes, the used blocks, the used inodes, the number of changes, and the groups.
+/// The name of a row, the changes, the used blocks, the used inodes, the number of changes, what is gone, and the groups.
 type Row = (
     &'static str,
     &'static [Call<'static>],
     u32,
     u32,
     u64,
+    Gone,
     &'static [GroupRow],
 );
+
+/// No article is gone.
+const NONE: Gone = Gone {
+    articles: 0,
+    texts: 0,
+    octets: 0,
+};
 
 /// An article of another host in x.a.
 const FIRST: Call<'static> = Call::Post(Sent {
@@ -45,13 +53,14 @@ const IN_BOTH: Call<'static> = Call::Post(Sent {
 });
 
 const ROWS: &[Row] = &[
-    ("no change", &[], 4, 0, 0, &[]),
+    ("no change", &[], 4, 0, 0, NONE, &[]),
     (
         "a group without articles",
         &[Call::Add("x.a", Status::Open, "test")],
         5,
         3,
         1,
+        NONE,
         &[("x.a", 1, 0, 0, Status::Open, 0)],
     ),
     (
@@ -64,6 +73,7 @@ const ROWS: &[Row] = &[
         9,
         7,
         3,
+        NONE,
         &[
             ("x.b", 1, 0, 0, Status::Closed, 0),
             ("x.a", 1, 1, 1, Status::Open, 72),
@@ -82,6 +92,12 @@ const ROWS: &[Row] = &[
         14,
         10,
         6,
+        // 146 octets of text, 85 of its husk, and 17
+        Gone {
+            articles: 1,
+            texts: 1,
+            octets: 44,
+        },
         &[
             ("x.a", 2, 3, 2, Status::Open, 219),
             ("x.b", 1, 1, 1, Status::Open, 75),
@@ -98,6 +114,11 @@ const ROWS: &[Row] = &[
         10,
         6,
         4,
+        Gone {
+            articles: 2,
+            texts: 2,
+            octets: 88,
+        },
         &[("x.a", 3, 2, 0, Status::Open, 144)],
     ),
 ];
@@ -118,12 +139,13 @@ fn is_group(group: &GroupStatus, row: &GroupRow) -> bool {
 
 /// Whether a state is that of a row, in a volume of this format.
 fn is_state(state: &VolumeStatus, row: &Row, format: u32) -> bool {
-    let (_, _, blocks, inodes, changes, groups) = *row;
+    let (_, _, blocks, inodes, changes, gone, groups) = *row;
     state.host.as_slice() == HOST
         && state.format == format
         && (state.blocks.all, state.blocks.used) == (1024, blocks)
         && (state.inodes.all, state.inodes.used) == (64, inodes)
         && state.changes == changes
+        && state.gone == gone
         && state.groups.len() == groups.len()
         && state
             .groups

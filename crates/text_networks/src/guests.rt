@@ -159,7 +159,7 @@ fn same_guest(a: Guest, b: Guest) -> bool
 
 /// Whether two addresses count as one. Of an IPv6 address the first 64 bits count, since whoever has one of these has
 /// them all (RFC 6177). An IPv4-mapped address counts as the IPv4 address.
-fn same_home(a: IpAddr, b: IpAddr) -> bool
+pub fn same_home(a: IpAddr, b: IpAddr) -> bool
     ensures { result ≡ same_home a b }
 {
     match (a.to_canonical(), b.to_canonical()) {

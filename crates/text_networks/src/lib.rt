@@ -12,6 +12,6 @@ mod proxies;
 
 pub use callers::{is_loopback, may_call};
 pub use endpoints::read_endpoint;
-pub use guests::{Guest, Guests, NoSeat};
+pub use guests::{Guest, Guests, NoSeat, same_home};
 pub use prefixes::Network;
 pub use proxies::{PROXY_LINE, Proxied, read_proxy_line};

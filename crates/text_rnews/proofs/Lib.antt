@@ -1,3 +1,4 @@
+pub mod Passing
 pub mod Fronts
 pub mod ReadBack
 pub mod Lines

@@ -1,25 +1,27 @@
 -- What holds for batches.
-use Rattle.std.specs.Prelude.{◌≡◌, ◌≤◌, ◌++◌, All, List, length, Some, Ok, Err}
-use Rattle.model.specs.Stream.{Octets, block_limit}
-use Rattle.text_rnews.specs.Batch.{batch, next, IsReadAs}
+use Rattle.std.specs.Prelude.{◌≡◌, ◌<◌, ◌^◌, All, List, length, map, Some, Ok, Err}
+use Rattle.model.specs.Stream.{Octets}
+use Rattle.text_rnews.specs.Batch.{Member, Unread, batch, fed, member, next, whole, IsReadAs}
 use Rattle.text_rnews.specs.declared.rnews_batches.BatchCause.{BatchCause}
 
--- a text that an article may have
-abbrev pub IsShort : Octets → Type 0
-IsShort text = length text ≤ block_limit
+-- a text whose number of octets a header line can state
+abbrev pub IsStated : Octets → Type 0
+IsStated text = length text < 10 ^ 16
 
--- a batch is read as the texts that were written
+-- a batch is read as the texts that were written, and one that is too long as the number of its octets
 abbrev pub IsReadBack : Type 0
-IsReadBack = (texts : List Octets) → All IsShort texts → IsReadAs texts (batch texts)
+IsReadBack = (texts : List Octets) → All IsStated texts → IsReadAs (map member texts) (whole (batch texts))
 
--- octets are read as at most one list of texts
+-- octets are read as at most one list of members
 abbrev pub IsReadAsOne : Type 0
-IsReadAsOne = (texts others : List Octets) (octets : Octets) → IsReadAs texts octets → IsReadAs others octets → texts ≡ others
+IsReadAsOne = (members others : List Member) (unread : Unread) → IsReadAs members unread → IsReadAs others unread → members ≡ others
 
--- the text found in the octets that have arrived is also the one found in all octets
-abbrev pub TextStays : Type 0
-TextStays = (octets more text rest : Octets) → next octets ≡ Ok (Some (text, rest)) → next (octets ++ more) ≡ Ok (Some (text, rest ++ more))
+-- the member found in the octets that have arrived is also the one found in all octets
+abbrev pub MemberStays : Type 0
+MemberStays =
+    (unread later : Unread) (m : Member) (more : Octets) → next unread ≡ Ok (Some (m, later)) →
+    next (fed unread more) ≡ Ok (Some (m, fed later more))
 
 -- the cause of a refusal found in the octets that have arrived is also the one found in all octets
 abbrev pub CauseStays : Type 0
-CauseStays = (octets more : Octets) (cause : BatchCause) → next octets ≡ Err cause → next (octets ++ more) ≡ Err cause
+CauseStays = (unread : Unread) (more : Octets) (cause : BatchCause) → next unread ≡ Err cause → next (fed unread more) ≡ Err cause

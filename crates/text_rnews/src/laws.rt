@@ -1,13 +1,14 @@
 //! What holds for batches and for line ends.
 
-ghost use Rattle.text_rnews.specs.Laws.{IsReadBack, IsReadAsOne, TextStays, CauseStays};
+ghost use Rattle.text_rnews.specs.Laws.{IsReadBack, IsReadAsOne, MemberStays, CauseStays};
 ghost use Rattle.text_rnews.specs.LineEnds.{LinesGetLf, LinesGetCrlf, CrlfStays};
 
-/// A batch is read as the texts that were written and as no others, whatever pieces it arrives in.
+/// A batch is read as the texts that were written and as no others, whatever pieces it arrives in. Of one that is too long the number of
+/// its octets is read.
 pub fn batches_are_read_back()
     ensures back { IsReadBack }
     ensures one { IsReadAsOne }
-    ensures text { TextStays }
+    ensures member { MemberStays }
     ensures cause { CauseStays }
 {}
 

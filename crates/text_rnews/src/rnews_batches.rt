@@ -9,7 +9,7 @@ use std::alloc::{AllocError, Global};
 use text_names::number_of;
 use thiserror::Error;
 
-/// The octets of the longest text.
+/// The octets of the longest text that may be an article.
 pub const TEXT_LIMIT: usize = 262_144;
 
 /// What each header line begins with.
@@ -27,9 +27,6 @@ pub enum BatchCause {
     /// The length in a header line is not 1 to 16 digits.
     #[error("the length is no number")]
     NoNumber,
-    /// The length in a header line is above that of the longest text.
-    #[error("an article of more than 262144 octets")]
-    TooLong,
     /// The octets end within a header line or a text.
     #[error("the batch is cut short")]
     CutShort,
@@ -47,12 +44,20 @@ pub fn entry(alloc: Global, text: &[u8]) -> Result<Vec<u8>, AllocError>
     Ok(octets)
 }
 
-/// Where the first text of a batch begins and ends, or `None` if more octets are needed. `Err` if no batch begins with
-/// these octets, or its first text is too long.
-#[tactic(auto, unfolding(crate::specs::Batch::next))]
-pub fn find_text(octets: &[u8]) -> Result<Option<(usize, usize)>, BatchCause>
-    ensures found { IfOk result (λ found. MatchOption found (batch.next octets.now ≡ Ok None) (batch.IsFirstText octets.now)) }
-    ensures err { IfErr result (λ cause. batch.next octets.now ≡ Err cause) }
+/// Where the first text of a batch stands.
+#[derive(Clone, Copy, Debug, PartialEq, Eq)]
+pub enum Front {
+    /// It begins and ends at these places.
+    Text(usize, usize),
+    /// It begins at this place, and has so many octets, which are too many for an article.
+    TooLong(usize, u64),
+}
+
+/// Where the first text of a batch stands, or `None` if more octets are needed. `Err` if no batch begins with these octets.
+#[tactic(auto, unfolding(crate::specs::Batch::first))]
+pub fn find_text(octets: &[u8]) -> Result<Option<Front>, BatchCause>
+    ensures found { IfOk result (λ found. MatchOption found (batch.first octets.now ≡ Ok None) (batch.IsFront octets.now)) }
+    ensures err { IfErr result (λ cause. batch.first octets.now ≡ Err cause) }
 {
     let end = line_length(octets);
     if end >= octets.len() {
@@ -60,10 +65,14 @@ pub fn find_text(octets: &[u8]) -> Result<Option<(usize, usize)>, BatchCause>
     }
     let start = end + 1;
     let size = size_of(&octets[..end])?;
+    if size > TEXT_LIMIT as u64 {
+        return Ok(Some(Front::TooLong(start, size)));
+    }
+    let size = size as usize;
     if size > octets.len() - start {
         return Ok(None);
     }
-    Ok(Some((start, start + size)))
+    Ok(Some(Front::Text(start, start + size)))
 }
 
 /// The number of octets before the first LF, or of all octets if they have no LF; at most 26.
@@ -89,7 +98,7 @@ fn first_octets(octets: &[u8]) -> &[u8]
 }
 
 /// The size that a header line names.
-fn size_of(line: &[u8]) -> Result<usize, BatchCause>
+fn size_of(line: &[u8]) -> Result<u64, BatchCause>
     ensures { result ≡ batch.size_of line.now }
 {
     if !line.starts_with(KEYWORD) {
@@ -97,7 +106,6 @@ fn size_of(line: &[u8]) -> Result<usize, BatchCause>
     }
     match number_of(&line[KEYWORD.len()..]) {
         None => Err(BatchCause::NoNumber),
-        Some(size) if size > TEXT_LIMIT as u64 => Err(BatchCause::TooLong),
-        Some(size) => Ok(size as usize),
+        Some(size) => Ok(size),
     }
 }

@@ -3,18 +3,20 @@ use Rattle.std.specs.Prelude.{◌≡◌, ◌⊎◌, ℕ, ◌+◌, ◌-◌, ◌^�
 use Rattle.std.specs.Prelude.{Option, Some, None, Ok}
 use Rattle.std.specs.Io.KnownBytes.{Consumes, IsAtEnd}
 use Rattle.model.specs.Stream.{Octets}
-use Rattle.text_rnews.specs.Batch.{next}
+use Rattle.model.specs.declared.cause.Cause.TheVariants.{Long}
+use Rattle.text_rnews.specs.Batch.{Member, Unread, fed, next, text, too_long, whole}
 use Rattle.text_rnews.specs.LineEnds.{with_crlf}
 use Rattle.spool.specs.View.{SpoolView}
 use Rattle.volume_store.specs.Filing.{Becomes}
 use Rattle.volume_store.specs.declared.outcome.TextOutcome.{TextOutcome}
 use Rattle.volume_store.specs.declared.outcome.TextOutcome.TheVariants.{Filed, Here, NoGroup, Refused, Full}
+use Rattle.volume_store.specs.declared.outcome.TextRefusal.TheVariants.{NotAnArticle}
 use Rattle.volume_importing.specs.declared.batch_filing.ImportCounts.{ImportCounts}
 use Rattle.volume_importing.specs.declared.batch_filing.ImportStop.{ImportStop}
 
--- a text of a batch, the moment at which it was filed, and what became of it
+-- a member of a batch, the moment at which it was tried, and what became of it
 pub record Tried : Type 0 where
-  pub text : Octets
+  pub member : Member
   pub moment : ℕ
   pub outcome : TextOutcome
 
@@ -22,16 +24,21 @@ pub record Tried : Type 0 where
 abbrev pub IsSame : SpoolView → SpoolView → Type 0
 IsSame old new = new ≡ record old { dirty = new.dirty }
 
--- each text was tried in turn, on what those before it had left
+-- a text is filed as a transfer would be, with lines that end in CRLF; one that is too long is refused
+abbrev pub BecomesOf : SpoolView → SpoolView → Member → ℕ → TextOutcome → Type 0
+BecomesOf old new (text octets) moment outcome = Becomes old new (with_crlf octets) moment outcome
+BecomesOf old new (too_long size) moment outcome = (outcome ≡ Refused (NotAnArticle Long)) × (new ≡ old)
+
+-- each member was tried in turn, on what those before it had left
 abbrev pub Tries : SpoolView → List Tried → SpoolView → Type 0
 Tries old [] new = IsSame old new
 Tries old (t ∷ more) new =
-    (now next : SpoolView) × IsSame old now × Becomes now next (with_crlf t.text) t.moment t.outcome × Tries next more new
+    (now later : SpoolView) × IsSame old now × BecomesOf now later t.member t.moment t.outcome × Tries later more new
 
--- a batch that begins with these octets begins with these texts, and these octets are left
-abbrev pub IsReadTo : List Octets → Octets → Octets → Type 0
-IsReadTo [] octets left = octets ≡ left
-IsReadTo (text ∷ texts) octets left = (rest : Octets) × (next octets ≡ Ok (Some (text, rest))) × IsReadTo texts rest left
+-- what is unread begins with these members, and this is left
+abbrev pub IsReadTo : List Member → Unread → Unread → Type 0
+IsReadTo [] unread left = unread ≡ left
+IsReadTo (m ∷ members) unread left = (later : Unread) × (next unread ≡ Ok (Some (m, later))) × IsReadTo members later left
 
 -- ---- counts
 
@@ -86,26 +93,26 @@ none_counted = record { filed = 0; here = 0; no_group = 0; refused = 0; by_cause
 abbrev pub IsNoted : ImportCounts → TextOutcome → ImportCounts → Type 0
 IsNoted before outcome after = AreCounted before (outcome ∷ []) after ⊎ ((outcome ≡ Full) × (after ≡ before))
 
--- of these octets some texts were read and tried, in order, and counted
-pub record Imports (old new : SpoolView) (octets left : Octets) (before after : ImportCounts) : Type 0 where
+-- of what is unread some members were read and tried, in order, and counted
+pub record Imports (old new : SpoolView) (unread left : Unread) (before after : ImportCounts) : Type 0 where
   pub tried : List Tried
-  pub read : IsReadTo (map (λ (t : Tried). t.text) tried) octets left
+  pub read : IsReadTo (map (λ (t : Tried). t.member) tried) unread left
   pub filed : Tries old tried new
   pub counted : AreCounted before (map (λ (t : Tried). t.outcome) tried) after
 
 -- of an input with these octets before and after some were read, and of those that were held, the same
-pub record HasRead (old new : SpoolView) (before now : Option (List ℕ)) (held left : Octets) (counts after : ImportCounts) : Type 0 where
+pub record HasRead (old new : SpoolView) (before now : Option (List ℕ)) (held left : Unread) (counts after : ImportCounts) : Type 0 where
   pub octets : Octets
   pub consumed : Consumes before now octets
-  pub imports : Imports old new (held ++ octets) left counts after
+  pub imports : Imports old new (fed held octets) left counts after
 
--- an import from such an input: where it came to no stop, all octets were read, as whole texts
+-- an import from such an input: where it came to no stop, all octets were read, as whole texts and those that are too long
 pub record HasImported (old new : SpoolView) (before now : Option (List ℕ)) (counts : ImportCounts) (stop : Option ImportStop)
     : Type 0 where
-  pub left : Octets
-  pub reads : HasRead old new before now [] left none_counted counts
-  pub ended : stop ≡ None → (left ≡ []) × IsAtEnd now
+  pub left : Unread
+  pub reads : HasRead old new before now (whole []) left none_counted counts
+  pub ended : stop ≡ None → (left ≡ whole []) × IsAtEnd now
 
 -- an import from such an input that failed: what it read, tried and filed until then
 abbrev pub HasTried : SpoolView → SpoolView → Option (List ℕ) → Option (List ℕ) → Type 0
-HasTried old new before now = (left : Octets) × (counts : ImportCounts) × HasRead old new before now [] left none_counted counts
+HasTried old new before now = (left : Unread) × (counts : ImportCounts) × HasRead old new before now (whole []) left none_counted counts

@@ -1,20 +1,23 @@
 //! Files the texts of a batch, in order.
 
-ghost use Rattle.std.specs.Prelude.{◌≡◌, ◌≢◌, ◌∷◌, ◌++◌, ◌<◌, [], IfOk, List, None, Ok, OnErr, OnOk, false, length, true, ℕ};
+ghost use Rattle.std.specs.Prelude.{◌≡◌, ◌≢◌, ◌∷◌, ◌<◌, [], IfOk, List, None, Ok, OnErr, OnOk, false, length, true, ℕ};
 ghost use Rattle.std.specs.Io.KnownBytes.{Consumes, IsAtEnd};
-ghost use Rattle.volume_importing.specs.Imported.{AreCounted, HasImported, HasRead, HasTried, Imports, IsNoted, IsSame, is_refused};
+ghost use Rattle.volume_importing.specs.Imported.{AreCounted, BecomesOf, HasImported, HasRead, HasTried, Imports, IsNoted, IsSame, is_refused};
+ghost use Rattle.text_rnews.specs.Batch.{Unread, fed, whole};
+ghost use Rattle.text_rnews.specs.Held.{handed_out};
+ghost use Rattle.spool.specs.View.{SpoolView};
 ghost use Rattle.volume_store.specs.Saved.{GoesOn, IsSaved};
 ghost use Rattle.volume_store.specs.declared.outcome.TextOutcome.{TextOutcome};
 
 use disk::Disk;
 use journal::JournalError;
-use model::Moment;
+use model::{Cause, Moment};
 use std::alloc::{AllocError, Global};
 use std::fmt::{self, Display, Formatter};
 use std::io::{self, ErrorKind, Read};
-use text_rnews::{BatchError, BatchReader, BatchRefusal};
+use text_rnews::{BatchError, BatchReader, BatchRefusal, Member};
 use thiserror::Error;
-use volume_store::{CAUSES, FULL_GROUP, Lack, Store, TextOutcome, words_at};
+use volume_store::{CAUSES, FULL_GROUP, Lack, Store, TextOutcome, TextRefusal, words_at};
 
 /// The most octets that are read at once.
 const PIECE: usize = 65_536;
@@ -179,7 +182,7 @@ impl Batch {
 
     /// Why the import stops at the end of its input, if the reader still has octets.
     fn end(&self) -> Option<ImportStop>
-        ensures { result ≡ None → self.now.reader.rest ≡ [] }
+        ensures { result ≡ None → self.now.reader.unread ≡ whole [] }
     {
         match self.reader.end() {
             Ok(()) => None,
@@ -190,7 +193,8 @@ impl Batch {
 
 /// Files the texts of a batch, in order, each at the moment at which its last octet was read. It ends with a report at
 /// the end of the batch, and also if the octets stop being a batch, a stream fails, or the volume has no room for a
-/// text; what it filed is durable then. If only one of a text's groups is full, the text is refused.
+/// text; what it filed is durable then. If only one of a text's groups is full, the text is refused; so is one that is too long for an
+/// article, as soon as its header line is read, and its octets are passed over as they come.
 ///
 /// `Memory` (E2) if an allocation was refused, and `Device` if the device failed or had failed before; then the changes
 /// are those of the first texts, after the ones that were there. A crash at any moment, also within a call of the device,
@@ -227,9 +231,9 @@ fn file_all<D: Disk, I: Read, W: Watcher>(
     input: &mut I,
     watcher: &mut W,
 ) -> Result<Option<ImportStop>, ImportError>
-    ensures read { (left : List ℕ) × HasRead store.old.spool store.new.spool (I.remaining input.old)
-        (I.remaining input.new) batch.old.reader.rest left batch.old.counts batch.new.counts
-        × (result ≡ Ok None → (left ≡ []) × IsAtEnd (I.remaining input.new)) }
+    ensures read { (left : Unread) × HasRead store.old.spool store.new.spool (I.remaining input.old)
+        (I.remaining input.new) batch.old.reader.unread left batch.old.counts batch.new.counts
+        × (result ≡ Ok None → (left ≡ whole []) × IsAtEnd (I.remaining input.new)) }
     ensures goes_on { GoesOn D.device store.old store.new }
 {
     let mut piece = vec![in alloc; 0; PIECE]?;
@@ -260,7 +264,7 @@ fn read_piece<I: Read>(
     room: &mut [u8],
 ) -> io::Result<usize>
     ensures read { IfOk result (λ n. (piece : List ℕ) × Consumes (I.remaining input.old) (I.remaining input.new) piece
-        × (reader.new.rest ≡ reader.old.rest ++ piece) × (n ≡ 0 → 0 < length room.old → IsAtEnd (I.remaining input.new))) }
+        × (reader.new.unread ≡ fed reader.old.unread piece) × (n ≡ 0 → 0 < length room.old → IsAtEnd (I.remaining input.new))) }
     ensures failed { OnErr result ((piece : List ℕ) × Consumes (I.remaining input.old) (I.remaining input.new) piece
         × (reader.new ≡ reader.old)) }
     ensures room { length room.new ≡ length room.old }
@@ -281,7 +285,7 @@ fn stream_stop(octet: u64, error: io::Error) -> Result<Option<ImportStop>, Impor
     }
 }
 
-/// Files the texts of which all octets have been read. Answers why the import stops, if it does.
+/// Files the texts of which all octets have been read, and refuses those that are too long. Answers why the import stops, if it does.
 fn file_ready<D: Disk, W: Watcher>(
     alloc: Global,
     store: &mut Store<D>,
@@ -289,28 +293,48 @@ fn file_ready<D: Disk, W: Watcher>(
     watcher: &mut W,
 ) -> Result<Option<ImportStop>, ImportError>
     ensures going { IfOk result (λ stop. stop ≡ None → Imports store.old.spool store.new.spool
-        batch.old.reader.rest batch.new.reader.rest batch.old.counts batch.new.counts) }
-    ensures tried { (left : List ℕ) × Imports store.old.spool store.new.spool
-        batch.old.reader.rest left batch.old.counts batch.new.counts }
+        batch.old.reader.unread batch.new.reader.unread batch.old.counts batch.new.counts) }
+    ensures tried { (left : Unread) × Imports store.old.spool store.new.spool
+        batch.old.reader.unread left batch.old.counts batch.new.counts }
     ensures goes_on { GoesOn D.device store.old store.new }
 {
     let moment = watcher.moment();
     'texts: for _ in 0..u64::MAX {
         let place = batch.place();
-        let text = match batch.reader.next() {
-            Ok(Some(text)) => text,
+        let member = match batch.reader.next() {
+            Ok(Some(member)) => member,
             Ok(None) => break,
             Err(BatchError::Refused(refusal)) => return Ok(Some(ImportStop::NotABatch(refusal))),
             Err(BatchError::Memory) => return Err(ImportError::Memory),
         };
-        store.make_room()?;
-        let outcome = store.file(alloc, &text, moment)?;
+        let outcome = file_member(alloc, store, &member, moment)?;
         let stop = note(store, &mut batch.counts, watcher, place, outcome)?;
         if stop.is_some() {
             return Ok(stop);
         }
     }
     Ok(None)
+}
+
+/// Files a text that was read, unless it is too long.
+fn file_member<D: Disk>(
+    alloc: Global,
+    store: &mut Store<D>,
+    member: &Member,
+    moment: Moment,
+) -> Result<TextOutcome, ImportError>
+    ensures ok { IfOk result (λ outcome. (now : SpoolView) × IsSame store.old.spool now
+        × BecomesOf now store.new.spool (handed_out member.now) moment outcome) }
+    ensures err { OnErr result (IsSame store.old.spool store.new.spool) }
+    ensures goes_on { GoesOn D.device store.old store.new }
+{
+    match member {
+        Member::Text(text) => {
+            store.make_room()?;
+            Ok(store.file(alloc, text, moment)?)
+        }
+        Member::TooLong(_) => Ok(TextOutcome::Refused(TextRefusal::NotAnArticle(Cause::Long))),
+    }
 }
 
 /// Counts what became of a text, and tells the watcher if it was refused. Answers why the import stops, if it does.

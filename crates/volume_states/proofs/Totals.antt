@@ -20,14 +20,14 @@ count_more all more sum old new is before one = λ fits.
 
 pub gone_more : (S : Spool) (n : ℕ) (old share new : Gone) → share ≡ share_with S (n + 1)
     → Counts new.articles (old.articles + share.articles) → Counts new.texts (old.texts + share.texts)
-    → Counts new.blocks (old.blocks + share.blocks) → IsGoneUpTo S n old → IsGoneUpTo S (n + 1) new
-gone_more S n old share new is articles texts blocks before =
+    → Counts new.octets (old.octets + share.octets) → IsGoneUpTo S n old → IsGoneUpTo S (n + 1) new
+gone_more S n old share new is articles texts octets before =
     let same : share_with S (n + 1) ≡ share = sym is in
     record {
       articles = count_more _ share.articles _ _ _
           (total_more (λ s. s.articles) S n ∙ ap (λ (s : Gone). total (λ s. s.articles) S n + s.articles) same) before.articles articles;
       texts = count_more _ share.texts _ _ _
           (total_more (λ s. s.texts) S n ∙ ap (λ (s : Gone). total (λ s. s.texts) S n + s.texts) same) before.texts texts;
-      blocks = count_more _ share.blocks _ _ _
-          (total_more (λ s. s.blocks) S n ∙ ap (λ (s : Gone). total (λ s. s.blocks) S n + s.blocks) same) before.blocks blocks;
+      octets = count_more _ share.octets _ _ _
+          (total_more (λ s. s.octets) S n ∙ ap (λ (s : Gone). total (λ s. s.octets) S n + s.octets) same) before.octets octets;
     }

@@ -1,5 +1,5 @@
 -- The articles of a spool that are in none of their groups any more, and what a renewal gives back of them.
-use Rattle.std.specs.Prelude.{◌≡◌, ℕ, ◌-◌, ◌<◌, ◌/◌, ◌^◌, if◌then◌else◌, nat_lt, List, [], length, map, is_some, option_map, unwrap_or}
+use Rattle.std.specs.Prelude.{◌≡◌, ℕ, ◌-◌, ◌<◌, ◌^◌, if◌then◌else◌, nat_lt, List, [], length, map, is_some, option_map, unwrap_or}
 use Rattle.std.specs.List.{range_with_len, sum_by}
 use Rattle.session_lookups.specs.Held.{article_with, gone_with, text_of}
 use Rattle.model.specs.Article.{id}
@@ -8,16 +8,17 @@ use Rattle.model.specs.Stream.{Octets}
 use Rattle.model_renewed.specs.Renewed.{husk}
 use Rattle.volume_states.specs.declared.state.Gone.{Gone}
 
--- an article that is gone counts as a text if it is longer than its husk. A husk takes one block at most, and the text these more at least
+-- an article that is gone counts as a text if it is longer than its husk. In the pack the husk takes 17 octets beside its own, and the text has
+-- these more at least, wherever it stands
 abbrev pub share_of : Octets → List Octets → Gone
 share_of text groups = record {
   articles = 1;
   texts = if nat_lt (length (husk (id text) groups)) (length text) then 1 else 0;
-  blocks = (length text - 1) / 4096;
+  octets = (length text - length (husk (id text) groups)) - 17;
 }
 
 abbrev pub nothing : Gone
-nothing = record { articles = 0; texts = 0; blocks = 0 }
+nothing = record { articles = 0; texts = 0; octets = 0 }
 
 -- the groups in which the article with this serial was filed
 abbrev pub groups_filed : Spool → ℕ → List Octets
@@ -39,7 +40,7 @@ Counts count all = all < 2 ^ 64 → count ≡ all
 pub record IsGoneUpTo (S : Spool) (n : ℕ) (g : Gone) : Type 0 where
   pub articles : Counts g.articles (total (λ s. s.articles) S n)
   pub texts : Counts g.texts (total (λ s. s.texts) S n)
-  pub blocks : Counts g.blocks (total (λ s. s.blocks) S n)
+  pub octets : Counts g.octets (total (λ s. s.octets) S n)
 
 abbrev pub IsGone : Spool → Gone → Type 0
 IsGone S g = IsGoneUpTo S (length S) g

@@ -1,6 +1,6 @@
 -- The state of a volume as JSON data. The members of an object are in the order of their keys.
 use Rattle.model.specs.Files.{largest_file}
-use Rattle.std.specs.Prelude.{ℕ, ◌-◌, List, [], ◌∷◌, codes, map}
+use Rattle.std.specs.Prelude.{ℕ, ◌-◌, ◌/◌, List, [], ◌∷◌, codes, map}
 use Rattle.std.specs.Str.Lossy.{utf8_lossy}
 use Rattle.model.specs.Room.{octets_asked}
 use Rattle.model.specs.Spool.{status_octet}
@@ -30,7 +30,7 @@ share_data s =
 abbrev pub gone_data : Gone → Data
 gone_data g =
     object (member (codes "articles") (natural g.articles)
-    (member (codes "blocks") (natural g.blocks)
+    (member (codes "blocks") (natural (g.octets / 4096))
     (member (codes "texts") (natural g.texts)
     no_members)))
 

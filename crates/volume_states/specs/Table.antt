@@ -38,7 +38,7 @@ share_text s =
 
 abbrev pub gone_text : Gone → Octets
 gone_text g =
-    decimal g.articles ++ codes " articles; of " ++ decimal g.texts ++ codes " a renewal gives back " ++ decimal g.blocks
+    decimal g.articles ++ codes " articles; of " ++ decimal g.texts ++ codes " a renewal gives back " ++ decimal (g.octets / 4096)
     ++ codes " blocks or more"
 
 abbrev pub facts : VolumeStatus → Octets

@@ -1,6 +1,6 @@
 //! The articles of a spool that are in none of their groups any more, and what a renewal gives back of them.
 
-ghost use Rattle.std.specs.Prelude.{◌≡◌, ◌+◌, ◌-◌, ◌<◌, ◌/◌, ◌^◌, IfOk, if◌then◌else◌, length, nat_lt};
+ghost use Rattle.std.specs.Prelude.{◌≡◌, ◌+◌, ◌-◌, ◌<◌, ◌^◌, IfOk, if◌then◌else◌, length, nat_lt};
 ghost use Rattle.spool_index.specs.View.{Indexes};
 ghost use Rattle.model.specs.Lawful.{IsLawful};
 ghost use Rattle.model.specs.Spool.{Spool};
@@ -14,14 +14,14 @@ use spool_index::Index;
 use std::alloc::{AllocError, Global};
 use text_husks::husk;
 
-/// The octets of a block.
-const BLOCK: u64 = 4096;
+/// The octets that a file with the name of an article's takes in the pack beside its content: a length, the name, a length.
+const HEAD: u64 = 17;
 
 /// No article.
 const NOTHING: Gone = Gone {
     articles: 0,
     texts: 0,
-    blocks: 0,
+    octets: 0,
 };
 
 /// The articles that are gone.
@@ -57,7 +57,7 @@ fn share_of(alloc: Global, id: &[u8], size: u64, groups: &[Text]) -> Result<Gone
     ensures { IfOk result (λ share. share ≡ record {
       articles = 1;
       texts = if nat_lt (length (husk_text id.now groups.now)) size then 1 else 0;
-      blocks = (size - 1) / 4096;
+      octets = (size - length (husk_text id.now groups.now)) - 17;
     }) }
 {
     let husk = husk(alloc, id, groups)?;
@@ -65,7 +65,7 @@ fn share_of(alloc: Global, id: &[u8], size: u64, groups: &[Text]) -> Result<Gone
     Ok(Gone {
         articles: 1,
         texts: if is_longer { 1 } else { 0 },
-        blocks: size.saturating_sub(1) / BLOCK,
+        octets: size.saturating_sub(husk.len() as u64).saturating_sub(HEAD),
     })
 }
 
@@ -73,11 +73,11 @@ fn share_of(alloc: Global, id: &[u8], size: u64, groups: &[Text]) -> Result<Gone
 fn plus(one: Gone, other: Gone) -> Gone
     ensures articles { Counts result.articles (one.articles + other.articles) }
     ensures texts { Counts result.texts (one.texts + other.texts) }
-    ensures blocks { Counts result.blocks (one.blocks + other.blocks) }
+    ensures octets { Counts result.octets (one.octets + other.octets) }
 {
     Gone {
         articles: one.articles.saturating_add(other.articles),
         texts: one.texts.saturating_add(other.texts),
-        blocks: one.blocks.saturating_add(other.blocks),
+        octets: one.octets.saturating_add(other.octets),
     }
 }

@@ -49,7 +49,7 @@ fn share_value(alloc: Global, share: &Share) -> Result<Value, AllocError>
 fn gone_value(alloc: Global, gone: &Gone) -> Result<Value, AllocError>
     ensures { IfOk result (λ value. view value ≡ gone_data gone.now) }
 {
-    json!(in alloc; {"texts": gone.texts, "blocks": gone.blocks, "articles": gone.articles})
+    json!(in alloc; {"texts": gone.texts, "blocks": gone.blocks(), "articles": gone.articles})
 }
 
 fn groups_value(alloc: Global, groups: &[GroupStatus]) -> Result<Value, AllocError>

@@ -1,12 +1,15 @@
 //! The state of a volume as a value.
 
-ghost use Rattle.std.specs.Prelude.{◌≡◌, ◌-◌, ◌<◌, ◌≤◌};
+ghost use Rattle.std.specs.Prelude.{◌≡◌, ◌-◌, ◌/◌, ◌<◌, ◌≤◌};
 
 use model::{Status, Text};
 
 /// The size of an overview, in octets, up to which its group takes articles: 12,288 less than that of the largest file
 /// of formats 2 and 3. Each volume that is served has format 3.
 pub const OVERVIEW_ROOM: u32 = 4_294_950_912;
+
+/// The octets of a block.
+const BLOCK: u64 = 4096;
 
 /// How much there is of something, and how much of it is used.
 #[derive(Clone, Copy, Debug, PartialEq, Eq)]
@@ -48,8 +51,17 @@ pub struct Gone {
     pub articles: u64,
     /// Those of which there is more than the husk that a renewal leaves.
     pub texts: u64,
-    /// The blocks that the files of their husks would not have.
-    pub blocks: u64,
+    /// The octets that a renewal gives back of them at least: what each text has more than its husk, less 17.
+    pub octets: u64,
+}
+
+impl Gone {
+    /// The blocks that a renewal gives back of them at least.
+    pub fn blocks(&self) -> u64
+        ensures { result ≡ self.now.octets / 4096 }
+    {
+        self.octets / BLOCK
+    }
 }
 
 /// The state of a volume.

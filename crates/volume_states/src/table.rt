@@ -49,7 +49,7 @@ fn gone_text(alloc: Global, gone: Gone) -> Result<Text, AllocError>
     let mut text = Vec::new(alloc);
     push_worded(&mut text, gone.articles, b" articles; of ")?;
     push_worded(&mut text, gone.texts, b" a renewal gives back ")?;
-    push_worded(&mut text, gone.blocks, b" blocks or more")?;
+    push_worded(&mut text, gone.blocks(), b" blocks or more")?;
     Ok(Text::new(text))
 }
 

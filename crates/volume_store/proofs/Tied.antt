@@ -1,7 +1,7 @@
 -- What a store keeps while texts are filed and batches are written.
 use Rattle.std.proofs.Common.{◌≡◌, ◌⊎◌, inl, inr, ⊎_elim, ◌≤◌, ℕ, Bool, true, false, IsTrue, List, [], ◌∷◌, length, refl, sym, ◌∙◌, ap}
 use Rattle.std.proofs.Common.{subst, arith}
-use Rattle.std.specs.Prelude.{bytes_eq, slice_index_or, take, Result, Ok, Err, IfOk, OnErr}
+use Rattle.std.specs.Prelude.{bytes_eq, slice_index_or, take, Option, Result, Ok, Err, IfOk, OnErr}
 use Rattle.std.specs.List.{Contains}
 use Rattle.std.proofs.Math.Seq.{take-length}
 use Rattle.std.proofs.lemmas.Bool.{true≢false}
@@ -17,6 +17,7 @@ use Rattle.model.specs.Spool.{Spool}
 use Rattle.model.specs.Stream.{Octets}
 use Rattle.model.specs.Volume.{format_number}
 use Rattle.model.specs.declared.change.Change.{Change}
+use Rattle.spool.specs.Refusals.{Tested}
 use Rattle.spool.specs.View.{Adds, Dirties, IsSpool, SpoolView}
 use Rattle.journal_volume.specs.Volume.{AgreeOutside}
 use Rattle.session_lookups.specs.declared.change_spool.FilingError.{FilingError}
@@ -78,6 +79,12 @@ module _ {D : Type 0} (device : D → Device) (journal : JournalView D) (old new
 
   stays : new ≡ old → IsTied device journal new durable
   stays same = subst (λ (s : SpoolView). IsTied device journal s durable) (sym same) tied
+
+  -- a change of the operator
+  pub asked : {T E : Type 0} (c : Change) (memory : E) (refusal : Option E) (result : Result T E) (is : T → Type 0)
+      → Tested memory refusal old new result (λ n. is n × Adds old new c) → IsTied device journal new durable
+  asked c memory refusal (Ok n) is done = adds c done.1.1
+  asked c memory refusal (Err e) is refused = stays refused.1
 
   -- a change is added, or refused
   pub added : {T : Type 0} (c : Change) (result : Result T FilingError) → IsAdded old new c result → IsTied device journal new durable

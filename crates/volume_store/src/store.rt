@@ -14,6 +14,9 @@ ghost use Rattle.volume_store.specs.Filing.{Becomes};
 ghost use Rattle.volume_store.specs.Opening.{IsOpened};
 ghost use Rattle.model.specs.declared.change.Filing.{Filing};
 ghost use Rattle.volume_store.specs.Room.{lack_for};
+ghost use Rattle.spool.specs.Refusals.{Tested, expiry_refusal, group_refusal};
+ghost use Rattle.spool.specs.View.{Adds};
+ghost use Rattle.text_names.specs.Requests.{group_of};
 
 use crate::adding::{add_change, pack_article};
 use crate::batch_writing::write;
@@ -26,9 +29,10 @@ use journal_volume::BatchBuf;
 use kernel::{OpenError, Refused, most_dirty, open_spool};
 use model::{Change, Filing, Moment};
 use session_lookups::{FilingError, LookUps};
-use spool::Spool;
+use spool::{AddError, ExpireError, Spool};
 use std::alloc::{AllocError, Global};
 use std::marker::Model;
+use text_names::{GroupName, GroupRequest};
 use text_rnews::with_crlf;
 
 /// A volume with its journal.
@@ -152,6 +156,37 @@ impl<D: Disk> Store<D> {
         }
         self.commit()?;
         Ok(())
+    }
+
+    /// Adds the group that is asked for, and answers its serial. It is not durable yet. Refused as `Spool::add_group` is; a
+    /// refusal changes nothing.
+    pub fn add_group(&mut self, group: &GroupRequest) -> Result<u64, AddError>
+        requires room { length self.old.spool.dirty ≤ most_dirty (length self.old.spool.blocks) }
+        ensures tested { Tested AddError.Memory
+            (group_refusal self.old.spool group.now.name (changed.Group (group_of group.now))) self.old.spool self.new.spool result
+            (λ serial. (serial ≡ length self.old.spool.changes + 1)
+            × Adds self.old.spool self.new.spool (changed.Group (group_of group.now))) }
+        ensures journal { self.new.journal ≡ self.old.journal }
+        ensures durable { self.new.durable ≡ self.old.durable }
+    {
+        // for the proof: how many blocks a volume has
+        self.spool.kept();
+        self.spool.add_group(group)
+    }
+
+    /// Removes the articles of a group up to a number, and answers the serial of that change. It is not durable yet. Refused as
+    /// `Spool::expire` is; a refusal changes nothing.
+    pub fn expire(&mut self, name: &GroupName, number: u32) -> Result<u64, ExpireError>
+        requires room { length self.old.spool.dirty ≤ most_dirty (length self.old.spool.blocks) }
+        ensures tested { Tested ExpireError.Memory (expiry_refusal self.old.spool name.now number) self.old.spool self.new.spool result
+            (λ serial. (serial ≡ length self.old.spool.changes + 1)
+            × Adds self.old.spool self.new.spool (changed.Expire (record { group = name.now; number = number }))) }
+        ensures journal { self.new.journal ≡ self.old.journal }
+        ensures durable { self.new.durable ≡ self.old.durable }
+    {
+        // for the proof: how many blocks a volume has
+        self.spool.kept();
+        self.spool.expire(name.as_slice(), number)
     }
 
     /// Adds a change that may follow those of the spool. It is not durable yet. Refused as `Full` exactly if there is no room

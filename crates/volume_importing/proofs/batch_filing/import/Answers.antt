@@ -1,4 +1,5 @@
-use Rattle.std.proofs.Common.{List, ℕ, Ok, [], ap, subst}
+use Rattle.std.proofs.Common.{Ok, [], ap, subst}
+use Rattle.text_rnews.specs.Batch.{Unread, whole}
 use Rattle.volume_importing.specs.Imported.{HasRead, none_counted}
 use Rattle.volume_importing.proofs.Importing.{if_err, read_committed}
 use Rattle.volume_store.proofs.GoingOn.{goes_then}
@@ -11,9 +12,9 @@ returns-in_err-stop-clause-failed g c =
     if_err c.from_residual.result (
       all.0,
       counts,
-      subst (λ (held : List ℕ). HasRead c.args.store.now.spool c.file_all.new.store.spool (g.I.Read.remaining c.args.input.now)
+      subst (λ (held : Unread). HasRead c.args.store.now.spool c.file_all.new.store.spool (g.I.Read.remaining c.args.input.now)
           (g.I.Read.remaining c.file_all.new.input) held all.0 none_counted counts)
-          c.new.ensures.rest all.1,
+          c.new.ensures.unread all.1,
     )
 
 pub returns-in_err-commit-clause-failed : goal.returns-in_err-commit-clause-failed
@@ -24,10 +25,10 @@ returns-in_err-commit-clause-failed g c =
       all.0,
       counts,
       read_committed c.args.store.now.spool c.file_all.new.store.spool c.commit.new.self.spool
-          (g.I.Read.remaining c.args.input.now) (g.I.Read.remaining c.file_all.new.input) [] all.0 none_counted counts
-          (subst (λ (held : List ℕ). HasRead c.args.store.now.spool c.file_all.new.store.spool
+          (g.I.Read.remaining c.args.input.now) (g.I.Read.remaining c.file_all.new.input) (whole []) all.0 none_counted counts
+          (subst (λ (held : Unread). HasRead c.args.store.now.spool c.file_all.new.store.spool
           (g.I.Read.remaining c.args.input.now) (g.I.Read.remaining c.file_all.new.input) held all.0 none_counted counts)
-          c.new.ensures.rest all.1)
+          c.new.ensures.unread all.1)
           c.commit.ensures.spool,
     )
 
@@ -42,10 +43,10 @@ returns-clause-imported g c =
     record {
       left = all.0;
       reads = read_committed c.args.store.now.spool c.file_all.new.store.spool c.commit.new.self.spool
-          (g.I.Read.remaining c.args.input.now) (g.I.Read.remaining c.file_all.new.input) [] all.0 none_counted counts
-          (subst (λ (held : List ℕ). HasRead c.args.store.now.spool c.file_all.new.store.spool
+          (g.I.Read.remaining c.args.input.now) (g.I.Read.remaining c.file_all.new.input) (whole []) all.0 none_counted counts
+          (subst (λ (held : Unread). HasRead c.args.store.now.spool c.file_all.new.store.spool
           (g.I.Read.remaining c.args.input.now) (g.I.Read.remaining c.file_all.new.input) held all.0 none_counted counts)
-          c.new.ensures.rest all.1)
+          c.new.ensures.unread all.1)
           c.in_ok-commit.ensures.spool;
       ended = λ none. all.2 (ap Ok none);
     }

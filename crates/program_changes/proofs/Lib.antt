@@ -1,0 +1,3 @@
+mod Aged
+mod Making
+mod Outcomes
