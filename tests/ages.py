@@ -406,12 +406,61 @@ def an_operator_may_read_late(volume, dated):
     assert expired(at) == planned
 
 
+@with_dates
+def the_first_rule_decides(volume, dated):
+    """Each group goes by the first rule that matches its name. A dry run prints the same before, and makes no change."""
+    fill(volume, dated)
+    now, path = FIRST + 24 * DAY, os.path.join(os.path.dirname(volume.path), "rules")
+
+    def expire_by(rules):
+        with open(path, "w") as file:
+            file.write(rules)
+        before = volume.dump()
+        dry = dated.says(now, "expire-by", volume.path, path, "--dry-run")
+        assert volume.dump() == before
+        said = dated.says(now, "expire-by", volume.path, path)
+        assert said == dry, (said, dry)
+        return said
+
+    assert expire_by("# none\n\n \t\nx.c*:1\n") == ["articles 0"]
+    assert expire_by("x.a:never\nx.*:19\n") == ["expire x.b 2", "articles 2"]
+    assert expire_by("x.*:never\nx.a:1\n*:1") == ["articles 0"]
+    assert expire_by("x.*,!x.a:1\n*:19\n") == ["expire x.a 2", "expire x.b 3", "articles 3"]
+    # the clock counts: the articles of day 9 are 15 days old
+    assert expire_by("x.a:15") == ["articles 0"]
+    assert expire_by("x.a:14") == ["expire x.a 3", "articles 1"]
+
+
+@with_dates
+def rules_that_are_none_take_nothing_out(volume, dated):
+    """They are refused with the number of the first such line, before anything is changed."""
+    fill(volume, dated)
+    now, path, before = FIRST + 900 * DAY, os.path.join(os.path.dirname(volume.path), "rules"), volume.dump()
+    for bad in ("x.a", "x.a:", "x.a:0", "x.a:36501", "x.a:1.5", "x.a:1 ", " x.a:1", "x.a:Never", "x.[a]:1", ":1", "x.a:1:2", "!x.a:1",
+                "*:A:1:10:never", "x.a:1\r"):
+        with open(path, "w", newline="") as file:
+            file.write("# rules\n*:1\n\n%s\nx.a:no\n" % bad)
+        for words in ([], ["--dry-run"]):
+            done = dated.run(now, "expire-by", volume.path, path, *words)
+            why = "newsd: E14 Bad: RULES '%s' has no WILDMAT:DAYS or WILDMAT:never in line 4\n" % path
+            assert (done.returncode, done.stdout, done.stderr.decode()) == (1, b"", why), (bad, done)
+    done = dated.run(now, "expire-by", volume.path, path + ".none")
+    assert (done.returncode, done.stdout) == (1, b"") and b"RULES '%s.none' can't be read: " % path.encode() in done.stderr, done
+    with open(path, "w") as file:
+        file.write("*:1\n")
+    done = dated.run(253402300800, "expire-by", volume.path, path)
+    assert (done.returncode, done.stderr.decode()) == (1, "newsd: E14 Bad: RULES '%s' needs a clock that gives a time from 1970 to 9999\n" % path), done
+    assert volume.dump() == before
+
+
 TESTS = [
     no_young_article_is_taken_out,
     a_wildmat_names_the_groups,
     days_may_reach_beyond_1970,
     what_is_printed_is_taken_out,
     a_killed_expiry_is_run_again,
+    the_first_rule_decides,
+    rules_that_are_none_take_nothing_out,
     a_night_of_a_server,
     a_server_takes_out_what_is_old,
     a_server_is_told_the_groups_by_a_wildmat,

@@ -1,6 +1,5 @@
 #!/usr/bin/env python3
 """System tests of what stands beside the program: docs/OPERATING.md, bin/install and contrib/. operating.py NEWSD [NAME..]"""
-import itertools
 import os
 import pwd
 import re
@@ -30,9 +29,10 @@ PROXIED = "1563"
 UNITS = "lib/systemd/system"
 SETTINGS = "share/doc/newsd"
 PROGRAM, RELAY, REPORT, FEED, MANUAL = "bin/newsd", "lib/newsd/xover", "lib/newsd/report", "lib/newsd/feed", "share/man/man1/newsd.1"
+NIGHT, NIGHTLY, TIMER, RULES = "lib/newsd/night", UNITS + "/newsd-night.service", UNITS + "/newsd-night.timer", SETTINGS + "/newsd.rules"
 SERVICE, SOCKET, RELAYING = (UNITS + "/" + name for name in ("newsd.service", "newsd.socket", "newsd-xover.service"))
 CALLERS, METRICS, TUNNEL, BALANCER = (SETTINGS + "/" + name for name in ("callers.conf", "metrics.conf", "stunnel.conf", "haproxy.cfg"))
-INSTALLED = (PROGRAM, RELAY, REPORT, FEED, MANUAL, SERVICE, SOCKET, RELAYING, CALLERS, METRICS, TUNNEL, BALANCER)
+INSTALLED = (PROGRAM, RELAY, REPORT, FEED, NIGHT, MANUAL, SERVICE, SOCKET, RELAYING, NIGHTLY, TIMER, CALLERS, METRICS, TUNNEL, BALANCER, RULES)
 PIPE = "/run/newsd.operator"
 CONTROL = "/run/newsd/control"
 SYSTEMD = "/lib/systemd/systemd"
@@ -251,14 +251,23 @@ def systemd_takes_the_units(volume):
 
 
 def the_units_of_a_night_are_of_use(volume):
-    """Those that stand on the page. systemd takes them, and their commands of newsd can be run one after the other."""
-    units = {name: unit_of_the_page(name) for name in ("newsd-night.service", "newsd-night.timer")}
-    commands = re.findall("^ExecStart=runuser -u newsd -- newsd (.*)$", units["newsd-night.service"], re.MULTILINE)
-    assert [command.split()[0] for command in commands] == ["expire", "renew"], commands
+    """systemd takes them, and the command of the night can be run: by its rules, and with a renewal only where that gives blocks back."""
+    units = {name: read(TOP, "contrib", name) for name in ("newsd-night.service", "newsd-night.timer")}
+    command, = re.findall("^ExecStart=runuser -u newsd -- (.*)$", units["newsd-night.service"], re.MULTILINE)
     volume.make_group()
-    for command in commands:
-        done = volume.run(*(volume.path if word == "/var/lib/newsd/news.volume" else word for word in command.split()))
-        assert (done.returncode, done.stderr) == (0, b""), (command, done)
+    rules = os.path.join(place_of(volume), "newsd.rules")
+    shutil.copy(os.path.join(TOP, "contrib", "newsd.rules"), rules)
+    places = {"/usr/local/lib/newsd/night": os.path.join(TOP, "contrib", "night"), "/usr/local/bin/newsd": volume.program,
+              "/var/lib/newsd/news.volume": volume.path, "/etc/newsd.rules": rules}
+    words = [places.get(word, word) for word in command.split()]
+    assert words[-1] == "10", words
+    for percent, said in (("10", b"articles 0\nnot renewed: that would give back 0 of "), ("0", b"articles 0\ngroups 1\n")):
+        done = subprocess.run([*words[:-1], percent], capture_output=True, timeout=SECONDS)
+        assert (done.returncode, done.stderr, done.stdout[:len(said)]) == (0, b"", said), done
+    write(rules, "x.*:soon\n")
+    before = read_octets(volume.path)
+    done = subprocess.run(words, capture_output=True, text=True, timeout=SECONDS)
+    assert (done.returncode, done.stdout) == (1, "") and "in line 1" in done.stderr and read_octets(volume.path) == before, done
     program = shutil.which("systemd-analyze")
     if program is None:
         raise Skipped("systemd-analyze isn't installed")
@@ -273,12 +282,9 @@ def the_units_of_a_night_are_of_use(volume):
     assert (done.returncode, done.stdout, done.stderr) == (0, "", ""), done
 
 
-def unit_of_the_page(name):
-    """A unit that stands on the page, below its place."""
-    lines = read(PAGE).splitlines()
-    first = lines.index("    # /etc/systemd/system/" + name) + 1
-    text = itertools.takewhile(lambda line: not line or line.startswith("    ") and "# /etc/" not in line, lines[first:])
-    return "".join(line[4:] + "\n" for line in text)
+def read_octets(path):
+    with open(path, "rb") as file:
+        return file.read()
 
 
 def setting(name, *path):

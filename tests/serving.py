@@ -608,10 +608,16 @@ def the_operator_makes_changes(volume):
         assert server.order("expire x.a one") == "E14 Bad"
         assert server.order("expire x.a 0") == "E12 NotFound"
         assert server.order("expire x.a 1") == "4"
+        for line in ("group x.%s y now test" % (39 * "c"), "expire x.%s 1" % (39 * "c")):
+            assert server.order(line) == "E14 Bad: the name of a group has more than 40 octets"
+        before = int(time.time())
+        assert server.order("group x.%s y now test" % (38 * "c")) == "5"
+        caller.send(b"LIST ACTIVE.TIMES x.c*\r\n")
+        assert caller.line().startswith("215 ") and before <= int(caller.line().split()[1]) <= time.time() and caller.line() == "."
         assert server.order("expire x.a 1") == "E12 NotFound"
         assert caller.ask("STAT <1@a.example>") == "430 No such article"
     assert volume.dump() == [
-        "spool 4", "1 group x.a y", "2 group x.b n", "3 article <1@a.example> x.a", "4 expire x.a 1",
+        "spool 5", "1 group x.a y", "2 group x.b n", "3 article <1@a.example> x.a", "4 expire x.a 1", "5 group x.%s y" % (38 * "c"),
     ]
 
 

@@ -29,7 +29,10 @@ def what_can_not_be_served_is_refused(volume):
         (["dump", directory + "/none"], 1, "E1 Fault: the file isn't there"),
         (["dump", directory + "/text"], 1, NO_SUPERBLOCK),
         (["group", volume.path, "x..a", "y", "1000000000", "test"], 1, "E14 Bad: NAME 'x..a' is no name of a group"),
+        (["group", volume.path, "x." + 39 * "a", "y", "1000000000", "test"], 1, "E14 Bad: NAME 'x.%s' has more than 40 octets" % (39 * "a")),
         (["group", volume.path, "x.a", "m", "1000000000", "test"], 1, "E14 Bad: STATUS 'm' is neither y nor n"),
+        *((["group", volume.path, "x.a", "y", moment, "test"], 1,
+           "E14 Bad: MOMENT '%s' is neither now nor a number of seconds before the year 10000" % moment) for moment in ("", "Now", "253402300800")),
         (["group", volume.path, "x.a y", "y", "1000000000", "test"], 1, "E14 Bad: NAME 'x.a y' is no name of a group"),
         *((["group", volume.path, "x.a", "y", "1000000000", text], 1, "E14 Bad: DESCRIPTION '%s' %s" % (text, NO_DESCRIPTION))
           for text in ("", " ", 200 * " ", 201 * "a")),

@@ -1,6 +1,7 @@
 //! The program `newsd` over a reader and two writers: what each of its commands does.
 #![tactic(auto)]
 
+mod operating;
 mod running;
 mod version;
 

@@ -3,11 +3,12 @@
 ghost use Rattle.std.specs.Prelude.{◌≡◌};
 ghost use Rattle.program_printing.specs.Status.{status_of};
 
+use crate::operating::{expire_by, groups};
 use crate::version::print_version;
 use program_asking::Verdict;
 use program_changes::{AgeOrder, Durable};
 use program_command_line::{
-    AgedExpiry, Asked, Export, NewVolume, Question, Renewal, ServeOptions, read_words,
+    AgedExpiry, Asked, Export, NO_TIME, NewVolume, Question, Renewal, ServeOptions, read_words,
 };
 use program_files::{changes_at, octets_at};
 use program_printing::{DONE, Failure, REFUSED};
@@ -27,9 +28,6 @@ use std::time::Clock;
 use text_names::{GroupName, NameError, Wildmat};
 use volume_exporting::LineEnds;
 use volume_importing::ImportCounts;
-
-/// What a refusal says of an age if the clock can't be read, or is before 1970 or after 9999.
-const NO_TIME: &str = "needs a clock that gives a time from 1970 to 9999";
 
 /// What the program does after `run`.
 #[derive(Drop)]
@@ -59,7 +57,7 @@ pub fn run<'a, R: Files<File = File> + Wait + Clock, S: AsStr, I: BufRead, W: Wr
     output: &mut W,
     faults: &mut F,
 ) -> AfterRun<'a> {
-    let status = match read_words(alloc, words, output, faults) {
+    let status = match read_words(alloc, words, moment(rt), output, faults) {
         Ok(Asked::Serve(service)) => return AfterRun::Serves(service),
         Ok(Asked::Import(path)) => return AfterRun::Imports(path),
         Ok(Asked::Renew(asked)) => return AfterRun::Renews(asked),
@@ -67,6 +65,10 @@ pub fn run<'a, R: Files<File = File> + Wait + Clock, S: AsStr, I: BufRead, W: Wr
         Ok(Asked::Nothing(status)) => status,
         Ok(Asked::Format(asked)) => match format(rt, alloc, &asked, faults) {
             Ok(()) => DONE,
+            Err(failure) => fail(faults, &failure),
+        },
+        Ok(Asked::Groups(path, moment)) => match groups(rt, alloc, (path, moment), input, output) {
+            Ok(status) => status,
             Err(failure) => fail(faults, &failure),
         },
         Ok(asked) => match carry_out(rt, alloc, asked, input, output) {
@@ -253,6 +255,7 @@ fn carry_out<R: Files<File = File> + Wait + Clock, I: BufRead, W: Write>(
         | Asked::Import(_)
         | Asked::Renew(_)
         | Asked::Ask(_)
+        | Asked::Groups(_, _)
         | Asked::Format(_) => Ok(()),
         Asked::Version => print_version(rt, output),
         Asked::Simulation(plan, is_cached) => simulate(alloc, &plan, is_cached, input, output),
@@ -265,6 +268,7 @@ fn carry_out<R: Files<File = File> + Wait + Clock, I: BufRead, W: Write>(
             print_serial(&serial, output)
         }
         Asked::ExpireOlder(asked) => expire_older(rt, alloc, asked, output),
+        Asked::ExpireBy(asked) => expire_by(rt, alloc, asked, output),
         Asked::Dump(path) => {
             program_reports::dump(rt, alloc, path, output)?;
             Ok(())

@@ -1,3 +1,4 @@
 pub mod Committed
 pub mod Made
 pub mod Ages
+pub mod Listing

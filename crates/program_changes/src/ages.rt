@@ -109,10 +109,7 @@ impl<D: Disk, W: Write> TreatOld for TakingOut<D, W> {
         output: &mut W,
         aged: AgedArticles,
     ) -> Result<(), CommandError> {
-        match take_out(volume, aged) {
-            Ok(expired) => print_expired(&expired, output),
-            Err(refusal) => Err(refusal_of(refusal)),
-        }
+        take_out_and_print(volume, output, aged)
     }
 }
 
@@ -192,6 +189,22 @@ pub fn tell_old<D: Disk, W: Write>(
     treat_old(&telling, store, output, wildmat, since)
 }
 
+/// Takes the old articles out of a group, and prints that once it is durable.
+pub(crate) fn take_out_and_print<D: Disk, W: Write>(
+    store: &mut Store<D>,
+    output: &mut W,
+    aged: AgedArticles,
+) -> Result<(), CommandError>
+    requires { IsSaved D.device store.old }
+    ensures treated { Expires D.device store.old store.new aged result }
+    ensures ready { OnOk result (IsSaved D.device store.new) }
+{
+    match take_out(store, aged) {
+        Ok(expired) => print_expired(&expired, output),
+        Err(refusal) => Err(refusal_of(refusal)),
+    }
+}
+
 /// Takes the old articles out of a group, and makes that durable, as `expire` does.
 fn take_out<D: Disk>(
     store: &mut Store<D>,
@@ -220,7 +233,7 @@ fn print_expired<W: Write>(
 }
 
 /// Prints an expiry as the operator would ask for it.
-fn print<W: Write>(aged: &AgedArticles, output: &mut W) -> Result<(), CommandError> {
+pub(crate) fn print<W: Write>(aged: &AgedArticles, output: &mut W) -> Result<(), CommandError> {
     write!(output, "expire ")?;
     output.write_all(aged.name.as_slice())?;
     Ok(writeln!(output, " {}", aged.number)?)

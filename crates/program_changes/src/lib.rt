@@ -1,4 +1,4 @@
-//! Adds a group, or removes articles from groups, while no server runs. `specs/Made.antt` says what that makes of a volume, and
+//! Adds groups, or removes articles from groups, while no server runs. `specs/Made.antt` says what that makes of a volume, and
 //! what a crash leaves.
 #![tactic(auto)]
 
@@ -9,15 +9,19 @@ ghost use Rattle.text_names.specs.Requests.{group_of};
 
 mod ages;
 mod durable;
+mod listed;
 mod not_done;
+mod rules;
 mod store_changes;
 
 pub use ages::{AgeOrder, expire_older};
 use disk::Disk;
 pub use durable::Durable;
+pub use listed::{GroupOutcome, Outcomes, add_groups, groups};
 pub use not_done::NotDone;
 use program_files::{VolumeDisk, VolumeFile, new_counts, open_store};
 use program_printing::CommandError;
+pub use rules::{RuleOrder, expire_by, expire_ruled, tell_by};
 use session_lookups::LookUps;
 use spool::{AddError, ExpireError};
 use std::alloc::Global;

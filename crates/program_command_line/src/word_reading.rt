@@ -4,15 +4,16 @@ ghost use Rattle.std.specs.Prelude.{◌≤◌, IfOk};
 
 use clap::ArgMatches;
 use clap::error::{Error, ErrorKind};
+use model::Moment;
 use program_command_table::table::{
     ALLOW, BLOCKS, CACHE, CONTROL, CRLF, DESCRIPTION, DRY_RUN, FORMAT, HOST, IN_PLACE, INODES,
     JSON, Kind, LINE, LISTEN, METRICS, MOMENT, MOST_FROM, NAME, NEW, NUMBER, OLD, OLDER_THAN, PATH,
-    PORT, POSTS_FROM, PROXIED, QUIET, SESSIONS, STATUS, Subcommand, Word, first_subcommands,
+    PORT, POSTS_FROM, PROXIED, QUIET, RULES, SESSIONS, STATUS, Subcommand, Word, first_subcommands,
     last_subcommands, serving_subcommands,
 };
 use program_command_table::{Grammar, article_number, command_syntax, session_number};
 use program_printing::{DONE, Failure, NOT_UNDERSTOOD};
-use program_script::{ParseError, escaped, number};
+use program_script::{ParseError, escaped, moment_at, number};
 use std::alloc::{AllocError, Global};
 use std::convert::AsStr;
 use std::io::Write;
@@ -23,6 +24,9 @@ use volume_new::{FORMAT_1, FORMAT_2, FORMAT_3, SMALL_BLOCKS, SMALL_INODES, Volum
 
 /// The wildmat that matches the name of each group.
 const ALL_GROUPS: &str = "*";
+
+/// What a refusal says if the clock can't be read, or is before 1970 or after 9999.
+pub const NO_TIME: &str = "needs a clock that gives a time from 1970 to 9999";
 
 /// The request that the words make.
 #[derive(Drop)]
@@ -36,9 +40,12 @@ pub enum Asked<'a> {
     Format(NewVolume<'a>),
     /// The volume to which a group is added.
     Group(&'a str, GroupRequest),
+    /// The volume to which the groups of a list are added, and the moment at which they are made.
+    Groups(&'a str, Moment),
     /// The volume, the group in it, and the number up to which its articles are removed.
     Expire(&'a str, GroupName, u32),
     ExpireOlder(AgedExpiry<'a>),
+    ExpireBy(RuledExpiry<'a>),
     Serve(ServeOptions<'a>),
     Dump(&'a str),
     /// The state of a volume, for a person or as JSON.
@@ -108,6 +115,16 @@ pub struct AgedExpiry<'a> {
     pub is_dry: bool,
 }
 
+/// The volume whose groups lose old articles by the rules in a file.
+#[derive(Clone, Copy)]
+pub struct RuledExpiry<'a> {
+    pub path: &'a str,
+    /// The file of the rules.
+    pub rules: &'a str,
+    /// Nothing is taken out.
+    pub is_dry: bool,
+}
+
 /// The volume whose articles are exported, those of one group or all, and whether their lines end in CRLF.
 #[derive(Clone, Copy)]
 pub struct Export<'a> {
@@ -130,17 +147,18 @@ pub struct Renewal<'a> {
     pub is_json: bool,
 }
 
-/// Reads the words, the first of which is the program's name. If they are not understood, the parser's text goes to
+/// Reads the words, the first of which is the program's name, at this moment, if the clock gives one. If they are not understood, the parser's text goes to
 /// `faults`; help goes to `output`. `Bad` if a word is outside its grammar or range, `Memory` if an
 /// allocation was refused.
 pub fn read_words<'a, S: AsStr, W: Write, F: Write>(
     alloc: Global,
     words: &'a [S],
+    now: Option<Moment>,
     output: &mut W,
     faults: &mut F,
 ) -> Result<Asked<'a>, Failure> {
     match command_syntax(alloc)?.try_get_matches_from(words) {
-        Ok(matches) => read_request(alloc, &matches),
+        Ok(matches) => read_request(alloc, &matches, now),
         Err(error) if error.kind() == ErrorKind::DisplayVersion => Ok(Asked::Version),
         Err(error) => Ok(Asked::Nothing(tell(alloc, &error, output, faults)?)),
     }
@@ -175,7 +193,11 @@ fn write_escaped<F: Write>(alloc: Global, message: &str, faults: &mut F) -> Resu
 }
 
 /// The request of words that were understood, if each is in its grammar and range.
-fn read_request<'a>(alloc: Global, matches: &ArgMatches<'a>) -> Result<Asked<'a>, Failure> {
+fn read_request<'a>(
+    alloc: Global,
+    matches: &ArgMatches<'a>,
+    now: Option<Moment>,
+) -> Result<Asked<'a>, Failure> {
     let Some((name, words)) = matches.subcommand() else {
         return Err(Failure::Bad);
     };
@@ -183,8 +205,13 @@ fn read_request<'a>(alloc: Global, matches: &ArgMatches<'a>) -> Result<Asked<'a>
     match name {
         "sim" => Ok(Asked::Simulation(read_plan_of_memory(alloc, words)?, words.get_flag(CACHE))),
         "format" => Ok(Asked::Format(read_new_volume(alloc, words)?)),
-        "group" => Ok(Asked::Group(word(words, PATH)?, read_group(alloc, words)?)),
+        "group" => Ok(Asked::Group(word(words, PATH)?, read_group(alloc, words, now)?)),
+        "groups" => Ok(Asked::Groups(
+            word(words, PATH)?,
+            read_moment(alloc, "--moment", words, now)?,
+        )),
         "expire" => read_expiry(alloc, words),
+        "expire-by" => Ok(Asked::ExpireBy(read_ruled_expiry(words)?)),
         "serve" => Ok(Asked::Serve(read_service(alloc, words)?)),
         "dump" => Ok(Asked::Dump(word(words, PATH)?)),
         "status" => Ok(Asked::Status(word(words, PATH)?, words.get_flag(JSON))),
@@ -231,7 +258,7 @@ fn check_values(alloc: Global, word: &Word, values: &[&str]) -> Result<(), Failu
     for value in values {
         if !word.grammar.holds(value) {
             let name = shown_name(alloc, word)?;
-            return Err(Failure::bad_word(alloc, name.as_str(), value, word.grammar.fault()));
+            return Err(Failure::bad_word(alloc, name.as_str(), value, word.grammar.fault(value)));
         }
     }
     Ok(())
@@ -349,22 +376,49 @@ fn plan_of<'a>(host: &'a [u8], blocks: &[u8], inodes: &[u8], format: u32) -> Opt
 }
 
 /// The group that the words describe.
-fn read_group(alloc: Global, words: &ArgMatches<'_>) -> Result<GroupRequest, Failure> {
+fn read_group(
+    alloc: Global,
+    words: &ArgMatches<'_>,
+    now: Option<Moment>,
+) -> Result<GroupRequest, Failure> {
     let name = word(words, NAME)?;
     let status = word(words, STATUS)?;
-    let moment = word(words, MOMENT)?;
+    let moment = read_moment(alloc, "MOMENT", words, now)?;
     let description = word(words, DESCRIPTION)?;
     match program_script::read_group(
         alloc,
         name.as_bytes(),
         status.as_bytes(),
-        moment.as_bytes(),
+        Some(moment),
         description.as_bytes(),
     ) {
         Ok(group) => Ok(group),
         Err(ParseError::Bad) => Err(Failure::Bad),
         Err(ParseError::Memory) => Err(Failure::Memory),
     }
+}
+
+/// The moment that a word writes, which a refusal shows by this name. `BadWord` if it says `now`, and the clock gives no time.
+fn read_moment(
+    alloc: Global,
+    shown: &str,
+    words: &ArgMatches<'_>,
+    now: Option<Moment>,
+) -> Result<Moment, Failure> {
+    let moment = word(words, MOMENT)?;
+    match moment_at(now, moment.as_bytes()) {
+        Some(moment) => Ok(moment),
+        None => Err(Failure::bad_word(alloc, shown, moment, NO_TIME)),
+    }
+}
+
+/// The expiry by rules that the words describe.
+fn read_ruled_expiry<'a>(words: &ArgMatches<'a>) -> Result<RuledExpiry<'a>, Failure> {
+    Ok(RuledExpiry {
+        path: word(words, PATH)?,
+        rules: word(words, RULES)?,
+        is_dry: words.get_flag(DRY_RUN),
+    })
 }
 
 /// The expiry that the words describe: by age if the days are given, else up to a number.
@@ -422,7 +476,7 @@ fn check_as(alloc: Global, name: &str, word: &str, grammar: Grammar) -> Result<(
     if grammar.holds(word) {
         return Ok(());
     }
-    Err(Failure::bad_word(alloc, name, word, grammar.fault()))
+    Err(Failure::bad_word(alloc, name, word, grammar.fault(word)))
 }
 
 /// What the words ask a running server.

@@ -6,9 +6,12 @@ ghost use Rattle.text_names.specs.Descriptions.{is_description};
 
 use kernel_shared::MOST_SESSIONS;
 use program_script::{days, is_blank, moment, number, status};
-use text_names::{is_description, is_group_name, is_host, is_wildmat, number_of};
+use text_names::{GROUP_NAME_LIMIT, is_description, is_group_name, is_host, is_wildmat, number_of};
 use text_networks::{Network, is_loopback, read_endpoint};
 use volume_new::{FEWEST_INODES, MOST_BLOCKS, are_sizes};
+
+/// The moment at which a command reads the clock.
+const NOW: &str = "now";
 
 /// What a word may be.
 #[derive(Clone, Copy)]
@@ -27,7 +30,7 @@ pub enum Grammar {
     Group,
     /// Whether posting is permitted.
     Status,
-    /// Seconds since 1970, before the year 10000.
+    /// `now`, or seconds since 1970, before the year 10000.
     Moment,
     /// The description of a group, which isn't blank.
     Description,
@@ -64,7 +67,7 @@ impl Grammar {
             Grammar::Format => word == "1" || word == "2" || word == "3",
             Grammar::Group => is_group_name(octets),
             Grammar::Status => status(octets).is_some(),
-            Grammar::Moment => moment(octets).is_some(),
+            Grammar::Moment => word == NOW || moment(octets).is_some(),
             Grammar::Description => is_shown(octets),
             Grammar::Article => number_of(octets).is_some(),
             Grammar::Wildmat => is_wildmat(octets),
@@ -78,9 +81,10 @@ impl Grammar {
         }
     }
 
-    /// What a refusal says of a word that doesn't follow the grammar.
-    pub fn fault(self) -> &'static str {
+    /// What a refusal says of this word, which doesn't follow the grammar.
+    pub fn fault(self, word: &str) -> &'static str {
         match self {
+            Grammar::Group if word.len() > GROUP_NAME_LIMIT => "has more than 40 octets",
             Grammar::Any => "is no text",
             Grammar::Host => "is no name of a server",
             Grammar::Blocks => "is no number from 1024 to 4194304",
@@ -88,7 +92,7 @@ impl Grammar {
             Grammar::Format => "is not 1, 2 or 3",
             Grammar::Group => "is no name of a group",
             Grammar::Status => "is neither y nor n",
-            Grammar::Moment => "is no number of seconds before the year 10000",
+            Grammar::Moment => "is neither now nor a number of seconds before the year 10000",
             Grammar::Description => "is no line of at most 200 octets of ASCII, or is blank",
             Grammar::Article => "is no number of an article",
             Grammar::Wildmat => "is no wildmat",

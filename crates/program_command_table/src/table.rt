@@ -52,6 +52,8 @@ pub const OLDER_THAN: &str = "older-than";
 
 pub const DRY_RUN: &str = "dry-run";
 
+pub const RULES: &str = "rules";
+
 pub const CRLF: &str = "crlf";
 
 pub const JSON: &str = "json";
@@ -183,7 +185,7 @@ whose address has as many sessions as are free, or as --most-from permits. \
 Copy the volume for a backup while the server is stopped. \
 The file of --metrics is in the text format of Prometheus; each time one beside it is written, whose name ends in .part, and renamed.
 
-Standard input takes these lines. `group NAME STATUS MOMENT DESCRIPTION` makes a group, and `expire NAME N` takes the \
+Standard input takes these lines. `group NAME STATUS MOMENT DESCRIPTION` makes a group, where MOMENT may be `now`, and `expire NAME N` takes the \
 articles of a group up to that number out of it; the serial is printed once it is durable, or the refusal. `expire-older DAYS` or \
 `expire-older DAYS WILDMAT` takes out what `newsd expire --older-than` would, and prints `SERIAL expire NAME N` for each group, then \
 `articles COUNT`; `list-older` prints the same without serials, and takes nothing out. `status` prints the \
@@ -202,6 +204,20 @@ an article was filed. In each group it stops before the first article that isn't
 const ASKING: &str = "\
 The lines are those of standard input: `newsd serve --help` has them. Status 0 where the server has done what the line asks for, \
 status 1 where it answers with a refusal, as `E12 NotFound`, and status 2 where nobody answers, or not to the end.";
+
+/// What `groups` does, in short.
+const LISTING: &str = "\
+Reads a list from standard input. A line `NAME HIGH LOW FLAG`, as in INN's file active, asks for a group; its flag is y where posting is \
+permitted, else n. A line `NAME<TAB>DESCRIPTION`, as in INN's file newsgroups, describes one, wherever it stands in the list. \
+Prints what became of each line that asks for a group, once all of it is durable: `line L: made SERIAL NAME`, `line L: here NAME` or \
+`line L: refused` and why. What was made stays, and the status is 1 if a line was refused. After a kill it can be run again on the same \
+list.";
+
+/// What `expire-by` does, in short.
+const RULING: &str = "\
+Each line of RULES is `WILDMAT:DAYS` or `WILDMAT:never`, a comment, which begins with #, or blank. The first line whose wildmat matches \
+a group decides: its articles that are older than DAYS days are taken out as `expire --older-than` takes them, or never. A group that no \
+line matches keeps all. Prints what `expire --older-than` prints.";
 
 /// What `import` does, in short.
 const IMPORTING: &str = "\
@@ -276,7 +292,7 @@ const FIRST_ROWS: &[Subcommand] = &[
             Word {
                 id: MOMENT,
                 value: "MOMENT",
-                help: "When it is made, in seconds since 1970",
+                help: "When it is made: now, or seconds since 1970",
                 kind: Kind::Operand,
                 grammar: Grammar::Moment,
             },
@@ -286,6 +302,22 @@ const FIRST_ROWS: &[Subcommand] = &[
                 help: "What it is about, at most 200 octets of ASCII; not blank",
                 kind: Kind::Operand,
                 grammar: Grammar::Description,
+            },
+        ],
+        one_of: &[],
+    },
+    Subcommand {
+        name: "groups",
+        about: "Adds the groups of a list to a volume that no server serves",
+        after_help: Some(LISTING),
+        words: &[
+            VOLUME,
+            Word {
+                id: MOMENT,
+                value: "MOMENT",
+                help: "When they are made: now, or seconds since 1970",
+                kind: Kind::Default("now"),
+                grammar: Grammar::Moment,
             },
         ],
         one_of: &[],
@@ -330,6 +362,29 @@ const FIRST_ROWS: &[Subcommand] = &[
 ];
 
 const SERVING_ROWS: &[Subcommand] = &[
+    Subcommand {
+        name: "expire-by",
+        about: "Takes old articles out of groups of a volume that no server serves, by rules in a file",
+        after_help: Some(RULING),
+        words: &[
+            VOLUME,
+            Word {
+                id: RULES,
+                value: "RULES",
+                help: "The file of the rules",
+                kind: Kind::Operand,
+                grammar: Grammar::Any,
+            },
+            Word {
+                id: DRY_RUN,
+                value: "",
+                help: "Prints what would be taken out, and takes nothing out",
+                kind: Kind::Flag,
+                grammar: Grammar::Any,
+            },
+        ],
+        one_of: &[],
+    },
     Subcommand {
         name: "serve",
         about: "Serves a volume to news readers",

@@ -11,7 +11,7 @@ use Rattle.disk.specs.declared.DiskCall.{DiskCall}
 use Rattle.disk.specs.declared.DiskCall.TheVariants.{Read, Write, Sync}
 use Rattle.disk_memory.specs.declared.Pick.{Pick}
 use Rattle.disk_memory.specs.declared.Pick.TheVariants.{Old, New, Fill}
-use Rattle.program_script.specs.Words.{expiry_number_of, hex_octet, hex_octets, is_blank, moment_of, number_of, split_word, status_of}
+use Rattle.program_script.specs.Words.{expiry_number_of, hex_octet, hex_octets, is_blank, moment_at, moment_of, number_of, split_word, status_of}
 use Rattle.program_script.specs.declared.script_lines.Line.{Line}
 use Rattle.program_script.specs.declared.script_lines.Line.TheVariants.{Group, Expire, Join, Leave, Arrive, Exec, Take, Dev, Told, Release, Commit, Settle}
 use Rattle.program_script.specs.declared.script_lines.Line.TheVariants.{Drain, FailAt, FailKind, Crash, Renew, ReleaseOf, Spool, Stop}
@@ -114,26 +114,26 @@ numbered_of keyword words =
 abbrev pub new_group : Octets → Status → Octets → ℕ → NewGroup
 new_group name status description moment = record { name = name; status = status; description = description; moment = moment }
 
--- the group that a name, a status, a moment and a description ask for
-unfoldable pub new_group_of : Octets → Octets → Octets → Octets → Option NewGroup
+-- the group that a name, a status, a moment, if there is one, and a description ask for
+unfoldable pub new_group_of : Octets → Octets → Option ℕ → Octets → Option NewGroup
 new_group_of name status moment description = do
   yes_or_no ← status_of status
-  seconds ← moment_of moment
+  seconds ← moment
   if is_group_name name && is_description description then Some (new_group name yes_or_no description seconds) else None
 
 -- the same of a group that is made for readers, whose description has to show something (RFC 3977, section 9.7,
 -- newsgroup-description). A script may make others, as there are in volumes
-unfoldable pub shown_group_of : Octets → Octets → Octets → Octets → Option NewGroup
+unfoldable pub shown_group_of : Octets → Octets → Option ℕ → Octets → Option NewGroup
 shown_group_of name status moment description =
     if is_blank description then None else new_group_of name status moment description
 
--- NAME STATUS MOMENT TEXT
-unfoldable pub group_of : Octets → Option LineMeaning
-group_of words = do
+-- NAME STATUS MOMENT TEXT, of which MOMENT may be `now`
+unfoldable pub group_of : Option ℕ → Octets → Option LineMeaning
+group_of now words = do
   name ← split_word words
   status ← split_word name.1
   time ← split_word status.1
-  group ← new_group_of name.0 status.0 time.0 time.1
+  group ← new_group_of name.0 status.0 (moment_at now time.0) time.1
   Some (Made group)
 
 -- the expiry that a name and a number ask for
@@ -164,14 +164,18 @@ hex_of words = do
   octets ← hex_octets parts.1
   if nat_le 1 (length parts.1) then Some (Came session octets) else None
 
--- what a line asks for, by its first word
-unfoldable pub meaning : Octets → Option LineMeaning
-meaning line = by_words (split_word line)
+-- what a line asks for, by its first word. Where there is no present moment, none asks for it
+unfoldable pub meaning_at : Option ℕ → Octets → Option LineMeaning
+meaning_at now line = by_words (split_word line)
   where
     by_words : Option (Octets × Octets) → Option LineMeaning
     by_words None = alone_of line
     by_words (Some parts) =
-        if bytes_eq parts.0 (codes "group") then group_of parts.1
+        if bytes_eq parts.0 (codes "group") then group_of now parts.1
         else (if bytes_eq parts.0 (codes "expire") then expiry_of parts.1
         else (if bytes_eq parts.0 (codes "line") then arrival_of parts.1
         else (if bytes_eq parts.0 (codes "hex") then hex_of parts.1 else numbered_of parts.0 parts.1)))
+
+-- a script has no clock
+abbrev pub meaning : Octets → Option LineMeaning
+meaning line = meaning_at None line

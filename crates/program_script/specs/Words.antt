@@ -1,6 +1,6 @@
 -- Words of a script's line (this project's rule).
 use Rattle.std.specs.Prelude.{ℕ, Bool, ◌+◌, ◌^◌, ◌==◌, ◌&&◌, ◌||◌, nat_le, nat_lt, if◌then◌else◌, [], ◌∷◌, take, drop, get_or, Option, Some, None}
-use Rattle.std.specs.Prelude.{option_and_then, option_map}
+use Rattle.std.specs.Prelude.{bytes_eq, codes, option_and_then, option_map}
 use Rattle.std.specs.List.{list_all, position}
 use Rattle.std.specs.Result.{result_ok}
 use Rattle.std.specs.Char.{is_ascii_digit}
@@ -14,9 +14,13 @@ use Rattle.model.specs.Spool.{status_octet}
 use Rattle.model.specs.declared.values.Status.{Status}
 use Rattle.model.specs.declared.values.Status.TheVariants.{Open, Closed}
 
+-- the parts before and after the first of these octets
+abbrev pub split_at : ℕ → Octets → Option (Octets × Octets)
+split_at octet text = option_map (λ i. (take i text, drop (i + 1) text)) (position (λ x. x == octet) text)
+
 -- the parts before and after the first SP
 abbrev pub split_word : Octets → Option (Octets × Octets)
-split_word text = option_map (λ i. (take i text, drop (i + 1) text)) (position (λ x. x == 32) text)
+split_word text = split_at 32 text
 
 -- the number that digits write, if it is below 2^64
 abbrev pub within_u64 : Octets → Option ℕ
@@ -29,6 +33,10 @@ number_of word = if is_run_of is_ascii_digit word then within_u64 word else None
 -- the moment that digits write, before the year 10000
 abbrev pub moment_of : Octets → Option ℕ
 moment_of word = option_and_then (λ n. if nat_lt n moment_limit then Some n else None) (number_of word)
+
+-- the moment that a word writes: for `now` the present one, where there is one
+unfoldable pub moment_at : Option ℕ → Octets → Option ℕ
+moment_at now word = if bytes_eq word (codes "now") then now else moment_of word
 
 -- the days that digits write: from 1 to 36,500
 abbrev pub days_of : Octets → Option ℕ

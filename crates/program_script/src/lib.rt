@@ -7,5 +7,7 @@ mod script_lines;
 mod words;
 
 pub use printed::escaped;
-pub use script_lines::{Line, ParseError, parse, read_expiry, read_group};
-pub use words::{MOST_DAYS, days, is_blank, moment, number, split_word, status};
+pub use script_lines::{Line, ParseError, parse, parse_at, read_expiry, read_group};
+pub use words::{
+    MOST_DAYS, days, is_blank, moment, moment_at, number, split_at, split_word, status,
+};

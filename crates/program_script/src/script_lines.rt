@@ -3,11 +3,11 @@
 ghost use Rattle.std.specs.Prelude.{◌≡◌, IfOk, IfErr, Some, None, option_map};
 ghost use Rattle.text_names.specs.Requests as requests;
 ghost use Rattle.program_script.specs.Words.{hex_octets, hex_octet};
-ghost use Rattle.program_script.specs.Script.{Expired, alone_of, arrival_of, expired_of, expiry_of, fail_of, group_of, hex_of, kind_of, meaning};
+ghost use Rattle.program_script.specs.Script.{Expired, alone_of, arrival_of, expired_of, expiry_of, fail_of, group_of, hex_of, kind_of, meaning, meaning_at};
 ghost use Rattle.program_script.specs.Script.{new_group_of, numbered_of, pick_of, release_of, said, shown_group_of};
 ghost use Rattle.program_script.specs.declared.script_lines.ParseError.TheVariants.{Memory};
 
-use crate::words::{expiry_number, is_blank, moment, number, split_word, status};
+use crate::words::{expiry_number, is_blank, moment, moment_at, number, split_word, status};
 use disk::DiskCall;
 use disk_memory::Pick;
 use hex::FromHexError;
@@ -92,18 +92,27 @@ impl From<AllocError> for ParseError {
     }
 }
 
-/// Reads a line, without the LF that ends it. Words are separated by one space; the text of `group` and of `line` may
-/// hold any octets except LF. `Bad` if the line does not follow the grammar, `Memory` if an allocation was refused.
-#[tactic(auto, unfolding(crate::specs::Script::meaning))]
+/// Reads a line of a script, as `parse_at` does where there is no present moment.
 pub fn parse(alloc: Global, line: &[u8]) -> Result<Line, ParseError>
     ensures ok { IfOk result (λ read. meaning line.now ≡ Some (said read)) }
     ensures bad { IfErr result (λ error. error ≡ ParseError.Bad → meaning line.now ≡ None) }
+{
+    parse_at(alloc, line, None)
+}
+
+/// Reads a line, without the LF that ends it. Words are separated by one space; the text of `group` and of `line` may
+/// hold any octets except LF. The moment of `group` may be `now`, where there is a present moment. `Bad` if the line does not
+/// follow the grammar, `Memory` if an allocation was refused.
+#[tactic(auto, unfolding(crate::specs::Script::meaning_at))]
+pub fn parse_at(alloc: Global, line: &[u8], now: Option<Moment>) -> Result<Line, ParseError>
+    ensures ok { IfOk result (λ read. meaning_at now line.now ≡ Some (said read)) }
+    ensures bad { IfErr result (λ error. error ≡ ParseError.Bad → meaning_at now line.now ≡ None) }
 {
     let Some((keyword, words)) = split_word(line) else {
         return alone(line).ok_or(ParseError::Bad);
     };
     if keyword == b"group".as_slice() {
-        return group(alloc, words);
+        return group(alloc, words, now);
     }
     if keyword == b"expire".as_slice() {
         return expiry(words).ok_or(ParseError::Bad);
@@ -260,24 +269,24 @@ fn hex_octet(digits: &[u8]) -> Option<u8>
     }
 }
 
-/// Reads the words of a group that is made for readers: its name, `y` or `n`, the moment at which it is made in seconds since
-/// 1970, and its description. `Bad` if one of them does not follow its grammar, or the description is blank; `Memory` if an
+/// Reads the words of a group that is made for readers: its name, `y` or `n`, and its description, beside the moment at which it
+/// is made. `Bad` if one of them does not follow its grammar, the description is blank or there is no moment; `Memory` if an
 /// allocation was refused.
 #[tactic(auto, unfolding(crate::specs::Script::shown_group_of))]
 pub fn read_group(
     alloc: Global,
     name: &[u8],
     yes_or_no: &[u8],
-    time: &[u8],
+    moment: Option<Moment>,
     description: &[u8],
 ) -> Result<GroupRequest, ParseError>
-    ensures ok { IfOk result (λ request. shown_group_of name.now yes_or_no.now time.now description.now ≡ Some (requests.group_of request)) }
-    ensures bad { IfErr result (λ error. error ≡ ParseError.Bad → shown_group_of name.now yes_or_no.now time.now description.now ≡ None) }
+    ensures ok { IfOk result (λ request. shown_group_of name.now yes_or_no.now moment description.now ≡ Some (requests.group_of request)) }
+    ensures bad { IfErr result (λ error. error ≡ ParseError.Bad → shown_group_of name.now yes_or_no.now moment description.now ≡ None) }
 {
     if is_blank(description) {
         return Err(ParseError::Bad);
     }
-    any_group(alloc, name, yes_or_no, time, description)
+    any_group(alloc, name, yes_or_no, moment, description)
 }
 
 /// The group that these words describe, as `read_group` has it, with a blank description, too.
@@ -286,16 +295,16 @@ fn any_group(
     alloc: Global,
     name: &[u8],
     yes_or_no: &[u8],
-    time: &[u8],
+    moment: Option<Moment>,
     description: &[u8],
 ) -> Result<GroupRequest, ParseError>
-    ensures ok { IfOk result (λ request. new_group_of name.now yes_or_no.now time.now description.now ≡ Some (requests.group_of request)) }
-    ensures bad { IfErr result (λ error. error ≡ ParseError.Bad → new_group_of name.now yes_or_no.now time.now description.now ≡ None) }
+    ensures ok { IfOk result (λ request. new_group_of name.now yes_or_no.now moment description.now ≡ Some (requests.group_of request)) }
+    ensures bad { IfErr result (λ error. error ≡ ParseError.Bad → new_group_of name.now yes_or_no.now moment description.now ≡ None) }
 {
     let Some(status) = status(yes_or_no) else {
         return Err(ParseError::Bad);
     };
-    let Some(moment) = moment(time) else {
+    let Some(moment) = moment else {
         return Err(ParseError::Bad);
     };
     let Ok(name) = GroupName::read(name) else {
@@ -315,9 +324,9 @@ fn any_group(
 
 /// `group NAME STATUS MOMENT TEXT`, after its first word. The text may be blank.
 #[tactic(auto, unfolding(crate::specs::Script::group_of))]
-fn group(alloc: Global, words: &[u8]) -> Result<Line, ParseError>
-    ensures ok { IfOk result (λ read. group_of words.now ≡ Some (said read)) }
-    ensures bad { IfErr result (λ error. error ≡ ParseError.Bad → group_of words.now ≡ None) }
+fn group(alloc: Global, words: &[u8], now: Option<Moment>) -> Result<Line, ParseError>
+    ensures ok { IfOk result (λ read. group_of now words.now ≡ Some (said read)) }
+    ensures bad { IfErr result (λ error. error ≡ ParseError.Bad → group_of now words.now ≡ None) }
 {
     let Some((name, words)) = split_word(words) else {
         return Err(ParseError::Bad);
@@ -328,7 +337,8 @@ fn group(alloc: Global, words: &[u8]) -> Result<Line, ParseError>
     let Some((time, description)) = split_word(words) else {
         return Err(ParseError::Bad);
     };
-    let request = any_group(alloc, name, yes_or_no, time, description)?;
+    let moment = moment_at(now, time);
+    let request = any_group(alloc, name, yes_or_no, moment, description)?;
     Ok(Line::Group(request))
 }
 

@@ -4,10 +4,13 @@ ghost use Rattle.std.specs.Prelude.{◌≡◌, option_map, true};
 ghost use Rattle.std.specs.Char.{is_ascii_digit};
 ghost use Rattle.std.specs.List.{list_all};
 ghost use Rattle.model.specs.Names.{is_run_of};
-ghost use Rattle.program_script.specs.Words.{days_of, expiry_number_of, is_blank, moment_of, number_of, split_word, status_of, within_u64};
+ghost use Rattle.program_script.specs.Words.{days_of, expiry_number_of, is_blank, moment_at, moment_of, number_of, split_at, split_word, status_of, within_u64};
 
 use model::{Moment, Status};
 use text_names::number_of;
+
+/// The word that stands for the present moment.
+const NOW: &[u8] = b"now";
 
 /// The most days that an age is given in: a hundred years of 365 days.
 pub const MOST_DAYS: u64 = 36_500;
@@ -16,7 +19,14 @@ pub const MOST_DAYS: u64 = 36_500;
 pub fn split_word(text: &[u8]) -> Option<(&[u8], &[u8])>
     ensures { option_map (λ parts. (parts.0.now, parts.1.now)) result ≡ split_word text.now }
 {
-    let at = text.iter().position(|octet| *octet == b' ')?;
+    split_at(text, b' ')
+}
+
+/// The parts before and after the first of these octets.
+pub fn split_at(text: &[u8], octet: u8) -> Option<(&[u8], &[u8])>
+    ensures { option_map (λ parts. (parts.0.now, parts.1.now)) result ≡ split_at octet text.now }
+{
+    let at = text.iter().position(|other| *other == octet)?;
     Some((&text[..at], &text[at + 1..]))
 }
 
@@ -60,6 +70,14 @@ pub fn moment(word: &[u8]) -> Option<Moment>
     // for the proof: the moment is before its limit
     let _seconds = moment.seconds();
     Some(moment)
+}
+
+/// The moment that a word writes: the present one for `now`, where there is one, and else the one that digits write.
+#[tactic(auto, unfolding(crate::specs::Words::moment_at))]
+pub fn moment_at(now: Option<Moment>, word: &[u8]) -> Option<Moment>
+    ensures { result ≡ moment_at now word.now }
+{
+    if word == NOW { now } else { moment(word) }
 }
 
 /// The days that digits write: a number from 1 to `MOST_DAYS`.

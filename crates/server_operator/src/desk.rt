@@ -18,8 +18,12 @@ use crate::sessions::{Listing, let_go};
 use crate::status::Status;
 use crossbeam_channel::{Receiver, SendError, Sender, bounded, unbounded};
 use kernel_shared::{Asking, Bells, Hand, Kern};
+use program_script::ParseError;
+use server_logging::moment;
 use server_mark::{Mark, Seat};
-use server_operator_lines::{Change, LINE_OCTETS, Next, Request, next_line, request_of};
+use server_operator_lines::{
+    Change, LINE_OCTETS, Next, Request, has_long_name, next_line, request_of,
+};
 use server_releasing::Writers;
 use std::alloc::{AllocError, Global};
 use std::io::{BufRead, Write};
@@ -249,7 +253,7 @@ fn answer<R: Wait + Clock, K: Kern>(
     ensures mark { seat.new.mark ≡ seat.old.mark }
 {
     let line = line?;
-    match request_of(service.alloc, line.as_slice())? {
+    match asked(service, line.as_slice())? {
         Request::Change(change) => carry_out(service, seat, hand, &change),
         Request::Ages(request) => take_out_old(service, seat, hand, &request, replies),
         Request::Status => {
@@ -263,6 +267,20 @@ fn answer<R: Wait + Clock, K: Kern>(
         )?)),
         Request::Drop(chosen) => Ok(Told::Dropped(let_go(service.rt, service.writers, &chosen)?)),
         Request::Stop => stop(service, seat),
+    }
+}
+
+/// What a line asks for now. The refusal says so if the name of a group is too long.
+fn asked<R: Wait + Clock, K: Kern>(
+    service: &OperatorService<'_, R, K>,
+    line: &[u8],
+) -> Result<Request, Refused>
+    ensures { IfErr result (λ error. error ≢ Refused.Fault) }
+{
+    match request_of(service.alloc, line, moment(service.rt)) {
+        Ok(request) => Ok(request),
+        Err(ParseError::Bad) if has_long_name(line) => Err(Refused::LongName),
+        Err(error) => Err(Refused::from(error)),
     }
 }
 

@@ -35,6 +35,9 @@ pub(crate) enum Refused {
     /// The line is not one of the operator's.
     #[error("E14 Bad")]
     Bad,
+    /// The line would be one, but the name of its group is too long.
+    #[error("E14 Bad: the name of a group has more than 40 octets")]
+    LongName,
 }
 
 impl Refused {

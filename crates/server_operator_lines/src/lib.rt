@@ -9,6 +9,6 @@ mod line_reader;
 mod requests;
 
 pub use ages::AgeRequest;
-pub use line_changes::Change;
+pub use line_changes::{Change, has_long_name};
 pub use line_reader::{ANSWER_END, LINE_OCTETS, Next, next_line};
 pub use requests::{Request, request_of};

@@ -5,6 +5,7 @@ ghost use Rattle.server_operator_lines.specs.Changes.{AsksNothing, DropsNothing,
 
 use crate::ages::{AgeRequest, ages_in};
 use crate::line_changes::{Change, change_of};
+use model::Moment;
 use program_script::ParseError;
 use server_roster::Chosen;
 use std::alloc::Global;
@@ -29,11 +30,12 @@ pub enum Request {
 /// What the line begins with that ends sessions.
 const DROP: &[u8] = b"drop ";
 
-/// What a line asks for (docs/OPERATING.md). It is given without its LF. `Bad` if it asks for nothing; `Memory` may come for a line
+/// What a line asks for (docs/OPERATING.md). It is given without its LF, with the present moment, if
+/// the clock gives one. `Bad` if it asks for nothing; `Memory` may come for a line
 /// that asks for a change or an expiry by age, or for nothing. Neither changes anything.
-pub fn request_of(alloc: Global, line: &[u8]) -> Result<Request, ParseError>
-    ensures ok { IfOk result (IsAskedBy line.now) }
-    ensures err { IfErr result (λ error. (error ≡ ParseError.Memory) ⊎ ((error ≡ ParseError.Bad) × AsksNothing line.now)) }
+pub fn request_of(alloc: Global, line: &[u8], now: Option<Moment>) -> Result<Request, ParseError>
+    ensures ok { IfOk result (IsAskedBy now line.now) }
+    ensures err { IfErr result (λ error. (error ≡ ParseError.Memory) ⊎ ((error ≡ ParseError.Bad) × AsksNothing now line.now)) }
 {
     if line == b"status".as_slice() {
         return Ok(Request::Status);
@@ -52,7 +54,7 @@ pub fn request_of(alloc: Global, line: &[u8]) -> Result<Request, ParseError>
         Ok(None) => {}
         Err(refused) => return Err(refused),
     }
-    match change_of(alloc, line) {
+    match change_of(alloc, line, now) {
         Ok(change) => Ok(Request::Change(change)),
         Err(refused) => Err(refused),
     }

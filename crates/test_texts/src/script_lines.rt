@@ -1,7 +1,7 @@
 //! How the lines of a script are read, and how octets are printed.
 
-use model::Status;
-use program_script::{Line, ParseError, days, escaped, is_blank, number, parse};
+use model::{Moment, Status};
+use program_script::{Line, ParseError, days, escaped, is_blank, number, parse, parse_at};
 use std::alloc::{AllocError, Global};
 use test_support_data::{Answer, Area, Arguments, RowError};
 
@@ -9,7 +9,7 @@ use test_support_data::{Answer, Area, Arguments, RowError};
 pub struct ScriptLines;
 
 impl Area for ScriptLines {
-    /// `parse LINE`: what the line asks for. `number WORD`, `days WORD`. `blank TEXT`: whether it shows nothing. `escaped OCTETS`: the octets as they are printed.
+    /// `parse LINE`: what the line asks for; `parse_at LINE MOMENT`: the same at this moment, or where there is none. `number WORD`, `days WORD`. `blank TEXT`: whether it shows nothing. `escaped OCTETS`: the octets as they are printed.
     fn answer(
         &mut self,
         alloc: Global,
@@ -19,7 +19,11 @@ impl Area for ScriptLines {
     ) -> Result<(), RowError> {
         let octets = arguments.octets()?;
         match call {
-            "parse" => answer_parsed(alloc, octets.as_slice(), answer),
+            "parse" => answer_parsed(parse(alloc, octets.as_slice()), answer),
+            "parse_at" => {
+                let now = Moment::at(arguments.number()?);
+                answer_parsed(parse_at(alloc, octets.as_slice(), now), answer)
+            }
             "number" => Ok(answer.found(number(octets.as_slice()))?),
             "days" => Ok(answer.found(days(octets.as_slice()))?),
             "blank" => Ok(answer.is(is_blank(octets.as_slice()))?),
@@ -29,8 +33,8 @@ impl Area for ScriptLines {
     }
 }
 
-fn answer_parsed(alloc: Global, line: &[u8], answer: &mut Answer) -> Result<(), RowError> {
-    match parse(alloc, line) {
+fn answer_parsed(read: Result<Line, ParseError>, answer: &mut Answer) -> Result<(), RowError> {
+    match read {
         Ok(line) => answer_line(&line, answer)?,
         Err(ParseError::Bad) => answer.word("bad event")?,
         Err(ParseError::Memory) => return Err(RowError::Memory),
