@@ -85,6 +85,7 @@ first_stays served more h = take-append-le served.first served.kernel.spool more
 -- ---- join
 
 pub IsServed-joins : (served : TracedView) → IsServed served → IsServed (joins served) × (account (joins served) ≡ account served)
+    × (arrived_at (joins served) ≡ arrived_at served)
 IsServed-joins served h = (
   from_stands (joins served)
       (omega (arith, length-append served.sessions (nobody ∷ []), h.numbers))
@@ -92,6 +93,7 @@ IsServed-joins served h = (
       (Stands-along host served.kernel.durable refl refl inputs refl sent seats
       (record { spool_is = h.spool; finds = h.finds; each = by_number P number here others })),
   ap (λ f. account_in host (first_spool served) f served.trace) inputs,
+  inputs,
 )
   where
     host : Octets
@@ -153,6 +155,7 @@ more_at number octets k = if k == number then octets else []
 pub IsServed-arrives : (served : TracedView) (number : ℕ) (octets : Octets) (seat : Seat) → seat_of served.kernel number ≡ Some seat
     → IsServed served → IsServed (arrives served number octets) × HasMore (more_at number octets) (account served)
     (account (arrives served number octets))
+    × ((k : ℕ) → arrived_at (arrives served number octets) k ≡ arrived_at served k ++ more_at number octets k)
 IsServed-arrives served number octets seat is h = (
   from_stands (arrives served number octets)
       (length-with_sent served.sessions number _ ∙ h.numbers)
@@ -165,6 +168,7 @@ IsServed-arrives served number octets seat is h = (
             (h.each k));
       }),
   now,
+  later,
 )
   where
     host : Octets
@@ -229,6 +233,7 @@ IsServed-arrives served number octets seat is h = (
 
 pub IsServed-makes : (old new : TracedView) (change : Change) (serial : ℕ) → Makes old new change serial → IsServed old
     → IsServed new × (account new ≡ account_step (service old.kernel.host) (account old) (Admin change))
+    × (first_spool new ≡ first_spool old)
 IsServed-makes old new change serial m h =
     let steps = entries_are_steps (service host) (first_spool old) (arrived_at old) old.trace (Admin change) in (
       from_stands new
@@ -246,6 +251,7 @@ IsServed-makes old new change serial m h =
                 (ap (λ (a : Account _ _). a.outputs k) steps.0) (h.each k);
           }))),
       (λ i. account_in (rest.0 i) (first_is i) (λ k. (sent_at (m.sessions i) k).arrived) (m.trace i)) ∙ steps.0,
+      first_is,
     )
   where
     host : Octets
@@ -271,9 +277,10 @@ found_awaits None octets found is = absurd (cc is)
 found_awaits (Some mode) octets found is = refl
 
 pub IsServed-serves : (old new : TracedView) (number moment : ℕ) (message : Message) (rest : Octets) (outcome : Outcome)
-    → next_of old number ≡ Some (message, rest) → Serves old new number moment message outcome → IsServed old
+    → next_of old number ≡ Some (message, rest) → (s : Serves old new number moment message outcome) → IsServed old
     → IsServed new × (account new ≡ account_served (service old.kernel.host) (account old) number moment outcome.mark
-    (Some (message, rest)))
+    (Some (message, rest))) × (first_spool new ≡ first_spool old)
+    × (s.kernel.seat.session ≡ ((account old).server.connections number).session)
 IsServed-serves old new number moment message rest outcome found s h =
     let steps = entries_are_steps (service host) (first_spool old) (arrived_at old) old.trace entry in
     let all : account_in host (first_spool old) (arrived_at old) (old.trace ++ entry ∷ []) ≡ account_served (service host)
@@ -296,6 +303,8 @@ IsServed-serves old new number moment message rest outcome found s h =
                 (ap (λ (a : Account _ _). a.outputs k) all) (each k);
           }))),
       (λ i. account_in (ex.host i) (first_is i) (λ k. (sent_at (s.sessions i) k).arrived) (s.trace i)) ∙ all,
+      first_is,
+      present.session,
     )
   where
     host : Octets
@@ -403,6 +412,7 @@ IsServed-serves old new number moment message rest outcome found s h =
 
 pub IsServed-leaves : (served : TracedView) (number : ℕ) → IsServed served
     → IsServed (leaves served number) × (account (leaves served number) ≡ account served)
+    × (arrived_at (leaves served number) ≡ arrived_at served)
 IsServed-leaves served number h = go (seat_of served.kernel number) refl
   where
     host : Octets
@@ -429,13 +439,16 @@ IsServed-leaves served number h = go (seat_of served.kernel number) refl
         (λ k differs. updated-other (seat_of served.kernel) number k None differs)
 
     absent : seat_of served.kernel number ≡ None → IsServed (after false) × (account (after false) ≡ account served)
+        × (arrived_at (after false) ≡ arrived_at served)
     absent none = (
       from_stands (after false) h.numbers h.opening h.durable
           (Stands-along host served.kernel.durable refl refl refl refl refl (seats ∙ same_functions _ _ (gone none)) (as_stands served h)),
       refl,
+      refl,
     )
 
     here : (seat : Seat) → seat_of served.kernel number ≡ Some seat → IsServed (after true) × (account (after true) ≡ account served)
+        × (arrived_at (after true) ≡ arrived_at served)
     here seat is =
         let known = there_joined host served.kernel.durable (session_at served.sessions number) seat
         ((account served).server.connections number) ((account served).outputs number)
@@ -470,12 +483,16 @@ IsServed-leaves served number h = go (seat_of served.kernel number) refl
               (Stands-along host served.kernel.durable refl refl inputs refl (same_functions _ _ sent_is) seats
               (record { spool_is = h.spool; finds = h.finds; each = each })),
           ap (λ f. account_in host (first_spool served) f served.trace) inputs,
+          inputs,
         )
 
     go : (o : Option Seat) → seat_of served.kernel number ≡ o
         → IsServed (leaves served number) × (account (leaves served number) ≡ account served)
-    go None is = subst (λ o. IsServed (after (is_some o)) × (account (after (is_some o)) ≡ account served)) (sym is) (absent is)
-    go (Some seat) is = subst (λ o. IsServed (after (is_some o)) × (account (after (is_some o)) ≡ account served)) (sym is) (here seat is)
+        × (arrived_at (leaves served number) ≡ arrived_at served)
+    go None is = subst (λ o. IsServed (after (is_some o)) × (account (after (is_some o)) ≡ account served)
+        × (arrived_at (after (is_some o)) ≡ arrived_at served)) (sym is) (absent is)
+    go (Some seat) is = subst (λ o. IsServed (after (is_some o)) × (account (after (is_some o)) ≡ account served)
+        × (arrived_at (after (is_some o)) ≡ arrived_at served)) (sym is) (here seat is)
 
 -- ---- a release
 
@@ -491,11 +508,13 @@ pub IsServed-gives : (served : TracedView) (given : Ready) → AreKnown served.s
     → ((k : ℕ) → GivenTo served.kernel.durable (seat_of served.kernel k) (seat_in given.seats k) (given_in k given.entries))
     → IsServed served
     → IsServed (gives served given) × (account (gives served given) ≡ account served)
+    × (arrived_at (gives served given) ≡ arrived_at served)
 IsServed-gives served given known gave h = (
   from_stands (gives served given) (length-with_released served.sessions given.entries ∙ h.numbers) h.opening h.durable
       (Stands-along host served.kernel.durable refl refl inputs refl (same_functions _ _ sent_is) refl
       (record { spool_is = h.spool; finds = h.finds; each = each })),
   ap (λ f. account_in host (first_spool served) f served.trace) inputs,
+  inputs,
 )
   where
     host : Octets

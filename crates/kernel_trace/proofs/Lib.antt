@@ -9,3 +9,4 @@ pub mod Peers
 pub mod Sound
 pub mod Room
 pub mod Within
+pub mod Marks

@@ -1,5 +1,5 @@
 -- What the fields keep, through each call.
-use Rattle.std.proofs.Common.{◌≡◌, ◌≢◌, ◌⊎◌, inl, inr, ℕ, zero, suc, ◌+◌, ◌≤◌, ◌==◌, Bool, true, false, List, [], ◌∷◌, ◌++◌, length, take}
+use Rattle.std.proofs.Common.{◌≡◌, ◌≢◌, ◌⊎◌, inl, inr, ℕ, zero, suc, ◌+◌, ◌≤◌, ◌<◌, ◌==◌, Bool, true, false, List, [], ◌∷◌, ◌++◌, length, take}
 use Rattle.std.proofs.Common.{Option, Some, None, refl, ap, sym, ◌∙◌, subst, arith, length-append}
 use Rattle.std.specs.Prelude.{filter, is_err, not, OnOk, IfOk, IfSome, IsNone, MatchOption, OnErr, Result, Ok, Err, unwrap_or, is_some}
 use Rattle.std.specs.Prelude.{if◌then◌else◌, min}
@@ -13,6 +13,7 @@ use Rattle.kernel.specs.Errors.{of_exec}
 use Rattle.kernel_shared.specs.declared.errors.ExecError.{ExecError}
 use Rattle.kernel_shared.specs.declared.errors.ExecError.TheVariants as exec
 use Rattle.kernel.specs.Kept.{IsKept}
+use Rattle.model.specs.Calendar.{moment_limit}
 use Rattle.model.specs.News.{mode_of, service}
 use Rattle.model.specs.Stream.{Octets, next}
 use Rattle.model.specs.declared.change.Change.{Change}
@@ -31,11 +32,12 @@ use Rattle.kernel_trace.specs.Events.{Serves}
 use Rattle.kernel_trace.specs.Fields.{AreKnown, Becomes, InputsStand, IsSound, given_in}
 use Rattle.kernel_trace.specs.Input.{Found, HoldsMessage, MayAsk, Waits}
 use Rattle.kernel_trace.specs.Traced.{IsPresent, IsServed, IsSession, IsThere, IsUnknown, TracedView, account, arrived_at, nobody, sent_at}
-use Rattle.kernel_trace.specs.Traced.{next_of, numbered, session_at, with_numbered}
+use Rattle.kernel_trace.specs.Traced.{first_spool, next_of, numbered, session_at, with_numbered}
 use Rattle.kernel_trace.specs.declared.input.Input.{Input}
 use Rattle.kernel_trace.proofs.Events.{account_in, IsServed-arrives, IsServed-joins, IsServed-kernel, IsServed-leaves, IsServed-makes}
 use Rattle.kernel_trace.proofs.Events.{IsServed-gives, IsServed-serves, gives, more_at}
 use Rattle.synchrony.specs.Framing.{next_in}
+use Rattle.kernel_trace.proofs.Marks.{AreMarked-along, marked_arrives, marked_makes, marked_serves}
 use Rattle.kernel_trace.proofs.Inputs.{Found-waits, Waits-may, Waits-served, next_fits}
 use Rattle.kernel_trace.proofs.Seats.{Given, by_number, eqb-other, one_gives}
 use Rattle.kernel_trace.proofs.Seats.{ready_gives, seat_in, seat_in-answered, seat_in-number}
@@ -101,6 +103,7 @@ sound_opens kernel durable none nobody_there =
       };
       many = refl;
       stand = λ number input seat mode is there awaits. absurd (let no : None ≡ Some input = sym (no_session number) ∙ is in cc);
+      marks = λ more. tt;
     }
   where
     unknown : (number : ℕ) → IsUnknown kernel.host (seat_of kernel number) ((account (opens kernel)).server.connections number)
@@ -136,9 +139,10 @@ sound_joins served inputs input fresh h =
           ))
           (λ seat mode there awaits. subst (λ xs. Waits input mode xs) (sym is_unknown.silent) (fresh mode))
           h.stand);
+      marks = AreMarked-along refl refl next.2 refl h.marks;
     }
   where
-    next : IsServed (joins served) × (account (joins served) ≡ account served)
+    next : IsServed (joins served) × (account (joins served) ≡ account served) × (arrived_at (joins served) ≡ arrived_at served)
     next = IsServed-joins served h.beside
 
     old : ℕ → Connection Session
@@ -247,6 +251,7 @@ sound_found served inputs inputs' number mode b is h becomes = (
         let same : mode ≡ other = cc (sym (connection_mode served number mode is h.beside) ∙ awaits) in
         subst (λ m. Waits now.0 m (connections number).pending) same (Found-waits b now.0 mode (connections number).pending found))
         h.stand);
+    marks = h.marks;
   },
   (now.0, ap (λ f. f number) changed ∙ updated-same (numbered inputs) number (Some now.0), found),
 )
@@ -294,6 +299,8 @@ sound_arrives served inputs inputs' number octets mode is h becomes =
           subst (λ (c : Connection Session). Waits now.0 m c.pending) (sym (next.1.connections number))
           (subst (λ xs. Waits now.0 m ((old number).pending ++ xs)) (sym here) (now.2 m (old number).pending was)))
           h.stand);
+      marks = marked_arrives served.kernel.host (first_spool served) (arrived_at served) (arrived_at (arrives served number octets))
+          (more_at number octets) served.trace next.2 h.marks;
     }
   where
     there : (seat : Seat) × (seat_of served.kernel number ≡ Some seat) × (mode_of seat.session.awaits ≡ Some mode)
@@ -301,6 +308,7 @@ sound_arrives served inputs inputs' number octets mode is h becomes =
 
     next : IsServed (arrives served number octets) × HasMore (more_at number octets) (account served)
         (account (arrives served number octets))
+        × ((k : ℕ) → arrived_at (arrives served number octets) k ≡ arrived_at served k ++ more_at number octets k)
     next = IsServed-arrives served number octets there.0 there.1 h.beside
 
     old : ℕ → Connection Session
@@ -332,11 +340,11 @@ sound_arrives served inputs inputs' number octets mode is h becomes =
 
 pub sound_serves : (served new : TracedView) (inputs inputs' : List Input) (number moment : ℕ) (message : Message) (rest : Octets)
     (outcome : Outcome) (input : Input)
-    → next_of served number ≡ Some (message, rest) → Serves served new number moment message outcome → IsSound served inputs
-    → numbered inputs number ≡ Some input
+    → next_of served number ≡ Some (message, rest) → Serves served new number moment message outcome → moment < moment_limit
+    → IsSound served inputs → numbered inputs number ≡ Some input
     → Becomes inputs inputs' number (λ before after. after ≡ record { reader = before.reader; message = None })
     → ((m : Mode) → Waits (record { reader = input.reader; message = None }) m rest) → IsSound new inputs'
-sound_serves served new inputs inputs' number moment message rest outcome input found s h at becomes waits =
+sound_serves served new inputs inputs' number moment message rest outcome input found s before h at becomes waits =
     record {
       beside = next.0;
       many = ap length now.1 ∙ (length-with inputs number now.0 ∙ (h.many ∙ sym (ap length s.sessions)));
@@ -346,13 +354,15 @@ sound_serves served new inputs inputs' number moment message rest outcome input 
           (λ seat m there awaits. subst (λ (c : Connection Session). Waits now.0 m c.pending) (sym (updated-same old number reply))
           (subst (λ x. Waits x m rest) (sym now.2) (waits m)))
           h.stand);
+      marks = marked_serves served new number moment message rest outcome found s before next.2 next.3 h.beside h.marks;
     }
   where
     mark : Mark
     mark = outcome.mark
 
     next : IsServed new × (account new ≡ account_served (service served.kernel.host) (account served) number moment outcome.mark
-        (Some (message, rest)))
+        (Some (message, rest))) × (first_spool new ≡ first_spool served)
+        × (s.kernel.seat.session ≡ ((account served).server.connections number).session)
     next = IsServed-serves served new number moment message rest outcome found s h.beside
 
     old : ℕ → Connection Session
@@ -394,6 +404,8 @@ sound_makes served new inputs change serial m h =
       beside = next.0;
       many = h.many ∙ sym (ap length m.sessions);
       stand = Inputs-along (ap (λ (a : Account Session Change). a.server.connections) next.1) refl (ap seat_in m.kernel.rest.2) h.stand;
+      marks = AreMarked-along m.kernel.rest.0 next.2 (ap (λ xs k. (sent_at xs k).arrived) m.sessions) m.trace
+          (marked_makes served.kernel.host (first_spool served) (arrived_at served) served.trace change h.marks);
     }
 
 -- fewer sessions are there
@@ -419,6 +431,7 @@ sound_leaves served inputs number h =
           (λ seat is. absurd (let no : None ≡ Some seat = sym (updated-same (seat_of served.kernel) number None) ∙ is in cc))
           (λ k differs seat is. (seat, sym (updated-other (seat_of served.kernel) number k None differs) ∙ is)))
           h.stand);
+      marks = AreMarked-along refl refl next.2 refl h.marks;
     }
   where
     many : (b : Bool) → length (if b then with_numbered served.sessions number (record (sent_at served.sessions number) { left = true })
@@ -441,6 +454,7 @@ sound_gives served inputs given known gave h =
           (fewer (account served).server.connections (numbered inputs) (seat_of served.kernel) (seat_in given.seats)
           (λ k seat is. was (seat_of served.kernel k) (seat_in given.seats k) _ (gave k) seat is)
           h.stand);
+      marks = AreMarked-along refl refl next.2 refl h.marks;
     }
   where
     was : (o after : Option Seat) (octets : List ℕ) → Given served.kernel.durable o after octets → (seat : Seat) → after ≡ Some seat
@@ -476,6 +490,7 @@ sound_kernel served kernel inputs host spool seats joined more within h =
       many = h.many;
       stand = Inputs-along (λ i. (account_in (host i) (take served.first (spool i)) (arrived_at served) served.trace).server.connections)
           refl (ap seat_in seats) h.stand;
+      marks = AreMarked-along host (ap (take served.first) spool) refl refl h.marks;
     }
 
 -- ---- tests in their order

@@ -11,6 +11,7 @@ use Rattle.kernel_outbox.specs.Queue.{Giving, ReadyEntry, entry_of as entry_give
 use Rattle.model.specs.declared.session.Session.{Session}
 use Rattle.synchrony.specs.Server.{Connection, Entry, Command as Commanded, Admin as Administered}
 use Rattle.kernel_trace.specs.Input.{Waits}
+use Rattle.kernel_trace.specs.Marks.{AreMarked}
 use Rattle.kernel_trace.specs.Traced.{IsServed, Sent, TracedView, account, numbered, with_numbered}
 use Rattle.kernel_trace.specs.declared.TracedKernel.TheInside.{Inside}
 use Rattle.kernel_trace.specs.declared.entry.Happened.{Happened}
@@ -49,6 +50,7 @@ pub record IsSound (served : TracedView) (its_inputs : List Input) : Type 0 wher
   pub beside : IsServed served
   pub many : length its_inputs ≡ length served.sessions
   pub stand : InputsStand (account served).server.connections (numbered its_inputs) (seat_of served.kernel)
+  pub marks : AreMarked served
 
 -- the input at this number changes in this way
 abbrev pub Becomes : List Input → List Input → ℕ → (Input → Input → Type 0) → Type 0

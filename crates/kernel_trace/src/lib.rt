@@ -18,6 +18,7 @@ ghost use Rattle.kernel_seats.specs.Seats.{ready_of};
 ghost use Rattle.kernel_trace.specs.Events.{DidExec, Makes, arrive_refusal, arrives, joins};
 ghost use Rattle.kernel_trace.specs.Events.{given_within, leaves, opens, releases, releases_of, with_kernel};
 ghost use Rattle.synchrony.specs.Server.{Admin};
+ghost use Rattle.kernel_trace.specs.Marks.{AreMarked};
 ghost use Rattle.kernel_trace.specs.Traced.{FollowsPlain, IsServed, TracedView, arrived_at, next_of, released_at};
 
 mod buffers;
@@ -95,12 +96,14 @@ impl TracedKernel {
         })
     }
 
-    /// Proof only: makes the invariant known to the caller. The kernel agrees with the plain server, and keeps what its lock keeps.
+    /// Proof only: makes the invariant known to the caller. The kernel agrees with the plain server, and keeps what its
+    /// lock keeps. The trace has the marks that it gives, and moments before the year 10000.
     #[tactic(auto, using(crate::proofs::Plain::follows_plain))]
     pub fn kept(&self)
         ensures served { IsServed self.now }
         ensures plain { FollowsPlain self.now }
         ensures kernel { IsKept self.now.kernel }
+        ensures marks { AreMarked self.now }
     {
         self.kernel.kept();
     }
@@ -172,6 +175,8 @@ impl TracedKernel {
             return Ok(None);
         };
         let outcome = self.kernel.exec(alloc, number, message, moment)?;
+        // for the proof: the moment is before the year 10000
+        let _seconds = moment.seconds();
         peer::forget(&mut self.peers, number);
         self.trace.push_reserved(Entry::new(Happened::Command(number, moment, outcome.mark)));
         Ok(Some(outcome))

@@ -34,33 +34,38 @@ released_of : (host : Octets) (durable : ℕ) (sent : Option Sent) (seat : Optio
 released_of host durable None seat connection outputs h = IsReleased-none durable outputs
 released_of host durable (Some sent) seat connection outputs h = h.released
 
+-- the plain server has the kernel's spool
+pub run_spool : (served : TracedView) → IsServed served
+    → (sync (service served.kernel.host) (first_spool served) (arrived_at served) served.trace).spool ≡ served.kernel.spool
+run_spool served h =
+    sym (ap (λ (s : PlainServer _ _). s.spool)
+    (account_sync (service served.kernel.host) (first_spool served) (arrived_at served) served.trace)) ∙ h.spool
+
 -- The theorem: with the durable changes left, or more.
+pub synchronous_with : (served : TracedView) → IsServed served → (p : ℕ) → served.kernel.durable ≤ p
+    → IsExternallySynchronous (service served.kernel.host) (first_spool served) (arrived_at served) served.trace (released_at served) p
+    (take p (sync (service served.kernel.host) (first_spool served) (arrived_at served) served.trace).spool)
+synchronous_with served h p le =
+    releases_are_synchronous (service served.kernel.host) (lawful served.kernel.host) (first_spool served) (arrived_at served) served.trace
+    (released_at served) p
+    (omega (arith, h.opening, length-take served.first served.kernel.spool))
+    (λ number. IsReleased-raise served.kernel.durable p (released_at served number) ((account served).outputs number) le
+    (released_of served.kernel.host served.kernel.durable (session_at served.sessions number) (seat_of served.kernel number) _ _
+    (h.each number)))
+
+-- so it is of an image that stands for these changes
 pub is_synchronous : (served : TracedView) → IsServed served → (p : ℕ) → served.kernel.durable ≤ p → (image : Octets)
     → Stands served.kernel.host image (take p served.kernel.spool)
     → IsSynchronous served.kernel.host (first_spool served) (arrived_at served) served.trace (released_at served) p image
 is_synchronous served h p le image stands =
     record {
       recovered = take p run;
-      stands = subst (λ S. Stands host image (take p S)) (sym same) stands;
-      synchronous = all;
+      stands = subst (λ S. Stands served.kernel.host image (take p S)) (sym (run_spool served h)) stands;
+      synchronous = synchronous_with served h p le;
     }
   where
-    host : Octets
-    host = served.kernel.host
-
     run : Spool
-    run = (sync (service host) (first_spool served) (arrived_at served) served.trace).spool
-
-    same : run ≡ served.kernel.spool
-    same = sym (ap (λ (s : PlainServer _ _). s.spool) (account_sync (service host) (first_spool served) (arrived_at served) served.trace))
-        ∙ h.spool
-
-    all : IsExternallySynchronous (service host) (first_spool served) (arrived_at served) served.trace (released_at served) p (take p run)
-    all =
-        releases_are_synchronous (service host) (lawful host) (first_spool served) (arrived_at served) served.trace (released_at served) p
-        (omega (arith, h.opening, length-take served.first served.kernel.spool))
-        (λ number. IsReleased-raise served.kernel.durable p (released_at served number) ((account served).outputs number) le
-        (released_of host served.kernel.durable (session_at served.sessions number) (seat_of served.kernel number) _ _ (h.each number)))
+    run = (sync (service served.kernel.host) (first_spool served) (arrived_at served) served.trace).spool
 
 -- ---- what the journal admits
 

@@ -12,3 +12,4 @@ pub mod Settling
 pub mod Settled
 pub mod Releases
 pub mod Refusing
+pub mod Reading

@@ -6,3 +6,4 @@ pub mod Fields
 pub mod Opening
 pub mod Lives
 pub mod Draining
+pub mod Reading

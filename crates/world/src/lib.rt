@@ -1,6 +1,6 @@
 //! The whole system under any list of events. At each moment, even within a device call, a crash leaves a disk that is
-//! externally synchronous with what was released. `specs/Images.antt` says what that is, `specs/Events.antt` what each
-//! event does, `specs/Tied.antt` what the system's invariant is.
+//! externally synchronous with what was released. `specs/Images.antt` says what that is, `specs/Reading.antt` how what was
+//! released is read, `specs/Events.antt` what each event does, `specs/Tied.antt` what the system's invariant is.
 #![tactic(auto)]
 
 ghost use Rattle.std.specs.Prelude.{IfOk, IfErr, List, ◌≡◌, ◌⊎◌, ◌≤◌, ℕ, Some, Ok, Err, true, [], MatchOption, ◌||◌};
@@ -20,6 +20,7 @@ ghost use Rattle.kernel.specs.Standing.{LeavesOpened, LeavesRefused};
 ghost use Rattle.world.specs.Images.{EachNow, EachSince, Fits, KeepsSpools, LeftFits, StandsForNone};
 ghost use Rattle.world.specs.Lives.{AreOneLife, Lived};
 ghost use Rattle.world.specs.Opening.{IsNew};
+ghost use Rattle.world.specs.Reading.{AreRead};
 ghost use Rattle.world.specs.Tied.{IsWorld};
 ghost use Rattle.world.specs.World.{WorldView, kernel_of, with_served};
 
@@ -90,6 +91,13 @@ impl<D: Disk> World<D> {
         let _ = self.journal.is_idle();
     }
 
+    /// Proof only: makes known to the caller how what was released is read.
+    pub fn is_read(&self)
+        ensures { AreRead self.now.served }
+    {
+        self.served.kept();
+    }
+
     /// Opens the device: all its changes are durable, and nothing has happened yet. So many sessions may exist at a time, and 4,096
     /// at most. A crash during the opening leaves a disk that stands for the spool of an image that a crash at the start might have
     /// left. The first good sync comes before every write. After it a crash leaves the volume that a read gives, with its label and
@@ -151,18 +159,21 @@ impl<D: Disk> World<D> {
     /// Makes one event happen. A crash at any moment of the event, even within a device call, leaves a disk that is
     /// externally synchronous with the trace and the released octets at its start. A crash afterwards leaves one that
     /// is synchronous with those at its end. `did` says what the event does by its answer (`Did` in
-    /// `specs/Events.antt`). `keeps` says that the system's invariant holds again afterwards (`IsWorld` in
+    /// `specs/Events.antt`). `read` says how a client that knows RFC 3977 alone reads what was released (`IsRead` in
+    /// `specs/Reading.antt`). `keeps` says that the system's invariant holds again afterwards (`IsWorld` in
     /// `specs/Tied.antt`).
     pub fn step(&mut self, alloc: Global, event: &Event) -> Result<StepAnswer, StepError>
         ensures did { Did D.device D.write_grows D.sync_grows self.old event.now result self.new }
         ensures during { EachSince (D.device self.old.journal.disk) (D.device self.new.journal.disk) (Fits self.old) }
         ensures now { EachNow (D.device self.new.journal.disk) (Fits self.new) }
         ensures since { LeftFits (D.device self.old.journal.disk) (D.device self.new.journal.disk) (Fits self.old) }
+        ensures read { AreRead self.new.served }
         ensures keeps { IsWorld D.device self.new }
     {
         self.kept();
         let result = self.happen(alloc, event);
         self.kept();
+        self.is_read();
         result
     }
 
@@ -180,15 +191,18 @@ impl<D: Disk> World<D> {
             (λ image. (j : ℕ) × (middle : WorldView D)
             × Passed D.device D.write_grows D.sync_grows self.old events.now result self.new j middle × Fits middle image) }
         ensures now { EachNow (D.device self.new.journal.disk) (Fits self.new) }
+        ensures read { AreRead self.new.served }
         ensures keeps { IsWorld D.device self.new }
     {
         self.kept();
         for place in 0..events.len() {
             let result = self.step(alloc, &events[place]);
             if is_for_memory(&result) {
+                self.is_read();
                 return place as u64;
             }
         }
+        self.is_read();
         events.len() as u64
     }
 

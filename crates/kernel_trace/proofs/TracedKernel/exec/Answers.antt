@@ -189,7 +189,7 @@ invariant_of-self-2 c =
       sessions = c.forget.ensures.sent ∙ c.find.ensures.sent;
       ready = refl;
     })
-    f.0 there.at c.forget.ensures.input there.waits
+    c.seconds-seconds.ensures.limit f.0 there.at c.forget.ensures.input there.waits
 
 pub returns : goal.returns
 returns c =
