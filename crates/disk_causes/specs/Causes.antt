@@ -3,7 +3,8 @@ use Rattle.std.specs.Prelude.{ℤ, pos, int_lt, unsigned_abs, Option, None, Some
 use Rattle.std.specs.declared.io.ErrorKind.{ErrorKind}
 use Rattle.std.specs.declared.io.ErrorKind.TheVariants as kind
 use Rattle.disk_causes.specs.declared.Cause.{Cause}
-use Rattle.disk_causes.specs.declared.Cause.TheVariants.{NoSpace, Quota, ReadOnly, TooLarge, Io, Denied, Missing, Stale, Short, Replaced, Other}
+use Rattle.disk_causes.specs.declared.Cause.TheVariants.{NoSpace, Quota, ReadOnly, TooLarge, Io, Denied}
+use Rattle.disk_causes.specs.declared.Cause.TheVariants.{Missing, Stale, Short, Replaced, Other}
 
 -- what the kind says; any other one says nothing
 abbrev pub by_kind : ErrorKind → Cause

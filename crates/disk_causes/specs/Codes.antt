@@ -1,7 +1,8 @@
 -- The numbers by which threads share a cause: each cause has one of its own, and 0 is that of none.
 use Rattle.std.specs.Prelude.{ℕ, ◌≢◌}
 use Rattle.disk_causes.specs.declared.Cause.{Cause}
-use Rattle.disk_causes.specs.declared.Cause.TheVariants.{NoSpace, Quota, ReadOnly, TooLarge, Io, Denied, Missing, Stale, Short, Replaced, Other}
+use Rattle.disk_causes.specs.declared.Cause.TheVariants.{NoSpace, Quota, ReadOnly, TooLarge, Io, Denied}
+use Rattle.disk_causes.specs.declared.Cause.TheVariants.{Missing, Stale, Short, Replaced, Other}
 
 abbrev pub code_of : Cause → ℕ
 code_of NoSpace = 1

@@ -7,8 +7,8 @@ use Rattle.kernel_expiring.specs.declared.AgedGroup.{AgedGroup}
 use Rattle.kernel_expiring.specs.declared.AgedGroup.TheVariants.{Spared, Aged}
 
 -- so many groups are treated, with so many articles
-pub record IsTreated {V E : Type 0} (found : V → ℕ → AgedGroup → Type 0) (treated : V → V → AgedArticles → Result Unit E → Type 0) (old new : V)
-    (place articles : ℕ) : Type 0 where
+pub record IsTreated {V E : Type 0} (found : V → ℕ → AgedGroup → Type 0) (treated : V → V → AgedArticles → Result Unit E → Type 0)
+    (old new : V) (place articles : ℕ) : Type 0 where
   pub groups : List AgedGroup
   pub treats : HasTreated found treated old groups new
   pub many : length groups ≡ place

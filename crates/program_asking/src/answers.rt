@@ -31,9 +31,9 @@ pub fn line_of(alloc: Global, words: &[&str]) -> Result<String, AllocError>
     Ok(line)
 }
 
-/// Reads an answer up to `ANSWER_END`, and writes each of its lines as it comes. `Refused` if the last line is a refusal. `Cut` if the lines
-/// end before, if there is none, or if one is longer than a line of the operator may be; `Unread` if they can't be read, and `Unwritten` if
-/// one can't be written. What was written before stays.
+/// Reads an answer up to `ANSWER_END`, and writes each of its lines as it comes. `Refused` if the last line is a refusal. `Cut` if the
+/// lines end before, if there is none, or if one is longer than a line of the operator may be; `Unread` if they can't be read, and
+/// `Unwritten` if one can't be written. What was written before stays.
 pub fn read_answer<R: Wait, L: BufRead, W: Write>(
     rt: &R,
     alloc: Global,

@@ -147,9 +147,9 @@ pub struct Renewal<'a> {
     pub is_json: bool,
 }
 
-/// Reads the words, the first of which is the program's name, at this moment, if the clock gives one. If they are not understood, the parser's text goes to
-/// `faults`; help goes to `output`. `Bad` if a word is outside its grammar or range, `Memory` if an
-/// allocation was refused.
+/// Reads the words, the first of which is the program's name, at this moment, if the clock gives one. If they are not understood, the
+/// parser's text goes to `faults`; help goes to `output`. `Bad` if a word is outside its grammar or range, `Memory` if an allocation was
+/// refused.
 pub fn read_words<'a, S: AsStr, W: Write, F: Write>(
     alloc: Global,
     words: &'a [S],

@@ -185,14 +185,14 @@ whose address has as many sessions as are free, or as --most-from permits. \
 Copy the volume for a backup while the server is stopped. \
 The file of --metrics is in the text format of Prometheus; each time one beside it is written, whose name ends in .part, and renamed.
 
-Standard input takes these lines. `group NAME STATUS MOMENT DESCRIPTION` makes a group, where MOMENT may be `now`, and `expire NAME N` takes the \
-articles of a group up to that number out of it; the serial is printed once it is durable, or the refusal. `expire-older DAYS` or \
-`expire-older DAYS WILDMAT` takes out what `newsd expire --older-than` would, and prints `SERIAL expire NAME N` for each group, then \
-`articles COUNT`; `list-older` prints the same without serials, and takes nothing out. `status` prints the \
-state of the volume and of the server on one line, `sessions` a line for each session and their number; `drop N` disconnects the one \
-with this number, `drop NETWORK` those of the callers there. `stop` commits what was accepted, prints `stopped` and ends the server with \
-status 0. Where the device fails, the next caller is told `400 Service ends` and the server ends with `E1 Fault`, status 1. \
-Serve the volume again then: what was acknowledged is there. The same holds after the process was killed.";
+Standard input takes these lines. `group NAME STATUS MOMENT DESCRIPTION` makes a group, where MOMENT may be `now`, and `expire NAME N` \
+takes the articles of a group up to that number out of it; the serial is printed once it is durable, or the refusal. `expire-older DAYS` \
+or `expire-older DAYS WILDMAT` takes out what `newsd expire --older-than` would, and prints `SERIAL expire NAME N` for each group, then \
+`articles COUNT`; `list-older` prints the same without serials, and takes nothing out. `status` prints the state of the volume and of the \
+server on one line, `sessions` a line for each session and their number; `drop N` disconnects the one with this number, `drop NETWORK` \
+those of the callers there. `stop` commits what was accepted, prints `stopped` and ends the server with status 0. Where the device fails, \
+the next caller is told `400 Service ends` and the server ends with `E1 Fault`, status 1. Serve the volume again then: what was \
+acknowledged is there. The same holds after the process was killed.";
 
 /// What `expire` does, in short.
 const EXPIRING: &str = "\

@@ -118,8 +118,8 @@ pub fn format_new<R: Files<File = File>>(
     put(rt, path, named)
 }
 
-/// Makes an empty volume in place of an empty file, whose owner, group and mode it gets, as `format_new` makes one; the file stays as it was
-/// until then. Where no file may be made beside it, the volume is made within it, and a refusal makes it empty again.
+/// Makes an empty volume in place of an empty file, whose owner, group and mode it gets, as `format_new` makes one; the file stays as it
+/// was until then. Where no file may be made beside it, the volume is made within it, and a refusal makes it empty again.
 pub fn format_empty<R: Files<File = File>>(
     rt: &R,
     alloc: Global,

@@ -314,8 +314,8 @@ struct OwnFiles {
 }
 
 impl OwnFiles {
-    /// Looks at the file of the volume, before it is opened, and at what stands where the file for a monitor and the control socket are to be.
-    /// Refused where there is no volume, and where one of those may be something else. Nothing is written.
+    /// Looks at the file of the volume, before it is opened, and at what stands where the file for a monitor and the control socket are to
+    /// be. Refused where there is no volume, and where one of those may be something else. Nothing is written.
     fn at<R: Files<File = File> + Net>(
         rt: &R,
         alloc: Global,

@@ -44,9 +44,9 @@ impl Table {
         })
     }
 
-    /// The minute in which the next article of an address is read, where it is this minute now: this one, or the first in which fewer of that
-    /// address are read than may be. The article has its turn then. `None` if there is no room for the address; then the article is read at
-    /// once, and nothing changes.
+    /// The minute in which the next article of an address is read, where it is this minute now: this one, or the first in which fewer of
+    /// that address are read than may be. The article has its turn then. `None` if there is no room for the address; then the article is
+    /// read at once, and nothing changes.
     pub fn reserve(&mut self, address: IpAddr, now: u64) -> Option<u64>
         ensures given { IfSome result (λ minute. (at : ℕ) × IsPlaceOf self.old.posters.items address now at
             × (minute ≡ (turn_at self.old.posters.items self.old.most address now at).minute)

@@ -17,8 +17,8 @@ fn no_caller_takes_the_room_of_what_comes_once(rt: HostRuntime) {
     assert_eq!(rt; once_of_an_idle_log(&rt, rt.alloc()), Some(true));
 }
 
-/// The fault has a write of its own, and so have the lost lines. The others are written 256 at a time: among the first is the call that woke
-/// the thread for the fault, so there are five writes of them.
+/// The fault has a write of its own, and so have the lost lines. The others are written 256 at a time: among the first is the call that
+/// woke the thread for the fault, so there are five writes of them.
 #[test]
 fn lines_that_are_there_are_written_together(rt: HostRuntime) {
     assert_eq!(rt; writes_of_a_full_log(&rt, rt.alloc()), Some(7));

@@ -10,8 +10,9 @@ use text_rnews::{
 pub struct Batches;
 
 impl Area for Batches {
-    /// `batch SIZE OCTETS`: the texts that are read when the octets arrive in pieces of this size, with `long` and its size for
-    /// one that is too long, and the refusal, if one ends them. `entry TEXT`: the text in a batch. `lf TEXT`, `crlf TEXT`: the text with other line ends.
+    /// `batch SIZE OCTETS`: the texts that are read when the octets arrive in pieces of this size, with `long` and its size for one that
+    /// is too long, and the refusal, if one ends them. `entry TEXT`: the text in a batch. `lf TEXT`, `crlf TEXT`: the text with other line
+    /// ends.
     fn answer(
         &mut self,
         alloc: Global,

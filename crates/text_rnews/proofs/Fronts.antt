@@ -125,7 +125,8 @@ split-more octets more found (Ok size) is =
             ∙ ap (λ r. Ok (Some (text (take size octets), whole r))) (drop-append-le size octets more there)
             ∙ ap (λ u. Ok (Some (text (take size octets), u))) (sym (fed_whole (drop size octets) more))
             ∙ ap (λ (p : Member × Unread). Ok (Some (p.0, fed p.1 more)))
-            (one_found (split octets (Ok size)) (text (take size octets), whole (drop size octets)) found (split-all octets size short there) is)
+            (one_found (split octets (Ok size)) (text (take size octets), whole (drop size octets)) found
+            (split-all octets size short there) is)
       ]
     ]
 
@@ -165,7 +166,8 @@ split-cause : (octets more : Octets) (cause : BatchCause) (size : Result ℕ Bat
 split-cause octets more cause (Err other) is = is
 split-cause octets more cause (Ok size) is =
     elim (cases_lt block_limit size) [
-      | inl long ↦ absurd (found_not_refused (split octets (Ok size)) (too_long size, without size octets) cause is (split-long octets size long))
+      | inl long ↦ absurd (found_not_refused (split octets (Ok size)) (too_long size, without size octets) cause is
+          (split-long octets size long))
       | inr short ↦ elim (cases_lt (length octets) size) [
         | inl missing ↦ absurd (wanted_not_refused (split octets (Ok size)) cause is (split-wanted octets size short missing))
         | inr there ↦ absurd (found_not_refused (split octets (Ok size)) (text (take size octets), whole (drop size octets)) cause is

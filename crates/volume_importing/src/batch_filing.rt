@@ -2,7 +2,8 @@
 
 ghost use Rattle.std.specs.Prelude.{◌≡◌, ◌≢◌, ◌∷◌, ◌<◌, [], IfOk, List, None, Ok, OnErr, OnOk, false, length, true, ℕ};
 ghost use Rattle.std.specs.Io.KnownBytes.{Consumes, IsAtEnd};
-ghost use Rattle.volume_importing.specs.Imported.{AreCounted, BecomesOf, HasImported, HasRead, HasTried, Imports, IsNoted, IsSame, is_refused};
+ghost use Rattle.volume_importing.specs.Imported.{AreCounted, BecomesOf, HasImported, HasRead, HasTried};
+ghost use Rattle.volume_importing.specs.Imported.{Imports, IsNoted, IsSame, is_refused};
 ghost use Rattle.text_rnews.specs.Batch.{Unread, fed, whole};
 ghost use Rattle.text_rnews.specs.Held.{handed_out};
 ghost use Rattle.spool.specs.View.{SpoolView};

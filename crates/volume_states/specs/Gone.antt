@@ -8,8 +8,8 @@ use Rattle.model.specs.Stream.{Octets}
 use Rattle.model_renewed.specs.Renewed.{husk}
 use Rattle.volume_states.specs.declared.state.Gone.{Gone}
 
--- an article that is gone counts as a text if it is longer than its husk. In the pack the husk takes 17 octets beside its own, and the text has
--- these more at least, wherever it stands
+-- an article that is gone counts as a text if it is longer than its husk. In the pack the husk takes 17 octets beside its own, and the
+-- text has these more at least, wherever it stands
 abbrev pub share_of : Octets → List Octets → Gone
 share_of text groups = record {
   articles = 1;

@@ -13,14 +13,16 @@ groups-preserved g c =
     let ready : V → Type 0 = g.T.TreatOld.is_ready c.args.treating.now in
     let old = c.args.volume.now in
     elim c.match-find.branch [
-      | in-Spared w ↦ subst (λ (v : V). IsTreated found treated old v (c.groups.place + 1) c.match-find.articles × ready v) (sym w.volume-is)
-          (subst (λ (n : ℕ). IsTreated found treated old c.groups.volume (c.groups.place + 1) n × ready c.groups.volume) (sym w.articles-is) (
+      | in-Spared w ↦ subst (λ (v : V). IsTreated found treated old v (c.groups.place + 1) c.match-find.articles × ready v)
+          (sym w.volume-is)
+          (subst (λ (n : ℕ). IsTreated found treated old c.groups.volume (c.groups.place + 1) n × ready c.groups.volume)
+          (sym w.articles-is) (
             one_spared found treated old c.groups.volume c.groups.place c.groups.articles c.find.result c.groups.invariant.0
                 w.in-Spared.is c.find.ensures,
             c.groups.invariant.1,
           ))
-      | in-Aged+in_ok-treat-in-Aged w ↦ subst (λ (v : V). IsTreated found treated old v (c.groups.place + 1) c.match-find.articles × ready v)
-          (sym w.volume-is)
+      | in-Aged+in_ok-treat-in-Aged w ↦
+          subst (λ (v : V). IsTreated found treated old v (c.groups.place + 1) c.match-find.articles × ready v) (sym w.volume-is)
           (subst (λ (n : ℕ). IsTreated found treated old w.treat.new.volume (c.groups.place + 1) n × ready w.treat.new.volume)
           (sym w.articles-is) (
             one_aged found treated old c.groups.volume w.treat.new.volume c.groups.place c.groups.articles _ w.in-Aged.aged c.find.result

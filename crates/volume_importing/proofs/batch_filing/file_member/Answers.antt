@@ -8,7 +8,8 @@ use Rattle.volume_importing.proofs.batch_filing.file_member.Goals as goal
 pub returns-in_ok-file-in-Text-clause-ok : goal.returns-in_ok-file-in-Text-clause-ok
 returns-in_ok-file-in-Text-clause-ok g c =
     let becomes =
-    subst (λ (o : Octets). Becomes c.make_room.new.self.spool c.file.new.self.spool (with_crlf o) c.args.moment c.in_ok-file-in-Text.field-0)
+    subst (λ (o : Octets). Becomes c.make_room.new.self.spool c.file.new.self.spool (with_crlf o) c.args.moment
+    c.in_ok-file-in-Text.field-0)
     c.deref.ensures.value c.in_ok-file-in-Text.ensures.ok in
     rw c.in-Text.is (c.make_room.new.self.spool, c.in_ok-make_room-in-Text.ensures.spool, becomes)
 
