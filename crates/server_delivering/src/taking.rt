@@ -1,5 +1,6 @@
 //! How fast a caller takes its replies while the server waits for it.
 
+ghost use Rattle.std.specs.Duration.{as_nanos};
 ghost use Rattle.std.specs.Prelude.{◌≡◌, ◌<◌, ◌↔◌, IsTrue, false};
 ghost use Rattle.server_delivering.specs.Patience.{least_octets};
 
@@ -58,8 +59,14 @@ impl Taking {
         self.octets = 0;
     }
 
-    /// The server begins to wait for the caller.
-    pub(crate) fn begin<R: Clock>(&mut self, rt: &R) {
+    /// The server begins to wait for the caller. What the system's buffers took before it ever waited doesn't count: the caller needn't have
+    /// taken any of that.
+    pub(crate) fn begin<R: Clock>(&mut self, rt: &R)
+        ensures { as_nanos self.old.waited ≡ 0 → self.new.octets ≡ 0 }
+    {
+        if self.waited.is_zero() {
+            self.octets = 0;
+        }
         self.at = Instant::now(rt).ok();
     }
 
