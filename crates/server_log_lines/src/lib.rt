@@ -5,6 +5,7 @@
 mod event_line;
 mod log_events;
 mod posts;
+mod refused_callers;
 
 pub use disk_causes::{Cause, CauseName};
 pub use event_line::{LogEntry, line};
@@ -13,3 +14,4 @@ pub use log_events::{
     SessionCounts, SessionRefusal, UsedPart,
 };
 pub use posts::{PostRefusal, RefusedPost, TakenPost};
+pub use refused_callers::Refusals;

@@ -5,7 +5,6 @@
 mod clock;
 mod log_writer;
 mod output;
-mod refused_callers;
 mod waiting;
 
 pub use clock::{Moments, beginning_of_1970, moment};

@@ -10,11 +10,11 @@
 //! written is kept until it can. The thread waits for the other channel alone, and is woken through it.
 
 use crate::output::{Lines, Output};
-use crate::refused_callers::Refusals;
 use crate::waiting::{Durable, Waiting, WaitingPost};
 use crate::{LogEntry, LogEvent, SessionRefusal, TakenPost, beginning_of_1970, moment};
 use crossbeam_channel::{Receiver, RecvTimeoutError, Sender, bounded};
 use model::Moment;
+use server_log_lines::Refusals;
 use server_metrics::EventCounts;
 use std::alloc::{AllocError, Global};
 use std::io::Write;

@@ -1,8 +1,9 @@
 //! Refused callers of which the log has not told yet, summed up by address and cause.
 
-ghost use Rattle.std.specs.Prelude.{◌≡◌, ◌≤◌, ◌<◌, ◌⊎◌, IfSome, false, vec_len};
+ghost use Rattle.std.specs.Prelude.{◌≡◌, ◌≤◌, ◌<◌, ◌⊎◌, ◌↔◌, IfNone, IfOk, IfSome, IsTrue, false, vec_len};
 
-use crate::{LogEntry, LogEvent, RefusedCallers, SessionRefusal};
+use crate::event_line::LogEntry;
+use crate::log_events::{LogEvent, RefusedCallers, SessionRefusal};
 use model::Moment;
 use std::alloc::{AllocError, Global};
 use std::net::SocketAddr;
@@ -17,26 +18,31 @@ struct Row {
     callers: RefusedCallers,
 }
 
-/// Sums of refused callers.
+/// Sums of refused callers, at most 64.
 #[derive(Drop)]
-pub(crate) struct Refusals {
+pub struct Refusals {
     rows: Vec<Row>,
 }
 
 impl Refusals {
     /// No callers. The memory for all sums is taken at once.
-    pub(crate) fn new(alloc: Global) -> Result<Refusals, AllocError> {
+    pub fn new(alloc: Global) -> Result<Refusals, AllocError>
+        ensures { IfOk result (λ sums. vec_len sums.rows ≡ 0) }
+    {
         Ok(Refusals {
             rows: Vec::with_capacity(alloc, ROWS)?,
         })
     }
 
-    pub(crate) fn is_empty(&self) -> bool {
+    /// Whether no caller is counted.
+    pub fn is_empty(&self) -> bool
+        ensures { IsTrue result ↔ (vec_len self.now.rows ≡ 0) }
+    {
         self.rows.is_empty()
     }
 
     /// The number of sums.
-    pub(crate) fn len(&self) -> usize
+    pub fn len(&self) -> usize
         ensures { result ≡ vec_len self.now.rows }
     {
         self.rows.len()
@@ -44,7 +50,7 @@ impl Refusals {
 
     /// Counts a caller that was refused at this moment. Answers false, and counts nothing, if it would need one sum more than there
     /// may be.
-    pub(crate) fn count(&mut self, moment: Moment, peer: SocketAddr, why: SessionRefusal) -> bool
+    pub fn count(&mut self, moment: Moment, peer: SocketAddr, why: SessionRefusal) -> bool
         ensures bound { (vec_len self.new.rows ≤ 64) ⊎ (vec_len self.new.rows ≡ vec_len self.old.rows) }
         ensures kept { result ≡ false → self.new.rows.items ≡ self.old.rows.items }
     {
@@ -72,8 +78,11 @@ impl Refusals {
             && row.callers.why == why)
     }
 
-    /// The entry of the sum in this place.
-    pub(crate) fn entry(&self, at: usize) -> Option<LogEntry> {
+    /// The entry of the sum in this place, counted from 0. `None` if there are no more than so many sums.
+    pub fn entry(&self, at: usize) -> Option<LogEntry>
+        ensures some { IfSome result (λ entry. at < vec_len self.now.rows) }
+        ensures none { IfNone result (vec_len self.now.rows ≤ at) }
+    {
         let Row { moment, callers } = *self.rows.get(at)?;
         Some(LogEntry {
             moment,
@@ -82,7 +91,9 @@ impl Refusals {
     }
 
     /// Forgets all callers.
-    pub(crate) fn clear(&mut self) {
+    pub fn clear(&mut self)
+        ensures { vec_len self.new.rows ≡ 0 }
+    {
         self.rows.clear();
     }
 }
