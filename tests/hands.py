@@ -15,7 +15,7 @@ TOP = os.path.dirname(os.path.dirname(os.path.abspath(__file__)))
 CRATES = os.path.join(TOP, "crates")
 # the sources of the hand, of a desk and its turns, and of what the flusher rings
 SOURCES = ("kernel_shared/src/hands.rt", "kernel_shared/src/hooks.rt", "kernel_shared/src/arrivals.rt", "kernel_shared/src/bells.rt",
-           "server_releasing/src/turns.rt")
+           "server_outgoing/src/turns.rt")
 # what a desk has, as far as the turns ask for it
 OUTGOING = """//! What a session has outside of the kernel.
 
@@ -23,16 +23,16 @@ use std::alloc::{AllocError, Global};
 
 /// What a session has outside of the kernel.
 #[derive(Drop)]
-pub(crate) struct Outgoing {
+pub struct Outgoing {
     octets: u64,
 }
 
 impl Outgoing {
-    pub(crate) fn new(_alloc: Global) -> Result<Outgoing, AllocError> {
+    pub fn new(_alloc: Global) -> Result<Outgoing, AllocError> {
         Ok(Outgoing { octets: 0 })
     }
 
-    pub(crate) fn octets_out(&self) -> u64 {
+    pub fn octets_out(&self) -> u64 {
         self.octets
     }
 }
@@ -67,7 +67,7 @@ REFUSED = "error[borrow-e0499]: cannot borrow `*hand` as mutable more than once 
 BEGINS = {
     "server/src/staff.rt": "spawn(move || {",
     "server_releasing/src/writer.rt": "pub fn write_rests",
-    "server_operator/src/desk.rt": "pub fn answer_all",
+    "server_consoles/src/desk.rt": "pub fn answer_all",
 }
 WAITING = {
     "kernel_shared/src/bells.rt": ["wait_past"],
@@ -108,7 +108,7 @@ def a_desk_held_while_waiting_does_not_compile():
 
 def who_waits_asks_for_the_hand():
     """Each function by which a session's thread waits for others, and the one by which it takes a desk."""
-    for path, names in {**WAITING, "server_releasing/src/turns.rt": ["turn"]}.items():
+    for path, names in {**WAITING, "server_outgoing/src/turns.rt": ["turn"]}.items():
         for name in names:
             found = re.search(r"fn %s<.*?>\((.*?)\)" % name, source(path), re.S)
             if not found or not re.search(r"hand: &('a )?mut Hand\b", found.group(1)):

@@ -246,6 +246,19 @@ def each_named_crate_is_there():
             yield "docs/pictures/post.svg: no crate has the name %s" % name
 
 
+# a run of lines that are comments of a file or of an item
+COMMENT = re.compile(r"(?:^ *//[/!].*\n)+", re.MULTILINE)
+OF_COMMENT = re.compile(r"\bcrates? `(\w+)`")
+
+
+def each_crate_of_a_comment_is_there():
+    for path in sorted(it for it in FILES if re.fullmatch(r"crates/\w+/src/.*\.rt", it)):
+        for comment in COMMENT.findall(read(path)):
+            for name in OF_COMMENT.findall(re.sub(r"\s*\n *//[/!] ?", " ", comment)):
+                if name not in CRATES:
+                    yield "%s: no crate has the name %s" % (path, name)
+
+
 EDITS_OF = re.compile(r"\| ([a-z_]+) \| ((?:`[\w]+\.\w+`(?:, )?)+) \|")
 
 
@@ -355,7 +368,8 @@ def the_changelog_has_the_version():
 
 CHECKS = [each_link_leads_somewhere, each_named_file_is_there, no_line_is_too_long, pictures_are_what_their_scripts_draw,
           theorem_lists_what_has_to_be_believed, promises_go_by_the_layers, contracts_are_of_their_crates, each_named_crate_is_there,
-          each_named_edit_is_there, each_name_of_code_is_there, counts_are_those_of_the_tests, the_changelog_has_the_version]
+          each_crate_of_a_comment_is_there, each_named_edit_is_there, each_name_of_code_is_there, counts_are_those_of_the_tests,
+          the_changelog_has_the_version]
 # a check, a page, a text that stands there once, and something false in its place
 FALSE = [
     (each_link_leads_somewhere, "README.md", "](docs/GLOSSARY.md)", "](docs/GLOSSARIES.md)"),
@@ -369,6 +383,7 @@ FALSE = [
     (each_named_crate_is_there, "docs/ARCHITECTURE.md", "| disk_file | `disk_file/src/lib.rt`", "| filedisc | `disk_file/src/lib.rt`"),
     (each_named_crate_is_there, "docs/pictures/post.svg", "kernel_seats, kernel_outbox<", "kernel_seat, kernel_outbox<"),
     (each_named_crate_is_there, "tests/README.md", "| `test_model` |", "| `test_models` |"),
+    (each_crate_of_a_comment_is_there, "crates/text_husks/src/lib.rt", "crate `model_renewed`", "crate `renewed`"),
     (each_named_edit_is_there, "docs/THEOREM.md", "`happen.told_does_nothing`", "`happen.told_does_something`"),
     (each_name_of_code_is_there, "docs/ARCHITECTURE.md", "`write_home`", "`write_to_home`"),
     (counts_are_those_of_the_tests, "docs/PROMISES.md", " scripts and lists of words", "0 scripts and lists of words"),

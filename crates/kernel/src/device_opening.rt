@@ -37,7 +37,7 @@ pub struct Refused<D> {
 /// volume. `NotAVolume` (E3) if the device holds no volume with a label of its size. `Damaged` (E5) if it holds one,
 /// but no lawful spool of the label's host in the files of its format.
 pub fn open<D: Disk>(alloc: Global, disk: D, most: usize) -> Result<Opened<D>, Refused<D>>
-    // An idle journal of format 2, and the spool that stood on the device.
+    // An idle journal of format 3, and the spool that stood on the device.
     ensures opened { IfOk result (λ o. IsOpened D.device o.journal o.kernel) }
     ensures most { IfOk result (λ o. o.kernel.most ≡ min most 4096) }
     ensures format { IfOk result (λ o. o.journal.format ≡ 3) }

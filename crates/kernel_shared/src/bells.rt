@@ -91,8 +91,8 @@ impl Bells {
         self.flush_now();
     }
 
-    /// Whether the server's end was asked for. A thread looks at this before it reads from a caller, and the acceptor
-    /// before it joins a session.
+    /// Whether the server's end was asked for. A thread looks at this before it reads from a caller, and an acceptor
+    /// before it hands on a caller whose session was joined.
     pub fn is_stopping(&self) -> bool {
         self.is_stopping.load(Ordering::SeqCst)
     }

@@ -3,13 +3,13 @@
 ghost use Rattle.std.specs.Prelude.{◌≡◌};
 ghost use Rattle.journal.specs.Journal.{IsIdle};
 
-use crate::{MetricsFile, ServedFile};
 use disk::Disk;
 use journal::Journal;
 use model::Moment;
 use server_flusher::{FlushError, TurnSeat};
 use server_logging::Log;
 use server_mark::{Mark, Seat};
+use server_monitoring::{MetricsFile, ServedFile};
 use server_notify::Manager;
 use server_pace::Pace;
 use server_releasing::Limits;

@@ -3,7 +3,6 @@
 ghost use Rattle.std.specs.Prelude.{◌≡◌};
 ghost use Rattle.journal.specs.Journal.{IsIdle};
 
-use crate::monitoring::{Monitor, Watch};
 use crate::staff::{Recruiter, Staff, Started, Wanted};
 use crate::{ServeError, Server};
 use crossbeam_channel::{Receiver, Sender, bounded};
@@ -12,12 +11,13 @@ use journal_volume::BatchBuf;
 use kernel_shared::{Asking, Bells, Closing, Hooks, Kern, halt};
 use server_accepting::{Acceptor, Caller, Doors, FAREWELLS, Parting, Way, linger_all};
 use server_attending::{Attending, Verdicts, Watching, file_left};
+use server_consoles::Operator;
 use server_flusher::{FlushError, Flusher, FlusherEnd, flush_all};
 use server_logging::{Cause, Log, LogEvent, Moments};
 use server_mark::{Mark, Seat};
 use server_metrics::LongestTime;
+use server_monitoring::{Monitor, Watch};
 use server_notify::{Manager, Notice};
-use server_operator::Operator;
 use server_pace::Pace;
 use server_releasing::{Shared, Writers, release_all};
 use std::alloc::{AllocError, Global};

@@ -1,7 +1,7 @@
 //! The connections to the control socket. One thread accepts them, and each has a thread. None of them is joined, as those of the operator
 //! aren't: they may wait for whoever has connected, and nobody waits for them.
 
-use server_operator::{CONSOLES, Console, write_end};
+use server_consoles::{CONSOLES, Console, write_end};
 use std::alloc::{AllocError, Global};
 use std::io::{self, BufReader, BufWriter, ErrorKind, Read, Write};
 use std::os::unix::net::{UnixListener, UnixStream};

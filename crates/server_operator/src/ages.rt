@@ -5,8 +5,10 @@ ghost use Rattle.server_operator.specs.Told.{HasSeenStop, IsExpiryOf, IsSeen};
 ghost use Rattle.server_operator.specs.Treated.{HasGoneOver, IsTreatedAs};
 
 use crate::change_calls::expire;
-use crate::desk::{OperatorService, Reply, hand_on, make_durable};
+use crate::durable::make_durable;
 use crate::line_answer::{Answer, Refused, Told};
+use crate::replies::{Reply, hand_on};
+use crate::service::OperatorService;
 use crate::treated::Treated;
 use crossbeam_channel::Sender;
 use kernel_expiring::{AgedArticles, AgedGroup, TreatOld, since, treat_old};

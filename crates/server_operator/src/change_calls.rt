@@ -3,8 +3,8 @@
 ghost use Rattle.std.specs.Prelude.{◌≡◌, ◌≢◌, IfErr, IfOk};
 ghost use Rattle.server_operator.specs.Treated.{IsMadeOf};
 
-use crate::desk::OperatorService;
 use crate::line_answer::Refused;
+use crate::service::OperatorService;
 use crate::treated::Made;
 use kernel_shared::{AdminError, Admitted, Bells, ExpireError, Expired, Hand, Kern};
 use server_operator_lines::Change;

@@ -1,9 +1,11 @@
 //! How the operator's thread waits for a change to be durable, or for the flusher's stop.
 
-ghost use Rattle.std.specs.Prelude.{◌≡◌, ◌<◌, ◌≤◌, true, false};
+ghost use Rattle.std.specs.Prelude.{◌≡◌, ◌≢◌, ◌<◌, ◌≤◌, IfErr, IfOk, Ok, true, false};
 ghost use Rattle.server_operator.specs.Told.{HasSeenStop};
 
-use kernel_shared::Bells;
+use crate::line_answer::Refused;
+use crate::service::OperatorService;
+use kernel_shared::{Bells, Kern};
 use server_mark::{Mark, Seat};
 use std::sync::Wait;
 
@@ -32,6 +34,40 @@ pub(crate) fn is_durable<R: Wait>(
         bells.operator.park(rt);
     }
     unreachable!()
+}
+
+/// Waits until the change with this serial is durable. A refusal that reports what other changes did is answered once all changes
+/// that were accepted before it are: otherwise it could tell of one that a crash undoes. `Fault` if the flusher stopped before that.
+pub(crate) fn make_durable<R: Wait, K: Kern>(
+    service: &OperatorService<'_, R, K>,
+    seat: &mut Seat,
+    made: Result<u64, Refused>,
+) -> Result<u64, Refused>
+    requires mark { seat.old.mark ≡ service.now.mark.now }
+    requires made { IfErr made (λ error. error ≢ Refused.Fault) }
+    ensures told { IfOk result (λ serial. serial ≤ seat.new.seen) }
+    ensures same { IfOk result (λ serial. made ≡ Ok serial) }
+    ensures gone { IfErr result (λ error. error ≡ Refused.Fault → HasSeenStop seat.new) }
+    ensures mark { seat.new.mark ≡ seat.old.mark }
+{
+    let OperatorService {
+        rt,
+        kern,
+        mark,
+        bells,
+        ..
+    } = service;
+    let (answer, awaited) = match made {
+        Ok(serial) => (Ok(serial), serial),
+        Err(refused) if refused.reports_changes() => (Err(refused), kern.counts(*rt).accepted),
+        Err(refused) => return Err(refused),
+    };
+    bells.flush_now();
+    if is_durable(*rt, *mark, seat, *bells, awaited) {
+        answer
+    } else {
+        Err(Refused::Fault)
+    }
 }
 
 /// Waits until the flusher has stopped, and answers the number of durable changes that was read after that.

@@ -16,7 +16,7 @@ use thiserror::Error;
 
 /// Why a line is not answered with a serial.
 #[derive(Debug, Drop, Error)]
-pub(crate) enum Refused {
+pub enum Refused {
     /// The group was not made.
     #[error(transparent)]
     Group(AdminError),
@@ -88,7 +88,7 @@ impl From<ParseError> for Refused {
 
 /// The answer to a line that was not refused.
 #[derive(Drop)]
-pub(crate) enum Told {
+pub enum Told {
     /// The serial of a change that is durable.
     Serial(u64),
     /// The expiry of a group that is durable, by its serial; or one that was not made.
@@ -143,10 +143,10 @@ fn write_name<W: fmt::Write>(f: &mut Formatter<W>, name: &GroupName) -> fmt::Res
 }
 
 /// The answer to a line, or to a part of it.
-pub(crate) type Answer = Result<Told, Refused>;
+pub type Answer = Result<Told, Refused>;
 
-/// Writes an answer and an LF, and flushes.
-pub(crate) fn write_answer<A: Write>(answers: &mut A, answer: &Answer) -> io::Result<()> {
+/// Writes an answer and an LF, and flushes. An `Err` is that of the stream, which may have got a part of it.
+pub fn write_answer<A: Write>(answers: &mut A, answer: &Answer) -> io::Result<()> {
     match answer {
         Ok(told) => writeln!(answers, "{told}")?,
         Err(refused) => writeln!(answers, "{refused}")?,

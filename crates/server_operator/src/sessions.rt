@@ -12,7 +12,7 @@ use std::time::Clock;
 
 /// The sessions at one moment.
 #[derive(Drop)]
-pub(crate) struct Listing {
+pub struct Listing {
     sessions: Vec<ListedSession>,
 }
 

@@ -1,6 +1,6 @@
 //! What the operator is told of a running server.
 
-use crate::desk::OperatorService;
+use crate::service::OperatorService;
 use crate::sessions::States;
 use kernel_shared::{Kern, KernelCounts};
 use std::alloc::{AllocError, Global};
@@ -11,7 +11,7 @@ use volume_usage::Tallied;
 
 /// The volume and the kernel at one moment.
 #[derive(Drop)]
-pub(crate) struct Status {
+pub struct Status {
     host: String,
     format: u32,
     blocks: u64,

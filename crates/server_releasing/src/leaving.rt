@@ -5,12 +5,11 @@
 //! A block is left only while the session holds no output and has nothing to write. So nothing can be released for its
 //! session, no thread writes to its caller under the lock, and whoever has the lock has it for a short time.
 
-use crate::admitted::Admitted;
-use crate::outgoing::{LeftBlock, Patience};
-use crate::turns::Turn;
+use crate::answerable::Answerable;
 use crate::{Hand, ReplyWriter, Shared};
 use kernel_shared::{Asked, Bells, ExecError, ExecOutcome, Hooks, Kern};
 use model::{Message, Moment};
+use server_outgoing::{LeftBlock, Patience, Turn};
 use std::sync::Wait;
 use std::thread;
 use std::time::Clock;
@@ -130,8 +129,8 @@ impl ReplyWriter {
         turn: &mut Turn<'_>,
     ) -> Option<FiledBlock> {
         let left = turn.outgoing().take_left()?;
-        let answer = match Admitted::without_place(&left.block) {
-            Some(admitted) => self.answer_into(shared, turn, admitted, left.moment),
+        let answer = match Answerable::without_place(&left.block) {
+            Some(answerable) => self.answer_into(shared, turn, answerable, left.moment),
             // only blocks are left
             None => Err(ExecError::NoSession),
         };
@@ -143,7 +142,7 @@ impl ReplyWriter {
         turn.note_left(false);
         let outgoing = turn.outgoing();
         outgoing.note_filed(answer);
-        outgoing.write(shared, Patience::None);
+        shared.write(outgoing, Patience::None);
         let LeftBlock { block, asked, .. } = left;
         Some(FiledBlock {
             session: outgoing.sid,

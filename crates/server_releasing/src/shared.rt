@@ -1,10 +1,12 @@
 //! What the threads of a server share.
 
 use crate::Writers;
-use kernel_shared::{Asking, Bells, Closing};
+use kernel_shared::{Asking, Bells, Closing, Hooks, Kern};
 use server_delivering::Limits;
 use server_metrics::LongestTime;
+use server_outgoing::{Outgoing, Patience};
 use std::alloc::Global;
+use std::sync::Wait;
 use std::time::{Clock, Instant};
 
 /// What each thread knows of the server.
@@ -64,5 +66,12 @@ impl<'a, R: Clock, K, H> Shared<'a, R, K, H> {
         if let Ok(took) = since.elapsed(self.rt) {
             self.longest.note(took);
         }
+    }
+}
+
+impl<'a, R: Wait + Clock, K: Kern, H: Hooks> Shared<'a, R, K, H> {
+    /// Writes what was taken of a session, as `Outgoing::write` says.
+    pub(crate) fn write(&self, outgoing: &mut Outgoing, patience: Patience) {
+        outgoing.write(self.rt, self.kern, self.hooks, self.limits.stall, patience);
     }
 }

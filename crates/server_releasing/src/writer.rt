@@ -2,13 +2,12 @@
 //! ready, so the order on the socket is that of the kernel. The lock is taken before the kernel's, and no thread
 //! holds two of these locks.
 
-use crate::admitted::Admitted;
-use crate::outgoing::{Cut, Delivery, Outgoing, Patience};
-use crate::turns::{Desk, Turn};
+use crate::answerable::Answerable;
 use crate::{Hand, Shared};
 use kernel_outbox::RELEASE_ENTRIES;
 use kernel_shared::{ExecError, ExecOutcome, Hooks, Kern, Look};
 use model::{Message, Moment};
+use server_outgoing::{Cut, Delivery, Desk, Outgoing, Patience, Turn};
 use server_roster::{Chosen, Guest, ListedSession, Place};
 use std::alloc::{AllocError, Global};
 use std::net::{Shutdown, TcpStream};
@@ -131,13 +130,13 @@ impl ReplyWriter {
         if turn.outgoing().is_full() {
             self.release_ready(shared, turn.outgoing(), Patience::Long);
         }
-        let Some(admitted) = Admitted::of(shared, self.number, turn.outgoing(), message, moment)
+        let Some(answerable) = Answerable::of(shared, self.number, turn.outgoing(), message, moment)
         else {
             turn.end_before_send();
             return Err(Unanswered::NoPlace);
         };
         shared.asking.begin();
-        let answered = self.answer_into(shared, &mut turn, admitted, moment);
+        let answered = self.answer_into(shared, &mut turn, answerable, moment);
         shared.asking.end();
         if answered.is_ok() && turn.outgoing().is_full() {
             self.release_ready(shared, turn.outgoing(), Patience::Long);
@@ -164,7 +163,7 @@ impl ReplyWriter {
         &self,
         shared: &Shared<'_, R, K, H>,
         turn: &mut Turn<'_>,
-        admitted: Admitted<'_>,
+        answerable: Answerable<'_>,
         moment: Moment,
     ) -> Result<ExecOutcome, ExecError> {
         let outgoing = turn.outgoing();
@@ -177,7 +176,7 @@ impl ReplyWriter {
             shared.rt,
             shared.alloc,
             outgoing.sid,
-            admitted.message(),
+            answerable.message(),
             moment,
             &mut outgoing.ready,
         );
@@ -197,7 +196,7 @@ impl ReplyWriter {
         hand: &mut Hand,
     ) {
         let mut turn = self.desk.turn(shared.rt, hand);
-        turn.outgoing().write(shared, Patience::Long);
+        shared.write(turn.outgoing(), Patience::Long);
         if turn.end() {
             self.release(shared, hand);
         }
@@ -392,7 +391,7 @@ impl ReplyWriter {
         let mut has_taken = false;
         let mut is_held = true;
         for _ in shared.rt.forever() {
-            outgoing.write(shared, patience);
+            shared.write(outgoing, patience);
             let is_stuck = !outgoing.ready.is_empty() || outgoing.ready.len() >= RELEASE_ENTRIES;
             if is_stuck || !is_held {
                 return Released {

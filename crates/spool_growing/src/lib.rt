@@ -1,5 +1,5 @@
-//! Adds one more change to the files of a spool, to their places and to the index. `filing` has the calls of the file system that
-//! this takes, with what they cost.
+//! Adds one more change to the files of a spool, to their places and to the index. `file_calls` has the calls of the file system
+//! that this takes, with what they cost.
 #![tactic(auto)]
 
 mod file_calls;

@@ -1,6 +1,6 @@
 //! Renews a volume: copies its changes into a new one, in which of each article that is gone only the husk is left.
-//! `specs/Renewed.antt` of the crate `renewed` says what is left of each change, and `specs/Renewing.antt` here what a crash
-//! during the copy leaves.
+//! `specs/Renewed.antt` of the crate `model_renewed` says what is left of each change, and `specs/Renewing.antt` here what a
+//! crash during the copy leaves.
 #![tactic(auto)]
 
 mod change_copying;

@@ -57,8 +57,8 @@ impl MetricsFile {
 
     /// Whether the file may be written in place of what stands there, and another one beside it, while a volume at this path is served.
     /// `Volume` if one of the two is the volume, however it is named. `Irregular` if the file is a directory, a device, a pipe or
-    /// something else that isn't a regular file. `Foreign` if one of the two has octets and doesn't begin as a text for a monitor does. What
-    /// else stands beside the file may go: a link there isn't followed. Each refusal leaves all files as they were.
+    /// something else that isn't a regular file. `Foreign` if one of the two has octets and doesn't begin as a text for a monitor does.
+    /// What else stands beside the file may go: a link there isn't followed. Each refusal leaves all files as they were.
     pub fn may_be_put<R: Files<File = File>>(&self, rt: &R, volume: &str) -> Result<(), NoMetrics> {
         let (path, part) = (self.path.as_str(), self.part.as_str());
         if are_one(rt, path, volume) || are_one(rt, part, volume) {
@@ -108,11 +108,11 @@ fn is_ours<R: Files<File = File>>(rt: &R, path: &str) -> bool {
 
 /// What is written for a monitor, and from what.
 #[derive(Clone, Copy)]
-pub(crate) struct Monitor<'a> {
-    pub(crate) file: &'a MetricsFile,
-    pub(crate) log: &'a Log,
-    pub(crate) tally: &'a Tally,
-    pub(crate) facts: VolumeFacts<'a>,
+pub struct Monitor<'a> {
+    pub file: &'a MetricsFile,
+    pub log: &'a Log,
+    pub tally: &'a Tally,
+    pub facts: VolumeFacts<'a>,
 }
 
 /// What was written last.
@@ -172,12 +172,12 @@ impl ServedFile {
 }
 
 /// What the watching thread looks at, and when it ends.
-pub(crate) struct Watch<'a> {
-    pub(crate) file: Option<&'a ServedFile>,
-    pub(crate) monitor: Option<Monitor<'a>>,
+pub struct Watch<'a> {
+    pub file: Option<&'a ServedFile>,
+    pub monitor: Option<Monitor<'a>>,
     log: &'a Log,
     /// The path of the volume's file named another one before anything else went wrong.
-    pub(crate) is_replaced: AtomicBool,
+    pub is_replaced: AtomicBool,
     /// The log has said why the server fails.
     has_told: AtomicBool,
     /// All other threads have ended.
@@ -198,7 +198,8 @@ impl<'a> Drop for Watch<'a> {
 }
 
 impl<'a> Watch<'a> {
-    pub(crate) fn new(
+    /// Nothing was looked at yet, and the log was told of nothing. Each of the two files may be missing: then it is not looked at.
+    pub fn new(
         file: Option<&'a ServedFile>,
         monitor: Option<Monitor<'a>>,
         log: &'a Log,
@@ -214,21 +215,23 @@ impl<'a> Watch<'a> {
     }
 
     /// Has the log say why the server fails, unless it has done so.
-    pub(crate) fn tell<R: Wait + Clock>(&self, rt: &R, why: LogEvent) {
+    pub fn tell<R: Wait + Clock>(&self, rt: &R, why: LogEvent) {
         if !self.has_told.swap(true, Ordering::SeqCst) {
             self.log.note(rt, why);
         }
     }
 
     /// Has the watching thread look for the last time.
-    pub(crate) fn end<R, K, G>(&self, shared: &Shared<'_, R, K, G>) {
+    pub fn end<R, K, G>(&self, shared: &Shared<'_, R, K, G>) {
         self.has_ended.store(true, Ordering::SeqCst);
         shared.bells.watcher.unpark();
     }
 
-    /// Looks at once, then every fifteen seconds and when the operator asks how the server is, and for the last time after all other
-    /// threads have ended.
-    pub(crate) fn look_all<R: Files<File = File> + Wait + Clock, K: Kern, G>(
+    /// Looks at once, then every fifteen seconds and when the operator asks how the server is, and for the last time after `end` was
+    /// called. Each time it looks at the volume's file, and writes the file for a monitor. Once the path of the volume's file names
+    /// another one or none, or the file has another length, it halts the kernel and sets `is_replaced`, unless the log was told
+    /// before why the server fails.
+    pub fn look_all<R: Files<File = File> + Wait + Clock, K: Kern, G>(
         &self,
         shared: &Shared<'_, R, K, G>,
     ) {

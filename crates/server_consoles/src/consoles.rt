@@ -1,9 +1,9 @@
 //! Consoles besides the streams with which the server was started. Each hands on one line at a time, and writes the answer as it comes. So
 //! the answers of two consoles never mix, and one that nobody reads holds up no other.
 
-use crate::desk::{Kept, Order, Reply};
-use crate::line_answer::{Refused, write_answer};
+use crate::desk::{Kept, Order};
 use crossbeam_channel::{Receiver, Sender, unbounded};
+use server_operator::{Refused, Reply, write_answer};
 use server_operator_lines::{ANSWER_END, LINE_OCTETS, Next, next_line};
 use std::alloc::{AllocError, Global};
 use std::io::{self, BufRead, ErrorKind, Write};
@@ -27,8 +27,8 @@ impl Console {
         })
     }
 
-    /// Reads the next line, hands it on, and writes its answer and `ANSWER_END`. Answers false where there are no more lines. An `Err` is that of a
-    /// stream, or one for want of memory, or the server has ended; what was asked may be done then.
+    /// Reads the next line, hands it on, and writes its answer and `ANSWER_END`. Answers false where there are no more lines. An `Err` is
+    /// that of a stream, or one for want of memory, or the server has ended; what was asked may be done then.
     pub fn answer_next<R: Wait, L: BufRead, A: Write>(
         &self,
         rt: &R,

@@ -1,31 +1,31 @@
 //! Messages that may be answered now.
 
 use crate::Shared;
-use crate::outgoing::Outgoing;
 use kernel_shared::Kern;
 use model::{Message, Moment};
+use server_outgoing::Outgoing;
 use server_places::{NoPlace, needs_place};
 use std::sync::Wait;
 
 /// A message that may be answered now: its reply is not large, or its session has a place for it, or nobody needs one. Who has the kernel
 /// answer a message gives this, so it doesn't do so without a look at the places.
 #[derive(Clone, Copy)]
-pub(crate) struct Admitted<'m> {
+pub(crate) struct Answerable<'m> {
     message: &'m Message,
 }
 
-impl<'m> Admitted<'m> {
+impl<'m> Answerable<'m> {
     /// The message.
     pub(crate) fn message(self) -> &'m Message {
         self.message
     }
 
     /// A message that needs no place, whatever the session has. `None` if this one does.
-    pub(crate) fn without_place(message: &'m Message) -> Option<Admitted<'m>> {
+    pub(crate) fn without_place(message: &'m Message) -> Option<Answerable<'m>> {
         if needs_place(message) {
             None
         } else {
-            Some(Admitted { message })
+            Some(Answerable { message })
         }
     }
 
@@ -38,9 +38,9 @@ impl<'m> Admitted<'m> {
         outgoing: &mut Outgoing,
         message: &'m Message,
         moment: Moment,
-    ) -> Option<Admitted<'m>> {
+    ) -> Option<Answerable<'m>> {
         if outgoing.place.is_some() || !needs_place(message) {
-            return Some(Admitted { message });
+            return Some(Answerable { message });
         }
         let Shared {
             rt,
@@ -62,6 +62,6 @@ impl<'m> Admitted<'m> {
                 writers.forget(*rt, writer);
             }
         }
-        Some(Admitted { message })
+        Some(Answerable { message })
     }
 }

@@ -1,6 +1,5 @@
 //! The octets of one session that have left the kernel, on their way into its socket.
 
-use crate::Shared;
 use kernel_outbox::{RELEASE_ENTRIES, RELEASE_OCTETS, ReadyBuf};
 use kernel_shared::{Asked, ExecError, ExecOutcome, Hooks, Kern};
 use model::{Message, Moment};
@@ -14,7 +13,7 @@ use text_networks::Guest;
 
 /// Whether a write may wait until its socket takes more.
 #[derive(Clone, Copy, PartialEq, Eq)]
-pub(crate) enum Patience {
+pub enum Patience {
     /// The thread has other sessions to serve. Octets that the socket does not take at once are left.
     None,
     /// The thread serves only this session, and waits until the socket has taken nothing for `Limits::stall`.
@@ -44,25 +43,25 @@ pub struct Delivery {
 
 /// A block that a session's thread has left to the thread that flushes, the command that it follows, and when it came.
 #[derive(Drop)]
-pub(crate) struct LeftBlock {
-    pub(crate) block: Message,
-    pub(crate) asked: Asked,
-    pub(crate) moment: Moment,
+pub struct LeftBlock {
+    pub block: Message,
+    pub asked: Asked,
+    pub moment: Moment,
 }
 
 /// The octets taken from the kernel for a session, and how many of them are written.
 #[derive(Drop)]
-pub(crate) struct Outgoing {
-    pub(crate) sid: u64,
+pub struct Outgoing {
+    pub sid: u64,
     /// By its address.
-    pub(crate) guest: Guest,
+    pub guest: Guest,
     /// Its place among the sessions that hold a large reply, if it has one.
-    pub(crate) place: Option<Held>,
+    pub place: Option<Held>,
     /// It asked for a place that it doesn't have yet.
-    pub(crate) asks: bool,
+    pub asks: bool,
     /// `None` if there is no caller.
-    pub(crate) stream: Option<Arc<TcpStream, Global>>,
-    pub(crate) ready: ReadyBuf,
+    stream: Option<Arc<TcpStream, Global>>,
+    pub ready: ReadyBuf,
     written: usize,
     /// A block that waits for the thread that flushes. As long as there is one, nothing is ready, and the kernel holds no
     /// output of the session.
@@ -76,7 +75,8 @@ pub(crate) struct Outgoing {
 }
 
 impl Outgoing {
-    pub(crate) fn new(alloc: Global) -> Result<Outgoing, AllocError> {
+    /// Nothing, of no session. Refused only for want of memory.
+    pub fn new(alloc: Global) -> Result<Outgoing, AllocError> {
         Ok(Outgoing {
             sid: 0,
             guest: Guest::Unnamed,
@@ -95,8 +95,8 @@ impl Outgoing {
         })
     }
 
-    /// Begins a session with a caller.
-    pub(crate) fn begin(&mut self, sid: u64, caller: IpAddr, stream: Arc<TcpStream, Global>) {
+    /// Begins a session of this number with a caller at this address. `stream` is its socket.
+    pub fn begin(&mut self, sid: u64, caller: IpAddr, stream: Arc<TcpStream, Global>) {
         self.sid = sid;
         self.guest = Guest::At(caller);
         self.asks = false;
@@ -109,7 +109,7 @@ impl Outgoing {
     }
 
     /// Ends the session, discards what was taken, and answers what was written to the caller.
-    pub(crate) fn end(&mut self) -> Delivery {
+    pub fn end(&mut self) -> Delivery {
         self.stream = None;
         self.left = None;
         self.filed = None;
@@ -118,17 +118,17 @@ impl Outgoing {
     }
 
     /// Whether nothing more is written to the caller.
-    pub(crate) fn is_cut(&self) -> bool {
+    pub fn is_cut(&self) -> bool {
         self.sent.cut.is_some()
     }
 
     /// The octets that were written to this caller so far.
-    pub(crate) fn octets_out(&self) -> u64 {
+    pub fn octets_out(&self) -> u64 {
         self.sent.octets
     }
 
     /// Leaves a block. It is given back if something is ready.
-    pub(crate) fn leave(&mut self, block: LeftBlock) -> Result<(), LeftBlock> {
+    pub fn leave(&mut self, block: LeftBlock) -> Result<(), LeftBlock> {
         if !self.ready.is_empty() {
             return Err(block);
         }
@@ -137,13 +137,13 @@ impl Outgoing {
     }
 
     /// Takes a block that was left.
-    pub(crate) fn take_left(&mut self) -> Option<LeftBlock> {
+    pub fn take_left(&mut self) -> Option<LeftBlock> {
         self.left.take()
     }
 
     /// Notes what became of a block that was left. If the session is closed, or a refusal ends it, nothing more is read from
     /// the caller: so the session's thread, which may wait for octets, meets that end.
-    pub(crate) fn note_filed(&mut self, answer: Result<ExecOutcome, ExecError>) {
+    pub fn note_filed(&mut self, answer: Result<ExecOutcome, ExecError>) {
         self.filed = Some(answer);
         let goes_on = match answer {
             Ok(answered) => answered.next.is_some(),
@@ -155,53 +155,57 @@ impl Outgoing {
     }
 
     /// What became of the last block that was left. It is answered once.
-    pub(crate) fn take_filed(&mut self) -> Option<Result<ExecOutcome, ExecError>> {
+    pub fn take_filed(&mut self) -> Option<Result<ExecOutcome, ExecError>> {
         self.filed.take()
     }
 
     /// Whether what was taken must be written before more is taken.
-    pub(crate) fn is_full(&self) -> bool {
+    pub fn is_full(&self) -> bool {
         self.ready.len() >= RELEASE_ENTRIES || self.ready.octets().len() >= RELEASE_OCTETS
     }
 
     /// Discards what was taken.
-    pub(crate) fn clear(&mut self) {
+    pub fn clear(&mut self) {
         self.ready.clear();
         self.written = 0;
     }
 
-    /// Writes what was taken and discards it, unless the socket takes no more and the patience runs out. If the socket
-    /// fails, the session ends. After the last reply of a session nothing more is written to its socket.
-    pub(crate) fn write<R: Wait + Clock, K: Kern, H: Hooks>(
+    /// Writes what was taken and discards it, unless the socket takes no more and the patience runs out. The patience of a thread
+    /// that waits lasts until the socket has taken nothing for `stall`. If it runs out so, or the socket fails, the session ends.
+    /// After the last reply of a session nothing more is written to its socket.
+    pub fn write<R: Wait + Clock, K: Kern, H: Hooks>(
         &mut self,
-        shared: &Shared<'_, R, K, H>,
+        rt: &R,
+        kern: &K,
+        hooks: &H,
+        stall: Duration,
         patience: Patience,
     ) {
         if self.ready.is_empty() {
             return;
         }
-        shared.hooks.before_release(self.sid);
+        hooks.before_release(self.sid);
         let before = self.written;
-        let written = self.write_rest(shared.rt, shared.limits.stall, patience);
+        let written = self.write_rest(rt, stall, patience);
         let count = self.written.saturating_sub(before) as u64;
         self.sent.octets = self.sent.octets.saturating_add(count);
-        shared.hooks.after_release(self.sid);
+        hooks.after_release(self.sid);
         match written {
             Written::Part => return,
             Written::All if !self.ends() => {}
             Written::All => self.shut_down(Shutdown::Write),
-            Written::Stalled => self.cut_off(shared, Cut::Stalled),
-            Written::Slow => self.cut_off(shared, Cut::Slow),
-            Written::Failed => self.cut_off(shared, Cut::Failed),
+            Written::Stalled => self.cut_off(rt, kern, Cut::Stalled),
+            Written::Slow => self.cut_off(rt, kern, Cut::Slow),
+            Written::Failed => self.cut_off(rt, kern, Cut::Failed),
         }
         self.clear();
     }
 
     /// Ends the session and the socket, since nothing more can be written.
-    fn cut_off<R: Wait, K: Kern, H>(&mut self, shared: &Shared<'_, R, K, H>, cut: Cut) {
+    fn cut_off<R: Wait, K: Kern>(&mut self, rt: &R, kern: &K, cut: Cut) {
         self.sent.cut = Some(cut);
         self.shut_down(Shutdown::Both);
-        shared.kern.leave(shared.rt, self.sid);
+        kern.leave(rt, self.sid);
     }
 
     /// Whether the session ends with what was taken.

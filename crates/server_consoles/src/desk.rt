@@ -6,31 +6,19 @@
 //! limit. A line about ages has an answer for each group; any other line has one.
 //! Other consoles hand their lines to the second thread, too (`consoles.rt`).
 
-ghost use Rattle.std.specs.Prelude.{◌≡◌, ◌≢◌, ◌≤◌, IfOk, IfErr, Ok, OnOk};
-ghost use Rattle.server_operator.specs.Told.{HasSeenStop, IsSeen};
+ghost use Rattle.std.specs.Prelude.{◌≡◌};
 
-use crate::ages::take_out_old;
-use crate::change_calls::make;
 use crate::consoles::Console;
-use crate::durable::{is_durable, wait_for_stop};
-use crate::line_answer::{Answer, Refused, Told, write_answer};
-use crate::sessions::{Listing, let_go};
-use crate::status::Status;
-use crossbeam_channel::{Receiver, SendError, Sender, bounded, unbounded};
-use kernel_shared::{Asking, Bells, Hand, Kern};
-use program_script::ParseError;
-use server_logging::moment;
-use server_mark::{Mark, Seat};
-use server_operator_lines::{
-    Change, LINE_OCTETS, Next, Request, has_long_name, next_line, request_of,
-};
-use server_releasing::Writers;
+use crossbeam_channel::{Receiver, Sender, bounded, unbounded};
+use kernel_shared::{Hand, Kern};
+use server_mark::Seat;
+use server_operator::{OperatorService, Refused, Reply, answer, hand_on, write_answer};
+use server_operator_lines::{LINE_OCTETS, Next, next_line};
 use std::alloc::{AllocError, Global};
 use std::io::{BufRead, Write};
 use std::sync::Wait;
 use std::thread::{self, Threads};
 use std::time::{Clock, Duration};
-use volume_usage::{Tally, VolumeFacts};
 
 /// The most lines that are under way: handed on, with their answers not yet written. One more may be read; the others
 /// stay in the stream.
@@ -54,34 +42,6 @@ pub(crate) enum Order {
     AskedThere(Kept, Sender<Reply>),
     /// The server ends.
     Ends,
-}
-
-/// What the thread that writes waits for.
-#[derive(Drop)]
-pub(crate) enum Reply {
-    /// A part of the answer to a line, of which more comes.
-    Part(Told),
-    /// The answer to a line, or the end of it.
-    Answer(Answer),
-    /// The same for another console, which keeps what is beside it until the answer is written.
-    AnswerThere(Answer, Option<Sender<()>>),
-    /// There are no more answers.
-    Ends,
-}
-
-/// What the lines are carried out with: the kernel, the mark that says what is durable, the bells of the server's
-/// threads, what is known and counted about the volume, the sessions, and those whose messages are about to be answered.
-#[derive(Drop)]
-pub struct OperatorService<'a, R, K> {
-    pub rt: &'a R,
-    pub alloc: Global,
-    pub kern: &'a K,
-    pub mark: &'a Mark,
-    pub bells: &'a Bells,
-    pub tally: &'a Tally,
-    pub facts: VolumeFacts<'a>,
-    pub writers: &'a Writers,
-    pub asking: &'a Asking,
 }
 
 /// The operator's side of a running server.
@@ -219,146 +179,6 @@ impl Unwritten {
         if let Some(written) = written {
             let _ = written.recv_timeout(rt, Duration::from_secs(ENDING_SECS));
         }
-    }
-}
-
-/// Hands a reply on to the thread that writes. It waits for nothing but memory.
-pub(crate) fn hand_on<R: Wait>(rt: &R, replies: &Sender<Reply>, reply: Reply) {
-    let mut next = reply;
-    for _ in rt.forever() {
-        match replies.send(rt, next) {
-            Ok(()) | Err(SendError::Disconnected(_)) => return,
-            Err(SendError::OutOfMemory(kept)) => {
-                thread::yield_now();
-                next = kept;
-            }
-        }
-    }
-    unreachable!()
-}
-
-/// Does what a line asks for. Where the answer has parts, they are handed on before. A serial is answered only if the mark
-/// was seen to have reached it. `stopped` and `Fault` are answered only if the flusher was seen to have stopped and the mark
-/// was read after that, and `stopped` only if that mark reached the number of accepted changes.
-fn answer<R: Wait + Clock, K: Kern>(
-    service: &OperatorService<'_, R, K>,
-    seat: &mut Seat,
-    hand: &mut Hand,
-    line: Result<Vec<u8>, Refused>,
-    replies: &Sender<Reply>,
-) -> Answer
-    requires { seat.old.mark ≡ service.now.mark.now }
-    ensures told { IfOk result (IsSeen seat.new) }
-    ensures gone { OnOk line (IfErr result (λ error. error ≡ Refused.Fault → HasSeenStop seat.new)) }
-    ensures mark { seat.new.mark ≡ seat.old.mark }
-{
-    let line = line?;
-    match asked(service, line.as_slice())? {
-        Request::Change(change) => carry_out(service, seat, hand, &change),
-        Request::Ages(request) => take_out_old(service, seat, hand, &request, replies),
-        Request::Status => {
-            service.bells.watcher.unpark();
-            Ok(Told::Status(Status::of(service)?))
-        }
-        Request::Sessions => Ok(Told::Sessions(Listing::of(
-            service.rt,
-            service.alloc,
-            service.writers,
-        )?)),
-        Request::Drop(chosen) => Ok(Told::Dropped(let_go(service.rt, service.writers, &chosen)?)),
-        Request::Stop => stop(service, seat),
-    }
-}
-
-/// What a line asks for now. The refusal says so if the name of a group is too long.
-fn asked<R: Wait + Clock, K: Kern>(
-    service: &OperatorService<'_, R, K>,
-    line: &[u8],
-) -> Result<Request, Refused>
-    ensures { IfErr result (λ error. error ≢ Refused.Fault) }
-{
-    match request_of(service.alloc, line, moment(service.rt)) {
-        Ok(request) => Ok(request),
-        Err(ParseError::Bad) if has_long_name(line) => Err(Refused::LongName),
-        Err(error) => Err(Refused::from(error)),
-    }
-}
-
-/// Makes a change, and waits until it is durable, as `make_durable` does.
-fn carry_out<R: Wait, K: Kern>(
-    service: &OperatorService<'_, R, K>,
-    seat: &mut Seat,
-    hand: &mut Hand,
-    change: &Change,
-) -> Answer
-    requires { seat.old.mark ≡ service.now.mark.now }
-    ensures told { IfOk result (IsSeen seat.new) }
-    ensures gone { IfErr result (λ error. error ≡ Refused.Fault → HasSeenStop seat.new) }
-    ensures mark { seat.new.mark ≡ seat.old.mark }
-{
-    let made = match make(service, hand, change) {
-        Ok(made) => Ok(made.serial()),
-        Err(refused) => Err(refused),
-    };
-    Ok(Told::Serial(make_durable(service, seat, made)?))
-}
-
-/// Waits until the change with this serial is durable. A refusal that reports what other changes did is answered once all changes
-/// that were accepted before it are: otherwise it could tell of one that a crash undoes. `Fault` if the flusher stopped before that.
-pub(crate) fn make_durable<R: Wait, K: Kern>(
-    service: &OperatorService<'_, R, K>,
-    seat: &mut Seat,
-    made: Result<u64, Refused>,
-) -> Result<u64, Refused>
-    requires mark { seat.old.mark ≡ service.now.mark.now }
-    requires made { IfErr made (λ error. error ≢ Refused.Fault) }
-    ensures told { IfOk result (λ serial. serial ≤ seat.new.seen) }
-    ensures same { IfOk result (λ serial. made ≡ Ok serial) }
-    ensures gone { IfErr result (λ error. error ≡ Refused.Fault → HasSeenStop seat.new) }
-    ensures mark { seat.new.mark ≡ seat.old.mark }
-{
-    let OperatorService {
-        rt,
-        kern,
-        mark,
-        bells,
-        ..
-    } = service;
-    let (answer, awaited) = match made {
-        Ok(serial) => (Ok(serial), serial),
-        Err(refused) if refused.reports_changes() => (Err(refused), kern.counts(*rt).accepted),
-        Err(refused) => return Err(refused),
-    };
-    bells.flush_now();
-    if is_durable(*rt, *mark, seat, *bells, awaited) {
-        answer
-    } else {
-        Err(Refused::Fault)
-    }
-}
-
-/// Asks the flusher to stop, and waits until it has stopped. `Fault` if it stopped for another reason, or if a change
-/// was accepted that is not durable.
-fn stop<R: Wait, K: Kern>(service: &OperatorService<'_, R, K>, seat: &mut Seat) -> Answer
-    requires { seat.old.mark ≡ service.now.mark.now }
-    ensures told { IfOk result (IsSeen seat.new) }
-    ensures gone { IfErr result (λ error. error ≡ Refused.Fault → HasSeenStop seat.new) }
-    ensures mark { seat.new.mark ≡ seat.old.mark }
-{
-    let OperatorService {
-        rt,
-        kern,
-        mark,
-        bells,
-        ..
-    } = service;
-    bells.ask_to_stop();
-    let durable = wait_for_stop(*rt, *mark, seat, *bells);
-    let accepted = kern.counts(*rt).accepted;
-    if bells.has_stopped() && accepted <= durable {
-        Ok(Told::Stopped { accepted })
-    } else {
-        Err(Refused::Fault)
     }
 }
 

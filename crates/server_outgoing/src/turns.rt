@@ -8,7 +8,7 @@ use std::sync::{Mutex, MutexGuard, Wait};
 
 /// What a session has outside of the kernel, under its lock, and what is known of it without the lock.
 #[derive(Drop)]
-pub(crate) struct Desk {
+pub struct Desk {
     outgoing: Mutex<Outgoing>,
     /// Something may be ready that the holder of the lock has not seen. A thread that sets this flag and then does not
     /// get the lock has done its part: the holder looks at the flag once more after it releases the lock.
@@ -26,14 +26,14 @@ pub(crate) struct Desk {
 /// A thread's turn with the lock of a desk. It has no `Drop`, so a thread ends it by one of the two functions that say who
 /// looks at `is_missed` after it. Until then the thread's hand is lent, or the thread was given none: so it can't wait for
 /// another session.
-pub(crate) struct Turn<'a> {
+pub struct Turn<'a> {
     outgoing: MutexGuard<'a, Outgoing>,
     desk: &'a Desk,
 }
 
 impl Desk {
-    /// A desk without a session.
-    pub(crate) fn new(alloc: Global) -> Result<Desk, AllocError> {
+    /// A desk without a session. Refused only for want of memory.
+    pub fn new(alloc: Global) -> Result<Desk, AllocError> {
         Ok(Desk {
             outgoing: Mutex::new(Outgoing::new(alloc)?),
             is_missed: AtomicBool::new(false),
@@ -45,7 +45,7 @@ impl Desk {
     }
 
     /// Takes the lock. The hand is lent until the turn ends.
-    pub(crate) fn turn<'a, R: Wait>(&'a self, rt: &R, _hand: &'a mut Hand) -> Turn<'a> {
+    pub fn turn<'a, R: Wait>(&'a self, rt: &R, _hand: &'a mut Hand) -> Turn<'a> {
         Turn {
             outgoing: self.outgoing.lock(rt),
             desk: self,
@@ -53,7 +53,7 @@ impl Desk {
     }
 
     /// Takes the lock if no thread has it. It may also fail if a thread is about to have it.
-    pub(crate) fn try_turn(&self) -> Option<Turn<'_>> {
+    pub fn try_turn(&self) -> Option<Turn<'_>> {
         let outgoing = self.outgoing.try_lock()?;
         Some(Turn {
             outgoing,
@@ -62,72 +62,73 @@ impl Desk {
     }
 
     /// Whether outputs may be held until a commit.
-    pub(crate) fn is_waiting(&self) -> bool {
+    pub fn is_waiting(&self) -> bool {
         self.is_waiting.load(Ordering::SeqCst)
     }
 
     /// Notes that the holder of the lock is about to take all that is ready. From here on a commit learns that it may be
     /// missed.
-    pub(crate) fn note_taking(&self) {
+    pub fn note_taking(&self) {
         self.is_missed.store(false, Ordering::SeqCst);
         self.is_waiting.store(true, Ordering::SeqCst);
     }
 
     /// Notes whether outputs may be held, as the kernel said.
-    pub(crate) fn note_waiting(&self, is_waiting: bool) {
+    pub fn note_waiting(&self, is_waiting: bool) {
         self.is_waiting.store(is_waiting, Ordering::SeqCst);
     }
 
     /// Whether something may be ready that a holder of the lock has not seen.
-    pub(crate) fn is_missed(&self) -> bool {
+    pub fn is_missed(&self) -> bool {
         self.is_missed.load(Ordering::SeqCst)
     }
 
     /// Notes that something may be ready.
-    pub(crate) fn note_missed(&self) {
+    pub fn note_missed(&self) {
         self.is_missed.store(true, Ordering::SeqCst);
     }
 
     /// Whether a block is left.
-    pub(crate) fn has_left(&self) -> bool {
+    pub fn has_left(&self) -> bool {
         self.has_left.load(Ordering::SeqCst)
     }
 
     /// Whether the socket once did not take at once what was written to it.
-    pub(crate) fn is_slow(&self) -> bool {
+    pub fn is_slow(&self) -> bool {
         self.is_slow.load(Ordering::SeqCst)
     }
 
     /// The octets that were written to the caller, as of the last turn with the lock.
-    pub(crate) fn octets_out(&self) -> u64 {
+    pub fn octets_out(&self) -> u64 {
         self.octets_out.load(Ordering::SeqCst)
     }
 
-    pub(crate) fn note_slow(&self, is_slow: bool) {
+    /// Notes whether the socket did not take at once what was written to it.
+    pub fn note_slow(&self, is_slow: bool) {
         self.is_slow.store(is_slow, Ordering::SeqCst);
     }
 }
 
 impl<'a> Turn<'a> {
     /// What the session has outside of the kernel.
-    pub(crate) fn outgoing(&mut self) -> &mut Outgoing {
+    pub fn outgoing(&mut self) -> &mut Outgoing {
         &mut *self.outgoing
     }
 
     /// Notes whether a block is left.
-    pub(crate) fn note_left(&self, has_left: bool) {
+    pub fn note_left(&self, has_left: bool) {
         self.desk.has_left.store(has_left, Ordering::SeqCst);
     }
 
     /// Lets the lock go, and answers whether something was missed: then the thread takes what is ready.
-    pub(crate) fn end(self) -> bool {
+    pub fn end(self) -> bool {
         let desk = self.desk;
         self.end_before_send();
         desk.is_missed()
     }
 
     /// Lets the lock go. The session's thread, which alone calls this, calls `send` or `release` before it waits.
-    pub(crate) fn end_before_send(self) {
+    pub fn end_before_send(self) {
         let Turn { outgoing, desk } = self;
         desk.octets_out
             .store(outgoing.octets_out(), Ordering::SeqCst);
