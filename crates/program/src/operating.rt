@@ -1,8 +1,7 @@
 //! The commands that read a list or rules: the groups of a list made, and articles removed by rules.
 
-use model::Moment;
 use program_changes::{Outcomes, RuleOrder};
-use program_command_line::{NO_TIME, RuledExpiry};
+use program_command_line::{GroupList, NO_TIME, RuledExpiry};
 use program_lists::read_list;
 use program_printing::{DONE, Failure, REFUSED};
 use program_rules::{Rule, RulesError, read_rules};
@@ -25,11 +24,11 @@ const LONG_LIST: &str = "takes a list of at most 16384 lines";
 pub(crate) fn groups<R: Files<File = File>, I: BufRead, W: Write>(
     rt: &R,
     alloc: Global,
-    list: (&str, Moment),
+    list: GroupList<'_>,
     input: &mut I,
     output: &mut W,
 ) -> Result<u8, Failure> {
-    let (path, moment) = list;
+    let GroupList { path, moment } = list;
     let mut text = Vec::new(alloc);
     input.read_to_end(&mut text)?;
     let lines = lines_of(alloc, text.as_slice())?;

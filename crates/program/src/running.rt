@@ -67,7 +67,7 @@ pub fn run<'a, R: Files<File = File> + Wait + Clock, S: AsStr, I: BufRead, W: Wr
             Ok(()) => DONE,
             Err(failure) => fail(faults, &failure),
         },
-        Ok(Asked::Groups(path, moment)) => match groups(rt, alloc, (path, moment), input, output) {
+        Ok(Asked::Groups(list)) => match groups(rt, alloc, list, input, output) {
             Ok(status) => status,
             Err(failure) => fail(faults, &failure),
         },
@@ -255,7 +255,7 @@ fn carry_out<R: Files<File = File> + Wait + Clock, I: BufRead, W: Write>(
         | Asked::Import(_)
         | Asked::Renew(_)
         | Asked::Ask(_)
-        | Asked::Groups(_, _)
+        | Asked::Groups(_)
         | Asked::Format(_) => Ok(()),
         Asked::Version => print_version(rt, output),
         Asked::Simulation(plan, is_cached) => simulate(alloc, &plan, is_cached, input, output),

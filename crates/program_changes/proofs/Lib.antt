@@ -1,4 +1,4 @@
 mod Added
 mod Aged
 mod Making
-mod Outcomes
+mod Staying

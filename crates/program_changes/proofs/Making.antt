@@ -1,5 +1,6 @@
 -- One change more is made durable, or not.
-use Rattle.std.proofs.Common.{◌≡◌, ◌≢◌, ◌⊎◌, inl, inr, ⊎_elim, ◌≤◌, ℕ, ◌+◌, Bool, IsTrue, [], ◌∷◌, ◌++◌, length, refl, sym, ◌∙◌, ap, subst, arith}
+use Rattle.std.proofs.Common.{◌≡◌, ◌≢◌, ◌⊎◌, inl, inr, ⊎_elim, ◌≤◌, ℕ, ◌+◌, Bool, IsTrue, [], ◌∷◌, ◌++◌, length, refl, sym, ◌∙◌, ap, subst}
+use Rattle.std.proofs.Common.{arith}
 use Rattle.std.specs.Prelude.{take, Option, None, Some, Result, Ok, Err}
 use Rattle.std.proofs.lemmas.List.{length-append, take-append-le}
 use Rattle.std.proofs.Math.Seq.{take-length}
@@ -60,7 +61,8 @@ module _ {D : Type 0} (device : D → Device)
 
   -- the change is added, and all changes are committed, or not
   module _ (grows : Bool) {E : Type 0} (memory : E) (refusal : Option E) (now new : StoreView D) (c : Change)
-      (journal : now.journal ≡ old.journal) (durable : now.durable ≡ old.durable) (none : refusal ≡ None) (adds : Adds old.spool now.spool c)
+      (journal : now.journal ≡ old.journal) (durable : now.durable ≡ old.durable) (none : refusal ≡ None)
+      (adds : Adds old.spool now.spool c)
     where
       goes : {T : Type 0} (result : Result T JournalError) → Commits device grows now new result → GoesOn device old new
       goes result commits =

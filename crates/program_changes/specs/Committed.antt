@@ -13,7 +13,8 @@ pub record IsOfDevice {D : Type 0} (device : D → Device) (grows : Bool) (old n
   pub halted : error ≡ Halted → IsReady old.journal → ⊥
 
 -- all changes are durable, or the device failed; in both cases a crash leaves those that were, or all
-pub record Commits {D T : Type 0} (device : D → Device) (grows : Bool) (old new : StoreView D) (result : Result T JournalError) : Type 0 where
+pub record Commits {D T : Type 0} (device : D → Device) (grows : Bool) (old new : StoreView D)
+    (result : Result T JournalError) : Type 0 where
   pub saved : OnOk result (IsSaved device new)
   pub spool : new.spool ≡ record old.spool { dirty = new.spool.dirty }
   pub prefix : LeavesPrefix device old new

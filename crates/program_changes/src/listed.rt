@@ -110,7 +110,8 @@ fn add_all<D: Disk>(
 
 /// Adds the group of a line, which isn't durable yet.
 fn add_listed<D: Disk>(store: &mut Store<D>, listed: &Listed) -> Result<GroupOutcome, CommandError>
-    ensures ok { IfOk result (λ outcome. (now : SpoolView) × IsSame store.old.spool now × BecomesOf now store.new.spool listed.now outcome) }
+    ensures ok { IfOk result (λ outcome. (now : SpoolView) × IsSame store.old.spool now
+        × BecomesOf now store.new.spool listed.now outcome) }
     ensures err { OnErr result (IsSame store.old.spool store.new.spool) }
     ensures goes_on { GoesOn D.device store.old store.new }
 {

@@ -5,6 +5,6 @@ mod word_reading;
 
 pub use program_command_table::VERSION;
 pub use word_reading::{
-    AgedExpiry, Asked, CallerLimits, Export, NO_TIME, NewVolume, Question, Renewal, RuledExpiry,
-    ServeOptions, read_words,
+    AgedExpiry, Asked, CallerLimits, Export, GroupList, NO_TIME, NewVolume, Question, Renewal,
+    RuledExpiry, ServeOptions, read_words,
 };

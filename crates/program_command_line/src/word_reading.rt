@@ -40,8 +40,7 @@ pub enum Asked<'a> {
     Format(NewVolume<'a>),
     /// The volume to which a group is added.
     Group(&'a str, GroupRequest),
-    /// The volume to which the groups of a list are added, and the moment at which they are made.
-    Groups(&'a str, Moment),
+    Groups(GroupList<'a>),
     /// The volume, the group in it, and the number up to which its articles are removed.
     Expire(&'a str, GroupName, u32),
     ExpireOlder(AgedExpiry<'a>),
@@ -72,6 +71,14 @@ pub struct NewVolume<'a> {
     pub plan: VolumePlan<'a>,
     /// It replaces no file that isn't empty.
     pub is_new: bool,
+}
+
+/// The volume to which the groups of a list are added.
+#[derive(Clone, Copy)]
+pub struct GroupList<'a> {
+    pub path: &'a str,
+    /// They are made at this moment.
+    pub moment: Moment,
 }
 
 /// How many callers a server has, and how much one address may ask of it.
@@ -206,10 +213,7 @@ fn read_request<'a>(
         "sim" => Ok(Asked::Simulation(read_plan_of_memory(alloc, words)?, words.get_flag(CACHE))),
         "format" => Ok(Asked::Format(read_new_volume(alloc, words)?)),
         "group" => Ok(Asked::Group(word(words, PATH)?, read_group(alloc, words, now)?)),
-        "groups" => Ok(Asked::Groups(
-            word(words, PATH)?,
-            read_moment(alloc, "--moment", words, now)?,
-        )),
+        "groups" => Ok(Asked::Groups(read_group_list(alloc, words, now)?)),
         "expire" => read_expiry(alloc, words),
         "expire-by" => Ok(Asked::ExpireBy(read_ruled_expiry(words)?)),
         "serve" => Ok(Asked::Serve(read_service(alloc, words)?)),
@@ -396,6 +400,18 @@ fn read_group(
         Err(ParseError::Bad) => Err(Failure::Bad),
         Err(ParseError::Memory) => Err(Failure::Memory),
     }
+}
+
+/// The volume and the moment of a list of groups.
+fn read_group_list<'a>(
+    alloc: Global,
+    words: &ArgMatches<'a>,
+    now: Option<Moment>,
+) -> Result<GroupList<'a>, Failure> {
+    Ok(GroupList {
+        path: word(words, PATH)?,
+        moment: read_moment(alloc, "--moment", words, now)?,
+    })
 }
 
 /// The moment that a word writes, which a refusal shows by this name. `BadWord` if it says `now`, and the clock gives no time.

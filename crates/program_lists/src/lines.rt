@@ -22,7 +22,7 @@ pub(crate) struct About<'a> {
 /// The line as one of `active`: four words, each behind one space, of which the second and the third are numbers. A new group has no
 /// articles, so these numbers count for nothing.
 #[tactic(auto, unfolding(crate::specs::Lists::active_of))]
-pub(crate) fn active(line: &[u8]) -> Option<Active<'_>>
+pub(crate) fn read_active(line: &[u8]) -> Option<Active<'_>>
     ensures { option_map (λ read. (read.name.now, read.flag.now)) result ≡ active_of line.now }
 {
     let (name, words) = split_word(line)?;
@@ -38,7 +38,7 @@ pub(crate) fn active(line: &[u8]) -> Option<Active<'_>>
 
 /// The line as one of `newsgroups`. One or more TABs stand before the description.
 #[tactic(auto, unfolding(crate::specs::Lists::about_of))]
-pub(crate) fn about(line: &[u8]) -> Option<About<'_>>
+pub(crate) fn read_about(line: &[u8]) -> Option<About<'_>>
     ensures { option_map (λ read. (read.name.now, read.description.now)) result ≡ about_of line.now }
 {
     let (name, rest) = split_at(line, b'\t')?;

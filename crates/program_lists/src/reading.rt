@@ -1,10 +1,11 @@
 //! Reads a list.
 
 ghost use Rattle.std.specs.Prelude.{◌≡◌, IfOk, IfErr, None, Some, map, option_map};
-ghost use Rattle.program_lists.specs.Lists.{asked, asked_of, fault_of, first_about, is_skipped, listed_from, request_of, said, status_of, told_by};
+ghost use Rattle.program_lists.specs.Lists.{asked, asked_of, fault_of, first_about, is_skipped, listed_from, request_of, said, status_of};
+ghost use Rattle.program_lists.specs.Lists.{told_by};
 
 use crate::faults::ListFault;
-use crate::lines::{Active, about, active};
+use crate::lines::{Active, read_about, read_active};
 use model::{Moment, Status};
 use program_script::{is_blank, status};
 use std::alloc::{AllocError, Global};
@@ -26,7 +27,8 @@ pub struct Listed {
 /// that of the first line `NAME<TAB>DESCRIPTION` with the same name, wherever it stands, and `No description.` if there is none.
 /// Such a line asks for nothing by itself, nor does a blank line or one that begins with `#`.
 pub fn read_list(alloc: Global, lines: &[&[u8]], moment: Moment) -> Result<Vec<Listed>, AllocError>
-    ensures { IfOk result (λ listed. let texts = map (λ line. line.now) lines.now in map said listed.items ≡ listed_from texts moment 1 texts) }
+    ensures { IfOk result (λ listed. let texts = map (λ line. line.now) lines.now in
+        map said listed.items ≡ listed_from texts moment 1 texts) }
 {
     let mut listed = Vec::new(alloc);
     'lines: for place in 0..lines.len() {
@@ -49,10 +51,10 @@ fn asked_by(
 ) -> Result<Option<Result<GroupRequest, ListFault>>, AllocError>
     ensures { IfOk result (λ found. option_map asked found ≡ asked_of (map (λ line. line.now) lines.now) moment line.now) }
 {
-    if is_skipped(line) || about(line).is_some() {
+    if is_skipped(line) || read_about(line).is_some() {
         return Ok(None);
     }
-    let Some(active) = active(line) else {
+    let Some(active) = read_active(line) else {
         return Ok(Some(Err(ListFault::NoLine)));
     };
     let description = first_about(lines, active.name).unwrap_or(NO_DESCRIPTION);
@@ -85,7 +87,7 @@ fn first_about<'t>(lines: &[&'t [u8]], name: &[u8]) -> Option<&'t [u8]>
 fn told_by<'t>(line: &'t [u8], name: &[u8]) -> Option<&'t [u8]>
     ensures { option_map (λ text. text.now) result ≡ told_by name.now line.now }
 {
-    let about = about(line)?;
+    let about = read_about(line)?;
     if about.name == name {
         return Some(about.description);
     }
@@ -99,7 +101,7 @@ fn request(
     description: &[u8],
     moment: Moment,
 ) -> Result<Result<GroupRequest, ListFault>, AllocError>
-    ensures { IfOk result (λ found. asked found ≡ request_of active.name.now active.flag.now description.now moment) }
+    ensures { IfOk result (λ found. asked found ≡ request_of active.entry.name.now active.entry.flag.now description.now moment) }
 {
     let (name, status) = match wanted(active) {
         Ok(wanted) => wanted,
@@ -122,9 +124,9 @@ fn request(
 
 /// The name and the status of a line of `active`, or why it makes no group.
 fn wanted(active: Active<'_>) -> Result<(GroupName, Status), ListFault>
-    ensures ok { IfOk result (λ wanted. (fault_of active.name.now active.flag.now ≡ None) × (wanted.0 ≡ active.name.now)
-        × (status_of active.flag.now ≡ Some wanted.1)) }
-    ensures err { IfErr result (λ fault. fault_of active.name.now active.flag.now ≡ Some fault) }
+    ensures ok { IfOk result (λ wanted. (fault_of active.entry.name.now active.entry.flag.now ≡ None) × (wanted.0 ≡ active.entry.name.now)
+        × (status_of active.entry.flag.now ≡ Some wanted.1)) }
+    ensures err { IfErr result (λ fault. fault_of active.entry.name.now active.entry.flag.now ≡ Some fault) }
 {
     if active.name.len() > GROUP_NAME_LIMIT {
         return Err(ListFault::LongName);

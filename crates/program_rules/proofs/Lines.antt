@@ -1,5 +1,6 @@
 -- The rules of lines, read from the front.
-use Rattle.std.proofs.Common.{◌≡◌, ℕ, ◌+◌, ◌-◌, ◌<◌, Bool, true, false, List, [], ◌∷◌, ◌++◌, get_or, length, take, sym, ◌∙◌, ap, refl, arith, subst, Bor}
+use Rattle.std.proofs.Common.{◌≡◌, ℕ, ◌+◌, ◌-◌, ◌<◌, Bool, true, false, List, [], ◌∷◌, ◌++◌, get_or, length, take, sym, ◌∙◌, ap, refl}
+use Rattle.std.proofs.Common.{arith, subst, Bor}
 use Rattle.std.specs.Prelude.{Option, Some, None, slice_get, option_map, option_and_then, if◌then◌else◌, is_some, map}
 use Rattle.std.proofs.lemmas.List.{map-append}
 use Rattle.std.proofs.lemmas.Option.{slice_get-get_or, slice_get-map}
@@ -67,7 +68,8 @@ module _ (lines : List (Bor (List ℕ))) (place : ℕ) (other : Bor (List ℕ)) 
   pub skipped_at : is_skipped (get_or lines place other).now ≡ true → rules_of (take (place + 1) (texts lines)) ≡ Some (map said rules)
   skipped_at = one_skipped (texts lines) place (get_or lines place other).now rules at_place so_far
 
-  pub rule_at : (rule : Rule) → is_skipped (get_or lines place other).now ≡ false → rule_of (get_or lines place other).now ≡ Some (said rule)
+  pub rule_at : (rule : Rule) → is_skipped (get_or lines place other).now ≡ false
+      → rule_of (get_or lines place other).now ≡ Some (said rule)
       → rules_of (take (place + 1) (texts lines)) ≡ Some (map said (rules ++ rule ∷ []))
   rule_at = one_rule (texts lines) place (get_or lines place other).now rules at_place so_far
 

@@ -17,7 +17,8 @@ matched : (rules : List Rule) (name w : Octets) (days : ℕ) → days_for rules 
 matched [] name w days is = absurd (none-some (w, days) is)
 matched (rule ∷ more) name w days is =
     by_match (matched more name w days) (wildmat_matches rule.wildmat name) refl rule.days refl is where
-      by_match : (days_for more name ≡ Some (w, days) → IsTrue (wildmat_matches w name)) → (m : Bool) → m ≡ wildmat_matches rule.wildmat name → (d : Option ℕ) → d ≡ rule.days
+      by_match : (days_for more name ≡ Some (w, days) → IsTrue (wildmat_matches w name))
+          → (m : Bool) → m ≡ wildmat_matches rule.wildmat name → (d : Option ℕ) → d ≡ rule.days
           → option_and_then days_of_rule (if m then Some rule else first_rule more name) ≡ Some (w, days) → IsTrue (wildmat_matches w name)
       by_match later false is_m d is_d is = later is
       by_match later true is_m None is_d is =

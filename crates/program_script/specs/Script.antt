@@ -11,9 +11,11 @@ use Rattle.disk.specs.declared.DiskCall.{DiskCall}
 use Rattle.disk.specs.declared.DiskCall.TheVariants.{Read, Write, Sync}
 use Rattle.disk_memory.specs.declared.Pick.{Pick}
 use Rattle.disk_memory.specs.declared.Pick.TheVariants.{Old, New, Fill}
-use Rattle.program_script.specs.Words.{expiry_number_of, hex_octet, hex_octets, is_blank, moment_at, moment_of, number_of, split_word, status_of}
+use Rattle.program_script.specs.Words.{expiry_number_of, hex_octet, hex_octets, is_blank, moment_at, moment_of, number_of, split_word}
+use Rattle.program_script.specs.Words.{status_of}
 use Rattle.program_script.specs.declared.script_lines.Line.{Line}
-use Rattle.program_script.specs.declared.script_lines.Line.TheVariants.{Group, Expire, Join, Leave, Arrive, Exec, Take, Dev, Told, Release, Commit, Settle}
+use Rattle.program_script.specs.declared.script_lines.Line.TheVariants.{Group, Expire, Join, Leave, Arrive, Exec, Take, Dev, Told, Release}
+use Rattle.program_script.specs.declared.script_lines.Line.TheVariants.{Commit, Settle}
 use Rattle.program_script.specs.declared.script_lines.Line.TheVariants.{Drain, FailAt, FailKind, Crash, Renew, ReleaseOf, Spool, Stop}
 
 -- what a line asks for, with its texts as lists: a group is made, articles are removed from one, octets arrive for a

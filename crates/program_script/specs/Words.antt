@@ -1,5 +1,6 @@
 -- Words of a script's line (this project's rule).
-use Rattle.std.specs.Prelude.{ℕ, Bool, ◌+◌, ◌^◌, ◌==◌, ◌&&◌, ◌||◌, nat_le, nat_lt, if◌then◌else◌, [], ◌∷◌, take, drop, get_or, Option, Some, None}
+use Rattle.std.specs.Prelude.{ℕ, Bool, ◌+◌, ◌^◌, ◌==◌, ◌&&◌, ◌||◌, nat_le, nat_lt, if◌then◌else◌, [], ◌∷◌, take, drop, get_or, Option, Some}
+use Rattle.std.specs.Prelude.{None}
 use Rattle.std.specs.Prelude.{bytes_eq, codes, option_and_then, option_map}
 use Rattle.std.specs.List.{list_all, position}
 use Rattle.std.specs.Result.{result_ok}

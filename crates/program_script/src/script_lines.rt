@@ -3,7 +3,8 @@
 ghost use Rattle.std.specs.Prelude.{◌≡◌, IfOk, IfErr, Some, None, option_map};
 ghost use Rattle.text_names.specs.Requests as requests;
 ghost use Rattle.program_script.specs.Words.{hex_octets, hex_octet};
-ghost use Rattle.program_script.specs.Script.{Expired, alone_of, arrival_of, expired_of, expiry_of, fail_of, group_of, hex_of, kind_of, meaning, meaning_at};
+ghost use Rattle.program_script.specs.Script.{Expired, alone_of, arrival_of, expired_of, expiry_of, fail_of, group_of, hex_of, kind_of};
+ghost use Rattle.program_script.specs.Script.{meaning, meaning_at};
 ghost use Rattle.program_script.specs.Script.{new_group_of, numbered_of, pick_of, release_of, said, shown_group_of};
 ghost use Rattle.program_script.specs.declared.script_lines.ParseError.TheVariants.{Memory};
 

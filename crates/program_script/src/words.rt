@@ -4,7 +4,8 @@ ghost use Rattle.std.specs.Prelude.{◌≡◌, option_map, true};
 ghost use Rattle.std.specs.Char.{is_ascii_digit};
 ghost use Rattle.std.specs.List.{list_all};
 ghost use Rattle.model.specs.Names.{is_run_of};
-ghost use Rattle.program_script.specs.Words.{days_of, expiry_number_of, is_blank, moment_at, moment_of, number_of, split_at, split_word, status_of, within_u64};
+ghost use Rattle.program_script.specs.Words.{days_of, expiry_number_of, is_blank, moment_at, moment_of, number_of, split_at, split_word};
+ghost use Rattle.program_script.specs.Words.{status_of, within_u64};
 
 use model::{Moment, Status};
 use text_names::number_of;

@@ -1,5 +1,6 @@
 -- What the operator's lines ask for.
-use Rattle.std.specs.Prelude.{◌≡◌, ◌≢◌, ℕ, List, ◌++◌, Bool, false, ◌&&◌, ◌||◌, nat_lt, bytes_eq, if◌then◌else◌, length, Option, Some, None, codes}
+use Rattle.std.specs.Prelude.{◌≡◌, ◌≢◌, ℕ, List, ◌++◌, Bool, false, ◌&&◌, ◌||◌, nat_lt, bytes_eq, if◌then◌else◌, length, Option, Some, None}
+use Rattle.std.specs.Prelude.{codes}
 use Rattle.std.specs.Prelude.{option_map, unwrap_or}
 use Rattle.text_names.specs.Requests as requests
 use Rattle.program_script.specs.Script.{LineMeaning, Made, Expired, Came, Asked, meaning_at}

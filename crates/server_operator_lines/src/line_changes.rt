@@ -24,15 +24,16 @@ pub enum Change {
     Expiry { name: GroupName, number: u32 },
 }
 
-/// The change that a line asks for at the present moment, if there is one. `Bad` if the line asks for none, or for a group with a blank description; `Memory` may come
-/// for any line.
+/// The change that a line asks for at the present moment, if there is one. `Bad` if the line asks for none, or for a group with a
+/// blank description; `Memory` may come for any line.
 pub(crate) fn change_of(
     alloc: Global,
     line: &[u8],
     now: Option<Moment>,
 ) -> Result<Change, ParseError>
     ensures ok { IfOk result (λ change. permitted (meaning_at now line.now) ≡ Some (asked change)) }
-    ensures err { IfErr result (λ error. (error ≡ ParseError.Memory) ⊎ ((error ≡ ParseError.Bad) × IsNone (permitted (meaning_at now line.now)))) }
+    ensures err { IfErr result (λ error. (error ≡ ParseError.Memory)
+        ⊎ ((error ≡ ParseError.Bad) × IsNone (permitted (meaning_at now line.now)))) }
 {
     match parse_at(alloc, line, now) {
         Ok(Line::Group(request)) => {

@@ -9,8 +9,8 @@ use test_support_data::{Answer, Area, Arguments, RowError};
 pub struct ScriptLines;
 
 impl Area for ScriptLines {
-    /// `parse LINE`: what the line asks for; `parse_at LINE MOMENT`: the same at this moment, or where there is none. `number WORD`, `days
-    /// WORD`. `blank TEXT`: whether it shows nothing. `escaped OCTETS`: the octets as they are printed.
+    /// `parse LINE`: what the line asks for; `parse_at LINE MOMENT`: the same at this moment, or where there is none. `number WORD`,
+    /// `days WORD`. `blank TEXT`: whether it shows nothing. `escaped OCTETS`: the octets as they are printed.
     fn answer(
         &mut self,
         alloc: Global,

@@ -1,4 +1,4 @@
-use Rattle.program_changes.proofs.Outcomes.{stays_done}
+use Rattle.program_changes.proofs.Staying.{stays_done}
 use Rattle.program_changes.proofs.expire_to.Goals as goal
 
 pub returns : goal.returns

@@ -39,5 +39,6 @@ returns-in-Err-clause-changes g c =
 
 pub returns-in-Ok-commit-clause-serial : goal.returns-in-Ok-commit-clause-serial
 returns-in-Ok-commit-clause-serial g c =
-    is_last c.args.store.now.spool c.add_group.new.self.spool c.commit.new.store.spool (Group (group_of c.args.group.now)) c.in-Ok.serial c.in-Ok-commit.durable.value
+    is_last c.args.store.now.spool c.add_group.new.self.spool c.commit.new.store.spool (Group (group_of c.args.group.now))
+    c.in-Ok.serial c.in-Ok-commit.durable.value
     c.in-Ok-commit.ensures.value c.in-Ok.ensures.tested.1.0 c.in-Ok.ensures.tested.1.1 c.in-Ok-commit.ensures.commits.spool

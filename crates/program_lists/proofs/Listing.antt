@@ -1,14 +1,39 @@
 -- Lines of a list, read from the front.
-use Rattle.std.proofs.Common.{◌≡◌, ℕ, zero, suc, ◌+◌, ◌<◌, Bool, List, [], ◌∷◌, ◌++◌, take, drop, length, map, refl, sym, ◌∙◌, ap, arith}
-use Rattle.std.specs.Prelude.{Option, Some, None, Result, slice_get, option_map}
-use Rattle.std.proofs.lemmas.List.{append-nil, length-take-le, map-append}
-use Rattle.std.proofs.lemmas.Option.{slice_get_within}
+use Rattle.std.proofs.Common.{◌≡◌, ℕ, zero, suc, ◌+◌, ◌-◌, ◌<◌, ◌==◌, not, Bool, List, [], ◌∷◌, ◌++◌, take, drop, length, map, get_or}
+use Rattle.std.proofs.Common.{refl, sym, ◌∙◌, ap, arith, length-drop, Bor}
+use Rattle.std.specs.Prelude.{Option, Some, None, Result, slice_get, option_map, unwrap_or}
+use Rattle.std.specs.List.{position}
+use Rattle.std.proofs.lemmas.List.{append-nil, length-take-le, map-append, take_all}
+use Rattle.std.proofs.lemmas.Option.{slice_get_within, slice_get-get_or, slice_get-map}
 use Rattle.model.proofs.Joined.{front_more}
 use Rattle.model.specs.Stream.{Octets}
 use Rattle.model.specs.declared.change.NewGroup.{NewGroup}
-use Rattle.program_lists.specs.Lists.{asked_of, first_about, first_of, listed_from, said, told_by, with_line}
+use Rattle.program_lists.specs.Lists.{asked_of, first_about, first_of, listed_from, said, told_by, with_line, without_tabs}
 use Rattle.program_lists.specs.declared.faults.ListFault.{ListFault}
 use Rattle.program_lists.specs.declared.reading.Listed.{Listed}
+
+-- ---- TABs
+
+-- the text begins at this octet, the first one that is no TAB
+pub from_no_tab : (text : Octets) (at : ℕ) → Some at ≡ position (λ x. not (x == 9)) text
+    → take (length text - at) (drop at text) ≡ without_tabs text
+from_no_tab text at found =
+    take_all (length text - at) (drop at text) (omega (arith, length-drop at text))
+    ∙ ap (λ (o : Option ℕ). unwrap_or (option_map (λ i. drop i text) o) []) found
+
+pub only_tabs : (text : Octets) → None ≡ position (λ x. not (x == 9)) text → [] ≡ without_tabs text
+only_tabs text none = ap (λ (o : Option ℕ). unwrap_or (option_map (λ i. drop i text) o) []) none
+
+-- ---- the line at a place
+
+abbrev pub texts : List (Bor (List ℕ)) → List Octets
+texts lines = map (λ (line : Bor (List ℕ)). line.now) lines
+
+at_place : (lines : List (Bor (List ℕ))) (place : ℕ) (other : Bor (List ℕ)) → place < length lines
+    → slice_get (texts lines) place ≡ Some (get_or lines place other).now
+at_place lines place other within =
+    slice_get-map (λ (line : Bor (List ℕ)). line.now) lines place
+    ∙ ap (option_map (λ (line : Bor (List ℕ)). line.now)) (slice_get-get_or lines place other within)
 
 -- ---- the first description
 
@@ -30,6 +55,15 @@ module _ (lines : List Octets) (name : Octets) (place : ℕ) (line : Octets) (at
   -- it doesn't
   pub passed : told_by name line ≡ None → first_about lines name ≡ first_about (drop (place + 1) lines) name
   passed is = step ∙ ap (λ (o : Option Octets). first_of o (first_about (drop (place + 1) lines) name)) is
+
+module _ (lines : List (Bor (List ℕ))) (name : Octets) (place : ℕ) (other : Bor (List ℕ)) (within : place < length lines)
+    (so_far : first_about (texts lines) name ≡ first_about (drop place (texts lines)) name) where
+  pub found_at : (text : Octets) → told_by name (get_or lines place other).now ≡ Some text → first_about (texts lines) name ≡ Some text
+  found_at = found (texts lines) name place (get_or lines place other).now (at_place lines place other within) so_far
+
+  pub passed_at : told_by name (get_or lines place other).now ≡ None
+      → first_about (texts lines) name ≡ first_about (drop (place + 1) (texts lines)) name
+  passed_at = passed (texts lines) name place (get_or lines place other).now (at_place lines place other within) so_far
 
 -- ---- what the lines ask for
 
@@ -76,5 +110,17 @@ module _ (lines : List Octets) (moment place : ℕ) (line : Octets) (listed : Li
   one_listed one number is =
       map-append said listed (one ∷ []) ∙ ap (λ (all : List Asked). all ++ said one ∷ []) so_far
       ∙ ap (λ (n : ℕ). listed_from lines moment 1 (take place lines) ++ (n, (said one).1) ∷ []) number
-      ∙ ap (λ (o : Option (Result NewGroup ListFault)). listed_from lines moment 1 (take place lines) ++ with_line (place + 1) o []) (sym is)
+      ∙ ap (λ (o : Option (Result NewGroup ListFault)). listed_from lines moment 1 (take place lines) ++ with_line (place + 1) o [])
+      (sym is)
       ∙ sym behind
+
+module _ (lines : List (Bor (List ℕ))) (moment place : ℕ) (other : Bor (List ℕ)) (listed : List Listed) (within : place < length lines)
+    (so_far : map said listed ≡ listed_from (texts lines) moment 1 (take place (texts lines))) where
+  pub silent_at : asked_of (texts lines) moment (get_or lines place other).now ≡ None
+      → map said listed ≡ listed_from (texts lines) moment 1 (take (place + 1) (texts lines))
+  silent_at = one_passed (texts lines) moment place (get_or lines place other).now listed (at_place lines place other within) so_far
+
+  pub listed_at : (one : Listed) → one.line ≡ place + 1
+      → asked_of (texts lines) moment (get_or lines place other).now ≡ Some (said one).1
+      → map said (listed ++ one ∷ []) ≡ listed_from (texts lines) moment 1 (take (place + 1) (texts lines))
+  listed_at = one_listed (texts lines) moment place (get_or lines place other).now listed (at_place lines place other within) so_far
