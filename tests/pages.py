@@ -1,7 +1,7 @@
 #!/usr/bin/env python3
-"""Checks of the pages: links, named files, the columns of lines, pictures, the rows of crates, the names of contracts, of crates and of code,
-counts, the version, and the list of what has to be believed. Then each check is shown a page with something false in it, and has to find
-that. They need no program.
+"""Checks of the pages: links, named files, the columns of lines, pictures, the headings of crates, the names of contracts, of crates and of
+code, what threads share, counts, the version, and the list of what has to be believed. Then each check is shown a page with something false
+in it, and has to find that. They need no program.
 pages.py [NEWSD [NAME..]]"""
 import ast
 import functools
@@ -30,8 +30,8 @@ NAME = re.compile(r"(?<![\w/.*<$-])([A-Za-z_][\w-]*\.(?:md|antt|rt|py|edit|svg|t
 # a component of a path that stands for others, as in crates/CRATE/must-fail
 STAND_IN = re.compile(r"[A-Z][A-Z_]*")
 FOLDERS = ("bin", "bench", "crates", "docs", "tests", ".ci")
-# a row of a table whose first cell has crates
-ROW = re.compile(r"\| ([a-z_]+(?:, [a-z_]+)*) \|")
+# the heading of the promises of a crate, or of several
+OF_CRATES = re.compile(r"### ([a-z_]+(?:, [a-z_]+)*)")
 
 
 def files():
@@ -139,28 +139,28 @@ def crates_of_layers():
             yield layer, line.partition(":")[0].split()[0]
 
 
-def rows_of_promises():
-    """The crates of the rows of PROMISES.md in their order, each with the heading of its table, but for the capital."""
-    heading = ""
+def headings_of_promises():
+    """The crates of the headings of PROMISES.md in their order, each with the heading above it, but for the capital."""
+    layer = ""
     for line in read("docs/PROMISES.md").splitlines():
         if line.startswith("## "):
-            heading = line[3].lower() + line[4:]
-        row = ROW.match(line)
-        if row:
-            yield from ((heading, crate) for crate in row[1].split(", "))
+            layer = line[3].lower() + line[4:]
+        heading = OF_CRATES.fullmatch(line)
+        if heading:
+            yield from ((layer, crate) for crate in heading[1].split(", "))
 
 
 def promises_go_by_the_layers():
-    crates, rows = list(crates_of_layers()), list(rows_of_promises())
-    for layer, crate in rows:
+    crates, headings = list(crates_of_layers()), list(headings_of_promises())
+    for layer, crate in headings:
         if (layer, crate) not in crates:
             yield "docs/PROMISES.md: crates.txt has no %s among %s" % (crate, layer)
-    if [it for it in crates if it in rows] != [it for it in rows if it in crates]:
-        yield "docs/PROMISES.md: the rows aren't in the order of crates.txt"
+    if [it for it in crates if it in headings] != [it for it in headings if it in crates]:
+        yield "docs/PROMISES.md: the headings aren't in the order of crates.txt"
     # the words of the picture are those of the crates of the program
     program = [line.partition("\t")[0] for line in read("docs/pictures/crates.tsv").splitlines()]
-    for crate in sorted(set(program) - {crate for _, crate in rows}):
-        yield "docs/PROMISES.md: no row for %s" % crate
+    for crate in sorted(set(program) - {crate for _, crate in headings}):
+        yield "docs/PROMISES.md: no heading for %s" % crate
 
 
 QUOTED = re.compile(r"`([^`]+)`")
@@ -200,7 +200,7 @@ TYPE_NAME = re.compile(r"\w+")
 
 
 # a crate that fulfils a trait has its calls
-OF_TRAIT = re.compile(r"the trait `(\w+)`")
+OF_TRAIT = re.compile(r"[Tt]he trait `(\w+)`")
 
 
 @functools.lru_cache(maxsize=None)
@@ -212,15 +212,62 @@ def cells_of(line):
     return [it.strip() for it in re.split(r" ?\| ?", line.strip())[1:-1]]
 
 
-def contracts_are_of_their_crates():
+def lists_of_promises():
+    """For each heading of crates the crates, and the items below it: the line of each, whether it stands under another, and its text. A
+    line that is of none has no text."""
+    found, items = [], None
     for number, line in enumerate(read("docs/PROMISES.md").splitlines(), 1):
-        row = ROW.match(line)
-        crates = [it for it in row[1].split(", ") if it in CRATES] if row else []
-        cell = cells_of(line)[2] if crates else ""
-        known = set().union(*map(names_in, crates), *map(names_of_trait, OF_TRAIT.findall(cell)))
-        for name in QUOTED.findall(cell):
-            if "/" not in name and name not in known:
-                yield "docs/PROMISES.md:%d: %s has nothing that is called %s" % (number, row[1], name)
+        heading = OF_CRATES.fullmatch(line)
+        if heading:
+            items = []
+            found.append((heading[1], items))
+        elif line.startswith("#"):
+            items = None
+        elif items is not None and line.lstrip().startswith("- "):
+            items.append((number, line.startswith(" "), line.strip()[2:]))
+        elif items and line.startswith("  "):
+            items[-1] = (*items[-1][:2], "%s %s" % (items[-1][2], line.strip()))
+        elif items is not None and line:
+            items.append((number, False, ""))
+    return found
+
+
+LABEL = re.compile(r"(Only tested|Neither|Contracts): .")
+# contracts with a colon behind them, above the promises that they prove
+LEAD = re.compile(r"(?:(?:The trait |Within the crate )?`|.*, by `).*:")
+
+
+def contracts_of(text):
+    """The contracts that an item names, or nothing."""
+    label = LABEL.match(text)
+    if label:
+        return text.partition(": ")[2] if label[1] == "Contracts" else ""
+    if text.endswith(":"):
+        return text.rpartition(", by ")[2] if LEAD.fullmatch(text) else ""
+    return text.partition(" — ")[2]
+
+
+def contracts_are_of_their_crates():
+    """Each contract that stands behind a dash, before a colon or in a line Contracts. A promise has one of these, but for safety alone."""
+    for row, items in lists_of_promises():
+        crates, is_led, owing = [it for it in row.split(", ") if it in CRATES], False, []
+        has_any = any(contracts_of(text) for _, _, text in items)
+        for number, is_under, text in items:
+            contracts, label = contracts_of(text), LABEL.match(text)
+            if not text:
+                yield "docs/PROMISES.md:%d: this line of %s is of no item" % (number, row)
+            known = set().union(*map(names_in, crates), *map(names_of_trait, OF_TRAIT.findall(contracts)))
+            for name in QUOTED.findall(contracts):
+                if "/" not in name and name not in known:
+                    yield "docs/PROMISES.md:%d: %s has nothing that is called %s" % (number, row, name)
+            if not is_under:
+                is_led = text.endswith(":") and bool(contracts)
+            if label and contracts:
+                owing = []
+            elif not label and not contracts and not is_led and not text.endswith(":") and not text.startswith("Safety"):
+                owing.append(number)
+        if not items or owing and (has_any or not items[0][2].startswith("Safety")):
+            yield "docs/PROMISES.md:%d: no contract stands by this promise of %s" % ((owing or [0])[0], row)
 
 
 # where a page has the name of a crate: after a name of code in brackets, after the word, and as the first or second cell of a row
@@ -257,6 +304,42 @@ def each_crate_of_a_comment_is_there():
             for name in OF_COMMENT.findall(re.sub(r"\s*\n *//[/!] ?", " ", comment)):
                 if name not in CRATES:
                     yield "%s: no crate has the name %s" % (path, name)
+
+
+# a field that threads share: a lock, a flag, a count, a bell or an end of a channel
+SHARED = re.compile(r"\b(?:Mutex|RwLock|Condvar|OnceLock|Atomic[A-Z]\w+|Sender|Receiver|Parker|Bell)\b")
+SHARED_WORDS = re.compile(r"Table<")
+STRUCT = re.compile(r"^(?:pub(?:\([a-z]+\))? )?struct (\w+)[^\n;]*\{\n(.*?)^\}", re.MULTILINE | re.DOTALL)
+FIELD = re.compile(r"^ {4}(?:pub(?:\([a-z]+\))? )?(\w+): ([^\n]*(?:\n {8}[^\n]*)*)", re.MULTILINE)
+# a heading with fields, each behind its type, and at its end the crates
+OF_FIELDS = re.compile(r"^### .*?`\w+::\w+`.*\(([a-z_]+(?:, [a-z_]+)*)\)$", re.MULTILINE)
+
+
+@functools.lru_cache(maxsize=None)
+def shared_fields():
+    """The fields of the program's types that threads share, each with its crate."""
+    found = set()
+    for crate in [*Graph(TOP).below(["newsd"]), "newsd"]:
+        for _, text in texts_of(crate, "src", ".rt"):
+            is_of_words = "use atomic_table::Table;" in text
+            for struct, fields in STRUCT.findall(text):
+                found.update((crate, "%s::%s" % (struct, name)) for name, kind in FIELD.findall(fields)
+                             if SHARED.search(kind) or is_of_words and SHARED_WORDS.match(kind))
+    return found
+
+
+def what_threads_share_has_headings():
+    """Each such field is named in a heading of THREADS.md, with its crate, and each that is named there is one."""
+    named, crates_of = set(), {}
+    for heading in OF_FIELDS.finditer(read("docs/THREADS.md")):
+        for field in QUOTED.findall(heading[0]):
+            crates_of.setdefault(field, set()).update(heading[1].split(", "))
+        named.update((crate, field) for crate in heading[1].split(", ") for field in QUOTED.findall(heading[0]))
+    for crate, field in sorted(shared_fields() - named):
+        yield "docs/THREADS.md: no heading for %s (%s)" % (field, crate)
+    for field, crates in sorted(crates_of.items()):
+        if not any((crate, field) in shared_fields() for crate in crates):
+            yield "docs/THREADS.md: %s have no %s that threads share" % (", ".join(sorted(crates)), field)
 
 
 EDITS_OF = re.compile(r"\| ([a-z_]+) \| ((?:`[\w]+\.\w+`(?:, )?)+) \|")
@@ -368,23 +451,35 @@ def the_changelog_has_the_version():
 
 CHECKS = [each_link_leads_somewhere, each_named_file_is_there, no_line_is_too_long, pictures_are_what_their_scripts_draw,
           theorem_lists_what_has_to_be_believed, promises_go_by_the_layers, contracts_are_of_their_crates, each_named_crate_is_there,
-          each_crate_of_a_comment_is_there, each_named_edit_is_there, each_name_of_code_is_there, counts_are_those_of_the_tests,
+          each_crate_of_a_comment_is_there, each_named_edit_is_there, what_threads_share_has_headings,
+          each_name_of_code_is_there, counts_are_those_of_the_tests,
           the_changelog_has_the_version]
 # a check, a page, a text that stands there once, and something false in its place
 FALSE = [
     (each_link_leads_somewhere, "README.md", "](docs/GLOSSARY.md)", "](docs/GLOSSARIES.md)"),
     (each_named_file_is_there, "docs/THEOREM.md", "`synchrony/specs/Service.antt`", "`synchrony/specs/Services.antt`"),
     (no_line_is_too_long, "docs/GATE.md", "# The gate\n", "# The gate\n" + 141 * "x" + "\n"),
-    (promises_go_by_the_layers, "docs/PROMISES.md", "\n| disk_memory | ", "\n| memdiskette | "),
+    (promises_go_by_the_layers, "docs/PROMISES.md", "\n### disk_memory\n", "\n### memdiskette\n"),
+    (promises_go_by_the_layers, "docs/PROMISES.md", "\n### fs_check\n", "\n### fs_inodes\n"),
     (contracts_are_of_their_crates, "docs/PROMISES.md", "`MemDisk::new`", "`MemDisk::now`"),
     (contracts_are_of_their_crates, "docs/PROMISES.md", "`is_group_name`", "`is_a_group_name`"),
     (contracts_are_of_their_crates, "docs/PROMISES.md", "`FileDisk::open`", "`FileError::open`"),
+    (contracts_are_of_their_crates, "docs/PROMISES.md", " — `husk`\n", "\n"),
+    (contracts_are_of_their_crates, "docs/PROMISES.md", " — `husk`\n", " — `hulk`\n"),
+    (contracts_are_of_their_crates, "docs/PROMISES.md", ", by `external_synchrony`:", ", by `internal_synchrony`:"),
+    (contracts_are_of_their_crates, "docs/PROMISES.md", "\n- `Journal::open` (`ok`, ", "\n- Of `Journal::open` (`ok`, "),
+    (contracts_are_of_their_crates, "docs/PROMISES.md", "\n- Contracts: `Manager::at`", "\n- Contract: `Manager::at`"),
+    (contracts_are_of_their_crates, "docs/PROMISES.md", "\n- No call after `new` answers E2\n", "\nNo call after `new` answers E2\n"),
     (each_named_crate_is_there, "docs/THEOREM.md", "`World::step` (world)", "`World::step` (worlds)"),
     (each_named_crate_is_there, "docs/ARCHITECTURE.md", "| disk_file | `disk_file/src/lib.rt`", "| filedisc | `disk_file/src/lib.rt`"),
     (each_named_crate_is_there, "docs/pictures/post.svg", "kernel_seats, kernel_outbox<", "kernel_seat, kernel_outbox<"),
     (each_named_crate_is_there, "tests/README.md", "| `test_model` |", "| `test_models` |"),
     (each_crate_of_a_comment_is_there, "crates/text_husks/src/lib.rt", "crate `model_renewed`", "crate `renewed`"),
     (each_named_edit_is_there, "docs/THEOREM.md", "`happen.told_does_nothing`", "`happen.told_does_something`"),
+    (what_threads_share_has_headings, "docs/THREADS.md", "### `Desk::is_missed`", "### `Desk::is_missing`"),
+    (what_threads_share_has_headings, "docs/THREADS.md", "`Pace::times` (server_attending)", "`Pace::times` (server_pace)"),
+    (what_threads_share_has_headings, "docs/THREADS.md", "`Mark::table`", "the table"),
+    (what_threads_share_has_headings, "docs/THREADS.md", "`Turns::counted`, `Turns::moved`", "`Turns::counted`"),
     (each_name_of_code_is_there, "docs/ARCHITECTURE.md", "`write_home`", "`write_to_home`"),
     (counts_are_those_of_the_tests, "docs/PROMISES.md", " scripts and lists of words", "0 scripts and lists of words"),
     (counts_are_those_of_the_tests, "docs/PROMISES.md", " damaged volumes and", "0 damaged volumes and"),

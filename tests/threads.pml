@@ -1,6 +1,6 @@
 /* The threads of `newsd serve` that have a session's messages answered and its replies released: the order of their steps on the locks,
-   the flags and the bells. docs/ARCHITECTURE.md, "The threads of serve", says what each of them does. Each call of the kernel is one step,
-   and each access to a flag, a bell or a lock is one.
+   the flags and the bells. docs/THREADS.md says what each of them does. Each call of the kernel is one step, and each
+   access to a flag, a bell or a lock is one.
 
    A session's thread leaves a block only while its session holds nothing and has nothing to write. The thread that flushes files it under
    the writer's lock and writes at once what is ready. Before anything else the session's thread takes the block back and has it answered.
