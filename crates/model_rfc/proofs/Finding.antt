@@ -1,17 +1,16 @@
 -- An article is found by its id, by its number and as the current one.
 use Rattle.std.proofs.Common.{◌≡◌, ℕ, zero, suc, ◌+◌, ◌-◌, ◌≤◌, List, [], ◌∷◌, ◌++◌, refl, sym, ◌∙◌, ap, subst, arith, inl, inr}
 use Rattle.std.proofs.Common.{Bool, true, false, cond, ◌||◌, append-nil}
-use Rattle.std.specs.Prelude.{Option, Some, None, length, bytes_eq, find, filter_map, slice_get, option_and_then, not}
-use Rattle.std.specs.List.{list_any}
+use Rattle.std.specs.Prelude.{Option, Some, None, length, bytes_eq, codes, decimal, find, filter_map, slice_get, option_and_then, not}
+use Rattle.std.specs.List.{list_any, join_with_byte}
 use Rattle.std.proofs.lemmas.Bool.{false≢true, true≢false, or_cases, le-leb, le-ltb, cases_Bool}
 use Rattle.std.proofs.lemmas.List.{take_at, drop_at}
 use Rattle.std.proofs.lemmas.List.Elements.{filter_map-append}
 use Rattle.std.proofs.lemmas.Slice.Eq.{bytes_eq-Decides}
 use Rattle.model.specs.Article.{id}
-use Rattle.model.specs.Stream.{Octets, stuffed}
+use Rattle.model.specs.Stream.{Octets, line}
 use Rattle.model.specs.Spool.{Spool, NewsArticle, article_at, article_filed, articles, by_id, by_number, contents, entries, entries_from, filed_in}
 use Rattle.model.specs.Spool.{has_id, here_by_id, is_gone, is_in, is_name, low, news_article, number_in, unless_gone}
-use Rattle.model.specs.Article.{body, header}
 use Rattle.model.specs.Answer.{at_current, at_number, command_answer, fetch_current, fetch_id, fetch_number, if_found, in_selected, part_reply, says}
 use Rattle.model.specs.Lawful.{IsLawful, IsLawfulAfter}
 use Rattle.model.specs.Replies.{no_current_article, no_such_number}
@@ -26,10 +25,15 @@ use Rattle.model.proofs.Found.{has_number}
 use Rattle.model.proofs.Fronts.{entries_split}
 use Rattle.model.proofs.LookUps.{id_absent_cut}
 use Rattle.model.proofs.Numbers.{number_is_rank}
-use Rattle.model_rfc.specs.Finding.{IsOfArticle}
+use Rattle.model_rfc.specs.Finding.{IsOfArticle, block_for, code_for}
 use Rattle.model_rfc.specs.Laws.{CurrentIsSent, FoundById, FoundByNumber}
+use Rattle.model_rfc.specs.Overviews.{body_lines, header_lines}
+use Rattle.model_rfc.specs.Responses.{sent}
+use Rattle.model_rfc.proofs.Articles.{IsCarried, at_carried}
 use Rattle.model_rfc.proofs.Groups.{at_within}
 use Rattle.model_rfc.proofs.News.{left_there, or_true}
+use Rattle.model_rfc.proofs.Showing.{body_is, text_joined}
+use Rattle.model_rfc.proofs.Texts.{IsText, text_is}
 
 -- ---- an id names one article
 
@@ -123,29 +127,50 @@ here_found host S g n a lawful is =
 
 -- ---- what is sent
 
-is_part : (x : Session) (p : Part) (n : ℕ) (a : NewsArticle) → IsOfArticle x p n a (says x (part_reply p n a))
-is_part x part.Whole n a = record { stays = record { next_is = refl; change = refl }; block = stuffed a.text; reply_is = refl }
-is_part x part.Head n a = record { stays = record { next_is = refl; change = refl }; block = stuffed (header a.text); reply_is = refl }
-is_part x part.Body n a = record { stays = record { next_is = refl; change = refl }; block = stuffed (body a.text); reply_is = refl }
-is_part x part.Nothing n a =
-    record { stays = record { next_is = refl; change = refl }; block = []; reply_is = sym (append-nil _) }
+is_part : (x : Session) (p : Part) (n : ℕ) (a : NewsArticle) → IsCarried a → IsOfArticle x p n a (says x (part_reply p n a))
+is_part x p n a carried = record {
+  stays = record { next_is = refl; change = refl };
+  lines = t.texts;
+  clean = t.clean;
+  text_is = text_joined a.text carried;
+  reply_is = reply p;
+}
+  where
+    t : IsText a.text
+    t = text_is a.text carried
+
+    head : header_lines t.texts ≡ t.split.headers
+    head = t.split.before
+
+    rest : body_lines t.texts ≡ t.split.body
+    rest = body_is t.texts t.split.headers t.split.body t.split.all t.split.before
+
+    after : Octets → Octets → Octets
+    after code block = line (join_with_byte 32 (code ∷ decimal n ∷ id a.text ∷ [])) ++ block
+
+    reply : (q : Part) → part_reply q n a ≡ after (code_for q) (block_for q t.texts)
+    reply part.Whole = ap (after (codes "220")) t.whole
+    reply part.Head = ap (after (codes "221")) (t.head ∙ ap sent (sym head))
+    reply part.Body = ap (after (codes "222")) (t.rest ∙ ap sent (sym rest))
+    reply part.Nothing = sym (append-nil _)
 
 pub found_by_id : FoundById
 unfolding command_answer
 found_by_id host S x t p g n filed is there =
     subst (λ (o : Option NewsArticle). IsOfArticle x p 0 filed (fetch_id x p o)) (sym (here_found host S g n filed is.lawful there))
-    (is_part x p 0 filed)
+    (is_part x p 0 filed (at_carried host S g n filed is.lawful there))
 
 pub found_by_number : FoundByNumber
 unfolding command_answer
-found_by_number host S x t p g n filed group there =
+found_by_number host S x t p g n filed is group there =
     subst (λ (o : Option Octets). IsOfArticle (at_number x n) p n filed (in_selected S x o (λ k. fetch_number x p n))) (sym group)
     (subst (λ (o : Option NewsArticle). IsOfArticle (at_number x n) p n filed
-    (if_found x no_such_number o (λ a. says (at_number x n) (part_reply p n a)))) (sym there) (is_part (at_number x n) p n filed))
+    (if_found x no_such_number o (λ a. says (at_number x n) (part_reply p n a)))) (sym there)
+    (is_part (at_number x n) p n filed (at_carried host S g n filed is.lawful there)))
 
 pub current_is_sent : CurrentIsSent
 unfolding command_answer
-current_is_sent host S x t p g n filed group current there =
+current_is_sent host S x t p g n filed is group current there =
     subst (λ (o : Option Octets). IsOfArticle x p n filed (in_selected S x o (λ k. fetch_current x p))) (sym group)
     (subst (λ (o : Option ℕ). IsOfArticle x p n filed (at_current x (contents S g) o
     (λ m. if_found x no_current_article (article_at (contents S g) m) (λ a. says x (part_reply p m a))))) (sym current)
@@ -153,4 +178,4 @@ current_is_sent host S x t p g n filed group current there =
     (if_found x no_current_article (article_at (contents S g) n) (λ a. says x (part_reply p n a)))))
     (sym (le-ltb n (contents S g).low (at_within (contents S g) n filed there).2))
     (subst (λ (o : Option NewsArticle). IsOfArticle x p n filed (if_found x no_current_article o (λ a. says x (part_reply p n a))))
-    (sym there) (is_part x p n filed))))
+    (sym there) (is_part x p n filed (at_carried host S g n filed is.lawful there)))))

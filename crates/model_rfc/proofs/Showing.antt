@@ -207,29 +207,33 @@ shown_field name text plain carried =
     (sym (ap has_fields_alone t.header_is) ∙ (no_cause Carried text (carried_cause text carried)).fields_alone)
     ∙ ap (header_content name) (sym t.split.before))
 
-onto_size : (x : ℕ) (ls : List Octets) → length (concat (onto_first x ls)) ≡ suc (length (concat ls))
-onto_size x [] = refl
-onto_size x (l ∷ ls) = refl
+onto_joined : (x : ℕ) (ls : List Octets) → concat (onto_first x ls) ≡ x ∷ concat ls
+onto_joined x [] = refl
+onto_joined x (l ∷ ls) = refl
 
-joined_size : (before : ℕ) (text : Octets) → length (concat (lines_after before text)) ≡ length text
+-- a text is its lines, joined
+joined : (before : ℕ) (text : Octets) → concat (lines_after before text) ≡ text
 unfolding lines_after
-joined_size before [] = refl
-joined_size before (x ∷ rest) = by_end (bytes_eq crlf (before ∷ x ∷ [])) (joined_size x rest) where
-  by_end : (b : Bool) → length (concat (lines_after x rest)) ≡ length rest
-      → length (concat (cond b ((x ∷ []) ∷ lines_after x rest) (onto_first x (lines_after x rest)))) ≡ suc (length rest)
-  by_end true same = ap suc same
-  by_end false same = onto_size x (lines_after x rest) ∙ ap suc same
+joined before [] = refl
+joined before (x ∷ rest) = by_end (bytes_eq crlf (before ∷ x ∷ [])) (joined x rest) where
+  by_end : (b : Bool) → concat (lines_after x rest) ≡ rest
+      → concat (cond b ((x ∷ []) ∷ lines_after x rest) (onto_first x (lines_after x rest))) ≡ x ∷ rest
+  by_end true same = ap (λ s. x ∷ s) same
+  by_end false same = onto_joined x (lines_after x rest) ∙ ap (λ s. x ∷ s) same
 
 with_ends : (ls : List Octets) → concat (map line ls) ≡ flat_map (λ l. l ++ crlf) ls
 with_ends [] = refl
 with_ends (l ∷ ls) = ap (λ s. line l ++ s) (with_ends ls)
 
-octets_are : (text : Octets) (carried : cause Carried text ≡ None) → length text ≡ octet_count (text_is text carried).texts
-octets_are text carried =
+pub text_joined : (text : Octets) (carried : cause Carried text ≡ None) → text ≡ flat_map (λ l. l ++ crlf) (text_is text carried).texts
+text_joined text carried =
     let t = text_is text carried in
-    sym (joined_size 0 text) ∙ ap (λ (ls : List Octets). length (concat ls)) t.lines_are ∙ ap (λ (s : Octets). length s) (with_ends t.texts)
+    sym (joined 0 text) ∙ ap (λ (ls : List Octets). concat ls) t.lines_are ∙ with_ends t.texts
 
-body_is : (ls hs bs : List Octets) → ls ≡ hs ++ [] ∷ bs → rfc.header_lines ls ≡ hs → rfc.body_lines ls ≡ bs
+octets_are : (text : Octets) (carried : cause Carried text ≡ None) → length text ≡ octet_count (text_is text carried).texts
+octets_are text carried = ap (λ (s : Octets). length s) (text_joined text carried)
+
+pub body_is : (ls hs bs : List Octets) → ls ≡ hs ++ [] ∷ bs → rfc.header_lines ls ≡ hs → rfc.body_lines ls ≡ bs
 body_is ls hs bs all front =
     ap (λ (fs : List Octets). drop (length fs + 1) ls) front ∙ ap (drop (length hs + 1)) (all ∙ sym (append_assoc hs ([] ∷ []) bs))
     ∙ drop_at (hs ++ [] ∷ []) bs (length hs + 1) (length-append hs ([] ∷ []))

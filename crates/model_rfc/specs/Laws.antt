@@ -134,12 +134,12 @@ FoundById = (host : Octets) (S : Spool) (x : Session) (t : ℕ) (p : Part) (g : 
 -- (6.2.1.2).
 abbrev pub FoundByNumber : Type 0
 FoundByNumber = (host : Octets) (S : Spool) (x : Session) (t : ℕ) (p : Part) (g : Octets) (n : ℕ) (filed : NewsArticle) →
-    x.group ≡ Some g → by_number S g n ≡ Some filed →
+    IsSpool host S → x.group ≡ Some g → by_number S g n ≡ Some filed →
     IsOfArticle (record x { current = Some n }) p n filed (command_answer host S x t (Fetch p (Number n)))
 
 abbrev pub CurrentIsSent : Type 0
 CurrentIsSent = (host : Octets) (S : Spool) (x : Session) (t : ℕ) (p : Part) (g : Octets) (n : ℕ) (filed : NewsArticle) →
-    x.group ≡ Some g → x.current ≡ Some n → by_number S g n ≡ Some filed →
+    IsSpool host S → x.group ≡ Some g → x.current ≡ Some n → by_number S g n ≡ Some filed →
     IsOfArticle x p n filed (command_answer host S x t (Fetch p Current))
 
 -- OVER by a range shows the articles of the listed numbers, each by what ARTICLE sends of it; 423 where there are none (8.3.2).

@@ -1,6 +1,6 @@
 //! What RFC 3977 says of a server's answers, written from the RFC, each definition with its section; and that the
 //! definitions of the service (`model`) meet it. Read them in this order: Grammar, Syntax, Commands, Reading, Serving, Contents,
-//! Responses, States, Finding, Overviews, Marks, Times, News, Laws. Each function does nothing, and its contract is the laws.
+//! Responses, States, Overviews, Finding, Marks, Times, News, Laws. Each function does nothing, and its contract is the laws.
 //!
 //! - Each answer is one response of the form that the RFC gives its command: one of the command's own codes or a generic one,
 //!   never 500 where the command is recognized; the code's arguments by their grammar, at most 512 octets; and just where the
@@ -13,8 +13,8 @@
 //!   only the first octets came it reads whole responses, and a part of one more is left. So it is of each session of the
 //!   plain server, and of what is released to it, whatever a crash left.
 //! - GROUP's numbers, the group and the article that it selects; where NEXT and LAST lead, and when they are refused; the
-//!   numbers that LISTGROUP lists; the article that a command by id, by number or without either sends, and the current one
-//!   after it; DATE's moment.
+//!   numbers that LISTGROUP lists; the article that a command by id, by number or without either sends, by its line and its
+//!   block, and the current one after it; DATE's moment.
 //! - OVER's lines are what the RFC makes of the articles that ARTICLE sends: the headers that LIST OVERVIEW.FMT names, :bytes and
 //!   :lines. NEWGROUPS and NEWNEWS list just the groups and the articles that are since the date and time.
 //!
@@ -48,7 +48,7 @@ pub fn groups_follow_the_rfc()
     ensures last { LastMoves }
 {}
 
-/// LISTGROUP lists, and a command on an article selects, as RFC 3977 says.
+/// LISTGROUP lists, and a command on an article sends and selects, as RFC 3977 says.
 pub fn articles_follow_the_rfc()
     ensures listed { ListGroupLists }
     ensures by_id { ByIdStays }
