@@ -3,6 +3,7 @@
 import datetime
 import json
 import os
+import re
 import subprocess
 import sys
 
@@ -82,6 +83,12 @@ def today():
     return datetime.datetime.now(datetime.timezone.utc).strftime("%Y-%m-%d")
 
 
+def moved_to(day, text):
+    """A text about 2026-11-29 and the days beside it, which is about this day and those beside it."""
+    days = day - datetime.date(2026, 11, 29)
+    return re.sub(r"2026-11-\d\d", lambda found: str(datetime.date.fromisoformat(found[0]) + days), text)
+
+
 def a_written_log_is_summed_up(volume):
     """Of one day, from standard input and from files. Without a day it is yesterday."""
     log = os.path.join(place_of(volume), "log")
@@ -89,8 +96,8 @@ def a_written_log_is_summed_up(volume):
     for words, given in (((), WRITTEN), ((log,), ""), ((log, os.devnull), "")):
         assert told("--day", "2026-11-29", *words, given=given) == TEXT, words
         assert json.loads(told("--day", "2026-11-29", "--json", *words, given=given)) == JSON, words
-    before = (datetime.datetime.now(datetime.timezone.utc) - datetime.timedelta(days=1)).strftime("%Y-%m-%d")
-    assert told(given=WRITTEN.replace("2026-11-29", before)) == TEXT.replace("2026-11-29", before)
+    yesterday = datetime.datetime.now(datetime.timezone.utc).date() - datetime.timedelta(days=1)
+    assert told(given=moved_to(yesterday, WRITTEN)) == moved_to(yesterday, TEXT)
     empty = json.loads(told("--json", "--day", "2001-01-01", log))
     assert empty["sessions"]["begun"] == empty["posts"]["taken"] == empty["callers"]["addresses"] == 0 and empty["faults"] == [], empty
 
