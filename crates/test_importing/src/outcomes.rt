@@ -154,10 +154,19 @@ const ROWS: &[Row<'static>] = &[
         "filed 0\nhere 0\nno group 0\nrefused 0\nE14 Bad: octet 0: the length is no number\n",
     ),
     (
-        "a text that is too long",
+        "a text that is too long, and cut short",
         &[],
         b"#! rnews 262145\n",
-        "filed 0\nhere 0\nno group 0\nrefused 0\nE14 Bad: octet 0: an article of more than 262144 octets\n",
+        "article 1 at octet 0: its header has more than 8192 octets, or the article more than 262144\n\
+         filed 0\nhere 0\nno group 0\nrefused 1\n  1 its header has more than 8192 octets, or the article more than 262144\n\
+         E14 Bad: octet 16: the batch is cut short\n",
+    ),
+    (
+        "a text that is too long is passed over",
+        &[Octets::Long(b"Path: p\n\n", b's', 262_144, b"\n"), GOOD],
+        b"",
+        "article 1 at octet 0: its header has more than 8192 octets, or the article more than 262144\n\
+         filed 0\nhere 1\nno group 0\nrefused 1\n  1 its header has more than 8192 octets, or the article more than 262144\n",
     ),
     (
         "a text that is cut short",
