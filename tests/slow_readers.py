@@ -92,7 +92,7 @@ def who_takes_little_of_a_large_reply_is_let_go(volume):
                 pass
 
         start = time.monotonic()
-        threads = [threading.Thread(target=sip, args=it) for it in zip(callers, (360, 1_000, 240), (4, 4, 4))]
+        threads = [threading.Thread(target=sip, args=it) for it in zip(callers, (360, 1_000, 360), (4, 4, 4))]
         for thread in threads:
             thread.start()
         wait_until(lambda: time.monotonic() > start + LONG_WINDOW or len(log.events("end")) > 1, LONG_WINDOW + 30)
