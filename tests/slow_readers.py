@@ -68,8 +68,8 @@ def who_takes_little_is_not_let_go(volume):
 
 def who_takes_little_of_a_large_reply_is_let_go(volume):
     """Who holds one of the places for large replies has to take a hundred octets a second, judged by turns of three minutes. One that takes
-    fewer is let go, and the log says why; one that takes more stays, and so does one that takes as few and holds none. It takes four
-    minutes."""
+    fewer is let go, and the log says why; one that takes more stays, and so does one that takes as few and holds none. What the system's
+    buffers grow by counts in a turn, so it may be the second one. It takes four to seven minutes."""
     volume.make_group()
     with volume.serve() as server:
         log = Log(server.process.stderr)
@@ -95,7 +95,7 @@ def who_takes_little_of_a_large_reply_is_let_go(volume):
         threads = [threading.Thread(target=sip, args=it) for it in zip(callers, (360, 1_000, 360), (4, 4, 4))]
         for thread in threads:
             thread.start()
-        wait_until(lambda: time.monotonic() > start + LONG_WINDOW or len(log.events("end")) > 1, LONG_WINDOW + 30)
+        wait_until(lambda: time.monotonic() > start + 2 * LONG_WINDOW or len(log.events("end")) > 1, 2 * LONG_WINDOW + 30)
         ends.set()
         for thread in threads:
             thread.join()
@@ -273,7 +273,7 @@ TESTS = [
     a_slow_reader_gets_all,
 ]
 
-# played where they are named: they take four minutes and eleven
+# played where they are named: they take four minutes, up to seven, and eleven
 LONG_ONES = [who_takes_little_is_not_let_go, who_takes_little_of_a_large_reply_is_let_go, who_sends_too_slowly_is_let_go]
 
 if __name__ == "__main__":
