@@ -16,6 +16,7 @@ sys.dont_write_bytecode = True
 sys.path.insert(0, os.path.join(TOP, "bench", "modules"))
 import prover  # noqa: E402
 from edits import functions_of  # noqa: E402
+from judging import GONE, Judgement  # noqa: E402
 from pages import main  # noqa: E402
 from toolchain import keeps  # noqa: E402
 
@@ -43,6 +44,19 @@ pub fn next_but_one(n: u64) -> u64
     // by two steps
     next(next(n))
 }
+
+/// A number that is at most 1. It has a loop, and no proof files.
+pub fn turned(n: u64) -> u64
+    ensures { result < 2 }
+{
+    for at in 0..n {
+        // this one
+        if at == 1 {
+            return at;
+        }
+    }
+    0
+}
 """
 # a crate above it
 ABOVE = """//! More sums.
@@ -60,12 +74,27 @@ pub fn following(n: u64) -> u64
     next(n)
 }
 """
-# edits by their names: the folder, the old text and the new one
+# edits by their names: the folder, the old text, the new one, and what other lines it has
 WRONG = {
     "next.stays": ("edits", "n + STEP", "n"),
     "next_but_one.is_the_next": ("must-fail", "next(next(n))", "next(n)"),
 }
 HARMLESS = {"next_but_one.changes_words": ("edits", "// by two steps", "// by steps")}
+# one that names a goal, and one that doesn't
+GOAL = "goal: returns"
+BY_NAME = {
+    "next.stays": ("edits", "n + STEP", "n", GOAL),
+    "next_but_one.is_the_next": ("edits", "next(next(n))", "next(n)"),
+}
+# how often the prover says what of these
+ANSWERED = [("help: write ./proofs", 0), ("help: add these lines", 0), ("`no-offer`: expected", 2), ("`: `search`: no proof of", 1),
+            ("it is not proved that", 1), ("_edit: proved", 1)]
+# edits that change words: one names a goal that is shown, one a goal that isn't there, and one is of a function with a loop
+SHOWN = {
+    "next_but_one.changes_words": ("edits", "// by two steps", "// by steps", GOAL),
+    "next.changes_words": ("edits", "// by a step", "// by steps", "goal: no-such-goal"),
+    "turned.changes_words": ("edits", "// this one", "// that one"),
+}
 # beside it another stands that no measure shows to end
 ENDLESS = {"next.never_ends": ("edits", "    n + STEP", "    let mut m = n; while m == n { m = n; } m")}
 # what is wrong with an edit, and the words that bin/edits has for it
@@ -76,6 +105,7 @@ BAD = [
     ({"next.no_such_text": ("edits", "m + STEP", "m")}, "next.no_such_text.edit: the text of `old:` stands 0 times"),
     ({"next.twice": ("edits", "STEP", "0")}, "next.twice.edit: the text of `old:` stands 2 times"),
     ({"next.same": ("edits", "n + STEP", "n + STEP")}, "next.same.edit changes nothing"),
+    ({"next.both": ("edits", "n + STEP", "n", GOAL, "proof: names what this takes away")}, "next.both.edit names a goal, and"),
 ]
 # a judge that is made up: it refuses each body that is `n`, and on copies anything, where it is asked to
 JUDGE = r'''
@@ -95,6 +125,24 @@ def check(crate, folder, more):
         said.append("fn %s::%s: %s" % (crate.name, name, why))
     return Ran(1, "\n".join(said), 0)
 '''
+# what is added to the prover, so that a test reads what it says
+HEARD = r'''
+
+unheard = check
+
+
+def check(crate, folder, more):
+    ran = unheard(crate, folder, more)
+    with open(os.environ["HEARD"], "a") as file:
+        file.write(ran.said)
+    return ran
+'''
+# what it says of a copy in lines 10 to 14 that has no proof but for an answer that the judge refuses, and of one that has
+SAID = """./proofs/f_edit0/Answers.antt:9:3: error: `no-offer`: expected another type
+%sfn sums::f_edit0: %s
+fn sums::f_edit: proved
+only=2 proved=1"""
+UNSHOWN = "note: src/lib.rt:%d:5: it is not proved that what the function ensures holds when it returns (`returns`)\n"
 # a crate for it, and its edits, by the old and the new text
 SUM = """pub fn next(n: u64) -> u64
     ensures { result ≡ n + 1 }
@@ -132,8 +180,9 @@ def repository(edits):
         write(top, "crates.txt", "sums:\n")
         write(top, "HANDLES", "Handles allowed: none.\n")
         write(top, "crates/sums/src/lib.rt", SOURCE)
-        for name, (folder, old, new) in edits.items():
-            write(top, "crates/sums/%s/%s.edit" % (folder, name), "file: src/lib.rt\nold: %s\nnew: %s\n" % (old, new))
+        for name, (folder, old, new, *more) in edits.items():
+            lines = ["file: src/lib.rt", "old: " + old, "new: " + new, *more]
+            write(top, "crates/sums/%s/%s.edit" % (folder, name), "".join("%s\n" % it for it in lines))
         yield top
 
 
@@ -163,7 +212,7 @@ def tried(top, *words, **env):
 
 def functions_are_found_in_a_text():
     found = functions_of("src/lib.rt", SOURCE)
-    if [(it.name, it.body, it.last) for it in found] != [("next", 11, 14), ("next_but_one", 20, 23)]:
+    if [(it.name, it.body, it.last) for it in found] != [("next", 11, 14), ("next_but_one", 20, 23), ("turned", 28, 36)]:
         yield "found %s" % [(it.name, it.body, it.last) for it in found]
 
 
@@ -196,6 +245,76 @@ def bad_edits_fail_by_their_names():
             status, said = tried(top)
             if not status or words not in said:
                 yield "status %d, and no `%s`: %s" % (status, words, said)
+
+
+@contextlib.contextmanager
+def heard(edits):
+    """A repository with these edits, and the file of what the prover says in it."""
+    with repository(edits) as top:
+        with open(os.path.join(top, "bench", "modules", "prover.py"), "a") as file:
+            file.write(HEARD)
+        yield top, os.path.join(top, "heard")
+
+
+def read(path):
+    with open(path) as file:
+        return file.read()
+
+
+def a_named_goal_is_searched_for_once_and_no_answers_are_offered():
+    with heard(BY_NAME) as (top, said_in):
+        status, said = tried(top, HEARD=said_in)
+        if status or "sums: 2 of 2 refused, in 1 runs" not in said:
+            yield "status %d: %s" % (status, said)
+        prover_said = read(said_in)
+        for words, times in ANSWERED:
+            if prover_said.count(words) != times:
+                yield "`%s` stands %d times, not %d: %s" % (words, prover_said.count(words), times, prover_said)
+
+
+def a_named_goal_that_is_shown_refuses_no_edit():
+    with repository(SHOWN) as top:
+        status, said = tried(top)
+        for name in SHOWN:
+            if "%s.edit: NOT REFUSED, and the crate is proved" % name not in said:
+                yield "status %d, and nothing of %s: %s" % (status, name, said)
+
+
+def a_control_is_searched_for_as_the_copies_are():
+    """The answer at a named goal shows it of no body. So no copy is refused by it, and each edit is tried in place, with all searches."""
+    words = "next_but_one.changes_words"
+    with repository({"next.stays": BY_NAME["next.stays"], words: SHOWN[words]}) as top:
+        changed(top, "bench/modules/edits.py", "search judge.rules", "tt")
+        status, said = tried(top)
+        if not status or words + ".edit: NOT REFUSED, and" not in said or "stays.edit" in said or "in 3 runs" not in said:
+            yield "status %d: %s" % (status, said)
+
+
+def a_copy_is_refused_by_what_is_open_in_its_own_lines():
+    copy, control, place = Named("f_edit0"), Named("f_edit"), ("src/lib.rt", 10, 14)
+    gone = "./proofs/f_edit0/Answers.antt:1:1: error: `returns`: `c` has no field `left`\n"
+    private = "./proofs/f_edit0/Answers.antt: error: `returns` is private\n"
+    refused_not, bare = "NOT REFUSED by itself", "not proved"
+    for before, verdict, wanted in ((UNSHOWN % 10, bare, ""), (UNSHOWN % 14, bare, ""), (UNSHOWN % 9, bare, refused_not),
+                                    (UNSHOWN % 15, bare, refused_not), (UNSHOWN % 10, "proved", "NOT REFUSED, and"),
+                                    ("", bare, refused_not), (gone + UNSHOWN % 10, bare, GONE),
+                                    (private + UNSHOWN % 10, bare, refused_not)):
+        for end, other in (("", None), ("fn sums::g: not proved\n", refused_not)):
+            said = SAID % (before + end, verdict)
+            why = Judgement(1, said).why_not([copy], [copy], [control], {copy: place})
+            meant = other if other and wanted == "" else wanted
+            if not why.startswith(meant) or bool(why) != bool(meant):
+                yield "%s, and not %s: %s" % (why, meant, said)
+
+
+class Named:
+    """A function of which a check says something."""
+
+    def __init__(self, name):
+        self.name = name
+
+    def ending(self):
+        return self.name
 
 
 def one_that_is_refused_for_being_a_copy_is_tried_in_place():
@@ -259,8 +378,11 @@ def a_line_whose_sum_does_not_fit_is_as_if_it_were_not_there():
         changed(top, "crates/sum3/edits/second.stays.edit", "old: 2 + n", "old: 2 + n + 0")
         yield from ends_of(top, ([], 0, 2, 0), (["--write"], 0, 2, 0))
         changed(top, "crates/sum3/src/lib.rt", "n + 2 }", "n + 1 + 1 }")
-        yield from ends_of(top, ([], 0, 6, 0))
-        changed(top, "bench/modules/judging.py", "import re", "# another judge\nimport re")
+        yield from ends_of(top, ([], 0, 6, 0), (["--write"], 0, 6, 0))
+        # other words of the judge say the same; who changes what it means says so
+        changed(top, "bench/modules/judging.py", "import re\n", "import re  # by other words\n")
+        yield from ends_of(top, ([], 0, 0, 0))
+        changed(top, "bench/modules/ledger.py", "MEANING = ", "MEANING = 1")
         yield from ends_of(top, ([], 0, 12, 0))
 
 
@@ -337,6 +459,10 @@ TESTS = [
     wrong_bodies_are_refused_once,
     what_was_proved_is_kept_while_it_fits,
     bad_edits_fail_by_their_names,
+    a_named_goal_is_searched_for_once_and_no_answers_are_offered,
+    a_named_goal_that_is_shown_refuses_no_edit,
+    a_control_is_searched_for_as_the_copies_are,
+    a_copy_is_refused_by_what_is_open_in_its_own_lines,
     one_that_is_refused_for_being_a_copy_is_tried_in_place,
     a_forged_verdict_is_found_by_the_sample_and_by_all,
     a_line_whose_sum_does_not_fit_is_as_if_it_were_not_there,

@@ -134,8 +134,11 @@ def dear_lines_starve_nobody(volume):
             asked = "LIST ACTIVE " + wildmat
             assert len(asked) <= LONGEST_LINE
             with server.call() as caller:
+                began = time.monotonic()
                 caller.send(asked.encode() + b"\r\n")
                 lines = [caller.file.readline()]
+                # a line waits for one such answer at most, which takes what the processor takes
+                median = max(MEDIAN_BESIDE_DEAR, 1.5 * (time.monotonic() - began))
                 while lines[-1] not in (END_OF_BLOCK, b""):
                     lines.append(caller.file.readline())
             assert lines[0].startswith(b"215 ") and len(lines) == GROUPS + 2, lines[:2]
@@ -146,7 +149,7 @@ def dear_lines_starve_nobody(volume):
                 floods = [stack.enter_context(Flood(caller, asked.encode() + b"\r\n", reply, None)) for caller in callers]
                 for flood in floods:
                     wait_until_it_gets_more(flood, None)
-                dates = measured(lambda: measure_dates(other, MEDIAN_BESIDE_DEAR))
+                dates = measured(lambda: measure_dates(other, median))
                 assert not any(flood.has_failed() for flood in floods)
             print("  beside %d callers of %.30s..: %s" % (DEAR, asked, dates), flush=True)
 

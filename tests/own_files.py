@@ -179,7 +179,8 @@ def a_renewal_beside_the_volume_itself(volume):
 
 
 def a_new_volume_leaves_nothing_half(volume):
-    """`format --new` can be run again after a kill, and one of two at a time makes the volume."""
+    """`format --new` can be run again after a kill. Of two at a time one makes the volume, or each takes the other's part for a foreign one:
+    then both are refused, nothing is there, and the same command makes it."""
     path = volume.path + ".new"
     words = [volume.program, "format", path, "--new", *SIZES]
     for at in range(KILLS):
@@ -192,7 +193,10 @@ def a_new_volume_leaves_nothing_half(volume):
         volume.run("dump", path).check_returncode()
         os.remove(path)
     two = [subprocess.Popen(words, stdout=subprocess.DEVNULL, stderr=subprocess.DEVNULL) for _ in range(2)]
-    assert sorted(it.wait() for it in two) == [0, 1]
+    ended = sorted(it.wait() for it in two)
+    assert ended in ([0, 1], [1, 1]) and os.path.exists(path) == (ended[0] == 0) and not os.path.exists(path + ".part"), ended
+    if ended[0]:
+        volume.run(*words[1:]).check_returncode()
     volume.run("dump", path).check_returncode()
 
 

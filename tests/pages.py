@@ -441,6 +441,14 @@ VERSION = re.compile(r'^pub const VERSION: &str = "(.*)";$', re.MULTILINE)
 RELEASE = re.compile(r"^## \[(.*?)\](?: - (\d{4}-\d\d-\d\d))?$", re.MULTILINE)
 
 
+def each_file_of_tests_is_run():
+    """Each file that the table of tests/README.md names stands in tests/run."""
+    played = re.findall(r'"(\w+)"', read("tests/run"))
+    for name in re.findall(r"^\| `tests/(\w+)\.py`", read("tests/README.md"), re.M):
+        if name not in played:
+            yield "tests/run: it doesn't play tests/%s.py, which tests/README.md names" % name
+
+
 def the_changelog_has_the_version():
     """Between releases the version ends in -dev, and the first heading is [Unreleased]."""
     version, (heading, date) = VERSION.findall(read("crates/program_command_table/src/syntax.rt"))[0], RELEASE.findall(read("CHANGELOG.md"))[0]
@@ -453,7 +461,7 @@ CHECKS = [each_link_leads_somewhere, each_named_file_is_there, no_line_is_too_lo
           theorem_lists_what_has_to_be_believed, promises_go_by_the_layers, contracts_are_of_their_crates, each_named_crate_is_there,
           each_crate_of_a_comment_is_there, each_named_edit_is_there, what_threads_share_has_headings,
           each_name_of_code_is_there, counts_are_those_of_the_tests,
-          the_changelog_has_the_version]
+          each_file_of_tests_is_run, the_changelog_has_the_version]
 # a check, a page, a text that stands there once, and something false in its place
 FALSE = [
     (each_link_leads_somewhere, "README.md", "](docs/GLOSSARY.md)", "](docs/GLOSSARIES.md)"),
@@ -486,6 +494,7 @@ FALSE = [
     (counts_are_those_of_the_tests, "docs/PROMISES.md", " sound ones", "0 sound ones"),
     (counts_are_those_of_the_tests, "docs/newsd.1", "in per cent of ", "in per cent of 1"),
     (counts_are_those_of_the_tests, "README.md", " system tests", "0 system tests"),
+    (each_file_of_tests_is_run, "tests/run", '"own_files", ', ""),
     (the_changelog_has_the_version, "CHANGELOG.md", "\n## [", "\n## [1"),
 ]
 

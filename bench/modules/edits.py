@@ -5,7 +5,8 @@ contract, the edited body and copies of its proof files. So nothing that is ther
 the function itself, in place, and have a run each.
 
 An edit is a file `FUNCTION.WHAT_IT_DOES.edit` with a line `file: src/lib.rt` and then pairs of lines `old: TEXT` and `new: TEXT`. Each
-old text stands exactly once in the file as the pairs before it left it."""
+old text stands exactly once in the file as the pairs before it left it. A line `goal: NAME` may name the goal that it breaks, as a check
+prints it. At that goal the prover searches once, as `search rules`, and not by all that it has."""
 import os
 import re
 
@@ -15,6 +16,12 @@ BLOCK = re.compile(r"(?:unsafe )?(?:impl|(?:pub(?:\([a-z]+\))? )?trait)\b")
 CLAUSE = re.compile(r" *(?:requires|ensures|ghost|decreases)\b")
 # what makes a function one that no copy can stand for: a name that others know it by, or a proof that it shares
 BOUND = re.compile(r"no_mangle|cycle\(")
+# the line of an edit that counts as refused also where only its proof names what it takes away
+ALLOWED = "\nproof: names what this takes away\n"
+# An answer that the prover refuses. Where it stands, no other run of the prover prints the answers that are missing, which nobody reads
+REFUSED = "no-offer"
+REFUSED_ANSWER = "%s : Type 0\n%s = tt\n" % (REFUSED, REFUSED)
+LOOP = re.compile(r"^(?:(?!//).)*\b(?:for|while|loop)\b", re.M)
 # what an `impl` converts, of which a check makes a part of the name of `from`, as in `FailureFromIoError::from`
 CONVERSION = re.compile(r"impl(?:<.*?>)? From<([\w:]+)")
 
@@ -114,21 +121,25 @@ class Edit:
         self.name, self.where = file[: -len(".edit")], os.path.join("crates", crate.name, folder, file)
         with open(self.path, encoding="utf-8") as it:
             self.text = it.read()
-        self.file, self.pairs = self.read()
+        self.file, self.pairs, self.goal = self.read()
         if self.file not in crate.texts:
             raise Bad("%s names %s, which the crate doesn't have" % (self.where, self.file))
+        if self.goal and ALLOWED in self.text:
+            raise Bad("%s names a goal, and only its proof names what it takes away" % self.where)
         self.lines = self.lines_of(crate.texts[self.file])
         found = {crate.function_at(self.file, line) for line in self.lines}
         self.changed = None if None in found else found
 
     def read(self):
-        """Its file, and the pairs of old and new texts."""
-        file, old, pairs = None, None, []
+        """Its file, the pairs of old and new texts, and the goal that it names, if it names one."""
+        file, old, pairs, goal = None, None, [], None
         for line in self.text.split("\n"):
             word, _, rest = line.partition(":")
             rest = rest[1:] if rest.startswith(" ") else rest
             if word == "file":
                 file = rest.strip()
+            elif word == "goal":
+                goal = rest.strip()
             elif word == "old":
                 old = rest
             elif word == "new" and old is not None:
@@ -136,7 +147,7 @@ class Edit:
                 old = None
         if not file or not pairs or old is not None:
             raise Bad("%s isn't a file with pairs of `old:` and `new:`" % self.where)
-        return file, pairs
+        return file, pairs, goal
 
     def lines_of(self, text):
         """The lines of its file that it changes, by their number, and what it makes of them."""
@@ -153,13 +164,29 @@ class Edit:
 
 
 class Copied:
-    """A copy of a function under a name of its own, with the body that an edit gives it; with no edit the function's own body."""
+    """A copy of a function under a name of its own, with the body that an edit gives it; with no edit the function's own body. At these
+    goals of it the prover searches once."""
 
-    def __init__(self, function, name, edit=None):
+    def __init__(self, function, name, edit=None, goals=()):
         self.function, self.name, self.edit, self.owner, self.path = function, name, edit, function.owner, function.path
+        self.goals = goals
 
     def ending(self):
         return Function.ending(self)
+
+    def place(self, texts):
+        """Its file among these texts, and the numbers of its first and last line there."""
+        lines, is_first = texts[self.path].split("\n"), re.compile(r"\bfn %s\b" % self.name)
+        first = next(at for at, line in enumerate(lines, 1) if is_first.search(line))
+        return self.path, first, first + self.function.last - self.function.first
+
+    def answers(self, text, goals):
+        """Its file of answers, made of its function's. `goals` is the module of its goals."""
+        named = [it for it in self.goals if not re.search(r"^(?:pub )?%s :" % re.escape(it), text, re.M)]
+        # a `use` line stands above all else
+        uses = ["use Rattle.std.proofs.Common as judge\n", "use %s as judge-goals\n" % goals] if named else []
+        added = ["pub %s : judge-goals.%s\n%s c = search judge.rules\n" % (it, it, it) for it in named]
+        return "\n".join(["".join(uses) + text, *added, *[REFUSED_ANSWER] * bool(self.edit)]).lstrip("\n")
 
     def lines(self, text):
         """Its lines, made of those of the function's file."""
@@ -227,15 +254,17 @@ class Crate:
 
     def copies(self, edits):
         """A copy for each of these edits, and by each a control: a copy of its function as it stands, which has to be proved. Where a
-        function has no proof files, which its copy might lack, another's control may stand for it."""
+        function has no proof files, which its copy might lack, another's control may stand for it. A control has the answers at the goals
+        that the edits of its function name, too. So none is refused for having one search there."""
         text = "\n".join(self.texts.values())
         stem = next(it for it in ("edit%s" % ("x" * more) for more in range(99)) if "_" + it not in text)
-        made = [Copied(min(it.changed, key=Function.ending), "", it) for it in edits]
+        made = [Copied(min(it.changed, key=Function.ending), "", it, [it.goal] if it.goal else []) for it in edits]
         for number, it in enumerate(made):
             it.name = "%s_%s%d" % (it.function.name, stem, number)
-        controlled = {it.function for it in made if self.proofs_of(it.function)}
+        controlled = {it.function for it in made if it.goals or self.proofs_of(it.function)}
         shared = min((it.function for it in made), key=lambda it: (it not in controlled, len(it.code)))
-        controls = {it: Copied(it, "%s_%s" % (it.name, stem)) for it in {shared, *controlled}}
+        goals = {it: sorted({goal for one in made if one.function is it for goal in one.goals}) for it in {shared, *controlled}}
+        controls = {it: Copied(it, "%s_%s" % (it.name, stem), None, goals[it]) for it in goals}
         return {it: controls.get(it.function, controls[shared]) for it in made}
 
     def leaf(self, changed):
@@ -262,9 +291,29 @@ class Crate:
             made[it.path][after:after] = it.lines(self.texts[it.path])
         found = {path: "\n".join(lines) for path, lines in made.items()}
         for it in copies:
-            for folder in self.proofs_of(it.function):
-                to = os.path.join(os.path.dirname(folder), it.name)
-                old, new = ("Rattle.%s.%s" % (self.name, at.replace("/", ".")) for at in (folder, to))
-                for path in [one for one in self.texts if os.path.dirname(one) == folder]:
-                    found[os.path.join(to, os.path.basename(path))] = re.sub(re.escape(old) + r"(?![\w'-])", new, self.texts[path])
+            found.update(self.proofs_of_copy(it))
         return found
+
+    def place_of_proofs(self, function):
+        """Where a function's proof files stand, or would stand. None where that isn't sure."""
+        found, modules = self.proofs_of(function), {module_of(function.path)}
+        if function.owner:
+            declared = re.compile(r"^(?:pub(?:\([a-z]+\))? )?(?:struct|enum) %s\b" % function.owner, re.M)
+            modules = {module_of(path) for path, text in self.texts.items() if path.endswith(".rt") and declared.search(text)}
+        words = ["proofs", *"::".join(modules).split("::"), function.owner, function.name]
+        return found[0] if found else "/".join(filter(None, words)) if len(modules) == 1 else None
+
+    def proofs_of_copy(self, copied):
+        """The proof files of a copy, by their paths: its function's, and the answers that the judge adds."""
+        folder = self.place_of_proofs(copied.function)
+        if not folder:
+            return {}
+        to = os.path.join(os.path.dirname(folder), copied.name)
+        old, new = ("Rattle.%s.%s" % (self.name, at.replace("/", ".")) for at in (folder, to))
+        texts = {os.path.basename(it): text for it, text in self.texts.items() if os.path.dirname(it) == folder}
+        made = {it: re.sub(re.escape(old) + r"(?![\w'-])", new, text) for it, text in texts.items()}
+        # a proof by hand takes no answers, and beside a loop without any file they might ask for one of invariants
+        may_add = "Proof.antt" not in made if made else not LOOP.search("\n".join(copied.lines(self.texts[copied.path])))
+        if may_add and (copied.edit or copied.goals):
+            made["Answers.antt"] = copied.answers(made.get("Answers.antt", ""), new + ".Goals")
+        return {os.path.join(to, it): text for it, text in made.items()}

@@ -18,8 +18,10 @@ LINE = re.compile(r"^([^\t\n]+)\t(\d+)\t(\w+)\t(\w+)$", re.M)
 MOST_LEFT, LONGEST = 600, 3
 # how many of the others a gate tries, and how many of these at most are lines of the last tree
 SAMPLE, LATEST = 40, 20
-# what decides whether an edit is refused, beside the prover
-JUDGE = ("edits.py", "judging.py", "trials.py", "prover.py")
+# What the judge means by "refused", as a number. Raise it by one whenever a change of edits.py, judging.py, trials.py or prover.py may
+# change the verdict on any edit, and where in doubt: then each edit is tried again. A change that makes the judge faster, or says the same
+# in other words, leaves it
+MEANING = 1
 LOGIC = re.compile(r"\blogic \w+")
 OF_A_FUNCTION = re.compile(r"proofs/.*/")
 
@@ -33,10 +35,8 @@ class Sums:
 
     def __init__(self, graph, crates):
         self.graph, self.crates = graph, crates
-        judge = [os.path.join(prover.toolchain().KIT, "KIT-ID")]
-        judge += [os.path.join(os.path.dirname(os.path.abspath(__file__)), it) for it in JUDGE]
-        logic, *judge = [open_text(it) for it in judge]
-        self.judge = sum_of(LOGIC.findall(logic), judge)
+        logic = LOGIC.findall(open_text(os.path.join(prover.toolchain().KIT, "KIT-ID")))
+        self.judge = sum_of(logic, MEANING)
         self.of_library, self.beside = functools.lru_cache(None)(self.of_library), functools.lru_cache(None)(self.beside)
 
     def own(self, edit):

@@ -4,10 +4,9 @@ import re
 import tempfile
 
 import prover
+from edits import ALLOWED, Copied
 from judging import GONE, NOT_TRIED, PROVED, Judgement
 
-# the line of an edit that counts as refused also where only its proof names what it takes away
-ALLOWED = "\nproof: names what this takes away\n"
 # the prover's words where the edit makes a loop of which nothing shows that it ends
 ENDLESS = re.compile(r"no proof: expected a measure")
 
@@ -54,8 +53,9 @@ class Trials:
             ran = prover.check(library, room, ["--incremental", kept, *(word for it in words for word in ("--only", it))])
         self.runs, self.seconds = self.runs + 1, self.seconds + ran.seconds
         judgement = Judgement(ran.status, ran.said)
+        places = {it: it.place(texts) for it in asked if isinstance(it, Copied)}
         for edit, those in changed.items():
-            why = judgement.why_not(those, asked - {*controls[edit]}, controls[edit])
+            why = judgement.why_not(those, asked - {*controls[edit]}, controls[edit], places)
             # an error that stops the whole run doesn't say of which edit it is
             is_endless = ENDLESS.search(why) and (len(changed) == 1 or not why.startswith(NOT_TRIED))
             self.outcomes[edit] = "" if is_endless or why.startswith(GONE) and ALLOWED in edit.text else why

@@ -31,6 +31,19 @@ pub fn take_after(file: &File, other: &Metadata) -> io::Result<()> {
     file.set_permissions(other.permissions())
 }
 
+/// Gives a file that was made at `part` the name `path`, which no file has, and takes the one away under which it was made. Where the file
+/// system has no second names, it is renamed. Refused where something has come to `path`. A refusal leaves what stands there, and nothing
+/// at `part`.
+pub fn give_name<R: Files<File = File>>(rt: &R, part: &str, path: &str) -> io::Result<()> {
+    let named = match rt.hard_link(part, path) {
+        Err(error) if error.kind() != ErrorKind::AlreadyExists => fs::rename(rt, part, path),
+        linked => linked,
+    };
+    // a renamed one isn't there any more
+    let _ = fs::remove_file(rt, part);
+    named
+}
+
 /// Whether two paths name one file, by its device and its inode, however they name it: by a symbolic link, by a second name, or by
 /// another way through the folders. A path at which the system doesn't look names no other's.
 pub fn are_one<R: Files<File = File>>(rt: &R, a: &str, b: &str) -> bool {

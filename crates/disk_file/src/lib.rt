@@ -12,7 +12,7 @@ ghost use Rattle.disk.specs.Device.{one_more};
 ghost use Rattle.disk_file.specs.FileDisk.{CountsNone, caused, first_cause};
 
 use crate::standing::{Seen, Stamp};
-pub use anew::{are_one, make_anew, take_after};
+pub use anew::{are_one, give_name, make_anew, take_after};
 pub use counts::{CountedDisk, Counts, Explains};
 use disk::{Disk, DiskError};
 use disk_causes::Cause;

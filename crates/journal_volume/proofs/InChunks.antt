@@ -1,311 +1,127 @@
--- Blocks in chunks.
-use Rattle.std.proofs.Common.{◌≡◌, ◌≢◌, inl, inr, ◌<◌, ◌≤◌, ℕ, ◌+◌, ◌-◌, ◌*◌, ◌/◌, ◌%◌, Bool, true, false, ltb, List, [], ◌∷◌, ◌++◌}
-use Rattle.std.proofs.Common.{length, get_or, set, take, replicate, refl, sym, ◌∙◌, ap, subst, arith, length-set, Vec, Global}
-use Rattle.std.specs.List.{All}
-use Rattle.std.proofs.lemmas.List.{ext_get_or, get_or-set_same, get_or-set_other, get_or-map, get_or-replicate, get_or_past, length-map}
-use Rattle.std.proofs.lemmas.List.{length-replicate, map-set, set-get_or, take-replicate, drop-replicate, take_all, append-nil}
-use Rattle.std.proofs.lemmas.List.{nil_from_length}
-use Rattle.std.proofs.lemmas.List.FromFn.{get_or-map-range_with_len, length-map-range_with_len}
-use Rattle.std.proofs.lemmas.List.Elements.{All-from_get_or}
-use Rattle.std.proofs.lemmas.Bool.{cases_eq, cases_lt, ltb-true}
-use Rattle.disk.specs.Image.{overwritten}
-use Rattle.model.specs.Volume.{block}
-use Rattle.fs_blocks.proofs.Octets.{length-block, block-put, block-put_other, length-put}
-use Rattle.journal_volume.specs.Chunks.{AreChunks, HasOctets, block_in, block_at, octets_of, view_of, zero_block}
+-- Blocks whose octets stand in slots.
+use Rattle.std.proofs.Common.{◌≡◌, inl, inr, ◌<◌, ◌≤◌, ℕ, refl, List, [], ◌∷◌, ◌++◌, length, get_or, set, replicate}
+use Rattle.std.proofs.Common.{sym, ◌∙◌, ap, subst, arith, length-set}
+use Rattle.std.specs.List.{All, Contains}
+use Rattle.std.proofs.lemmas.List.{get_or-replicate, get_or_push, get_or-set_other, length-replicate, length_push, set-get_or}
+use Rattle.std.proofs.lemmas.List.Elements.{All-from_get_or, All-set}
+use Rattle.std.proofs.lemmas.Bool.{cases_lt}
+use Rattle.model.specs.Volume.{laid_over}
+use Rattle.model.proofs.Blocks.{length-laid_over}
+use Rattle.fs_blocks.proofs.Distinct.{below_push, distinct_push, few_members}
+use Rattle.journal_volume.specs.Numbers.{Numbers, IsNumbers}
+use Rattle.journal_volume.specs.Pieces.{PiecesView, IsMade, zero_block}
+use Rattle.journal_volume.specs.Chunks.{AreChunks, view_of}
+use Rattle.journal_volume.proofs.InPieces.{length-zero_block}
+use Rattle.journal_volume.proofs.PutBack.{not_at}
+use Rattle.journal_volume.proofs.SlotsLaid.{laid_at, laid_other, laid_push, laid_set, laid_whole}
 
--- ---- blocks of a chunk
+pub length-view : (made : Numbers) (slots : PiecesView) → length (view_of made slots).blocks ≡ made.bound
+length-view made slots =
+    length-laid_over (replicate made.bound zero_block) made.members slots.blocks ∙ length-replicate made.bound zero_block
 
-pub length-zero_block : length zero_block ≡ 4096
-unfolding zero_block
-length-zero_block = length-replicate {A = ℕ} 4096 0
-
-pub zeros_are : replicate 4096 0 ≡ zero_block
-unfolding zero_block
-zeros_are = refl
-
-pub in_none : (chunk : List ℕ) (k : ℕ) → length chunk ≡ 0 → block_in chunk k ≡ zero_block
-in_none [] k none = refl
-in_none (octet ∷ octets) k none = absurd (omega arith)
-
-pub in_some : (chunk : List ℕ) (k : ℕ) → 0 < length chunk → block_in chunk k ≡ block k chunk
-in_some [] k some = absurd (omega arith)
-in_some (octet ∷ octets) k some = refl
-
-pub length-block_in : (chunk : List ℕ) (k : ℕ) → k < 256 → (0 < length chunk → length chunk ≡ 1048576)
-    → length (block_in chunk k) ≡ 4096
-length-block_in chunk k below whole = elim (cases_eq (length chunk) 0) [
-  | inl none ↦ ap length (in_none chunk k none) ∙ length-zero_block
-  | inr other ↦
-      let some : 0 < length chunk = omega arith in
-      let size = whole some in
-      ap length (in_some chunk k some) ∙ length-block k chunk (omega arith)
-]
-
-block_of_zeros : (n k : ℕ) → 4096 * k + 4096 ≤ n → block k (replicate n 0) ≡ zero_block
-unfolding zero_block
-block_of_zeros n k fits =
-    ap (λ (l : List ℕ). take 4096 l) (drop-replicate (4096 * k) n 0) ∙ take-replicate 4096 (n - 4096 * k) 0 (omega arith)
-
--- a chunk that is filled up with zeros
-module _ (n : ℕ) (chunk filled : List ℕ) (whole : 0 < length chunk → length chunk ≡ n)
-    (is : filled ≡ take n chunk ++ replicate (n - length chunk) 0) where
-  filled_none : length chunk ≡ 0 → filled ≡ replicate n 0
-  filled_none none =
-      let rest : n - length chunk ≡ n = omega arith in
-      is ∙ ap (λ (m : ℕ). take n chunk ++ replicate m 0) rest ∙ ap (λ (l : List ℕ). take n l ++ replicate n 0) (nil_from_length chunk none)
-      ∙ ap (λ (l : List ℕ). l ++ replicate n 0) (take_all n [] (omega arith))
-
-  filled_some : 0 < length chunk → filled ≡ chunk
-  filled_some some =
-      let size : length chunk ≤ n = omega (arith, whole some) in
-      let rest : n - length chunk ≡ 0 = omega (arith, whole some) in
-      is ∙ ap (λ (l : List ℕ). l ++ replicate (n - length chunk) 0) (take_all n chunk size)
-      ∙ ap (λ (k : ℕ). chunk ++ replicate k 0) rest ∙ append-nil chunk
-
-  pub length-filled : length filled ≡ n
-  length-filled = elim (cases_eq (length chunk) 0) [
-    | inl none ↦ ap length (filled_none none) ∙ length-replicate n 0
-    | inr other ↦ let some : 0 < length chunk = omega arith in ap length (filled_some some) ∙ whole some
-  ]
-
-  pub in_filled : (k : ℕ) → 4096 * k + 4096 ≤ n → block_in filled k ≡ block_in chunk k
-  in_filled k fits = elim (cases_eq (length chunk) 0) [
-    | inl none ↦
-        in_some filled k (omega (arith, length-filled)) ∙ ap (λ (l : List ℕ). block k l) (filled_none none) ∙ block_of_zeros n k fits
-        ∙ sym (in_none chunk k none)
-    | inr other ↦ let some : 0 < length chunk = omega arith in ap (λ (l : List ℕ). block_in l k) (filled_some some)
-  ]
-
--- ---- blocks of chunks
-
-pub length-view : (count : ℕ) (chunks : List (List ℕ)) → length (view_of count chunks).blocks ≡ count
-length-view count chunks = length-map-range_with_len (λ n. block_at chunks n) 0 count
-
-pub get_or-view : (count n : ℕ) (chunks : List (List ℕ)) → n < count → get_or (view_of count chunks).blocks n [] ≡ block_at chunks n
-get_or-view count n chunks below = get_or-map-range_with_len (λ n. block_at chunks n) 0 count n n [] below (omega arith)
-
--- chunks without octets
-nothing_at : (many i : ℕ) → get_or (replicate {A = List ℕ} many []) i [] ≡ []
-nothing_at many i = elim (cases_lt i many) [
-  | inl inside ↦ get_or-replicate many i [] [] inside
-  | inr past ↦ get_or_past (replicate many []) i [] (omega (arith, length-replicate {A = List ℕ} many []))
-]
-
-pub none_are : (count many : ℕ) → count ≤ 256 * many → AreChunks count (replicate many [])
-none_are count many enough = record {
-  enough = omega (arith, length-replicate {A = List ℕ} many []);
-  whole = λ i some. absurd (omega (arith, ap length (nothing_at many i)));
+-- no block has octets
+pub none_are : (made : Numbers) (slots : PiecesView) (count : ℕ) → IsNumbers made → made.bound ≡ count → made.members ≡ []
+    → slots.blocks ≡ replicate count zero_block → AreChunks made slots
+none_are made slots count numbers bound none zeros = record {
+  numbers = numbers;
+  size = ap length zeros ∙ length-replicate count zero_block ∙ sym bound;
+  whole = subst (λ (l : List (List ℕ)). All (λ b. length b ≡ 4096) l) (sym zeros)
+      (All-from_get_or (λ b. length b ≡ 4096) (replicate count zero_block) [] (λ i low.
+      ap length (get_or-replicate count i zero_block [] (omega (arith, length-replicate count zero_block))) ∙ length-zero_block));
+  room = λ i low. absurd (omega (arith, ap length none));
+  zeros = λ i past low. ap (λ (l : List (List ℕ)). get_or l i []) zeros ∙ get_or-replicate count i zero_block [] (omega (arith, bound));
 }
 
-pub zeros_in : (count many : ℕ) → (view_of count (replicate many [])).blocks ≡ replicate count zero_block
-zeros_in count many =
-    ext_get_or [] (view_of count (replicate many [])).blocks (replicate count zero_block)
-    (length-view count (replicate many []) ∙ sym (length-replicate count zero_block)) (λ n low.
-    let below : n < count = omega (arith, length-view count (replicate many [])) in
-    get_or-view count n (replicate many []) below ∙ ap (λ (c : List ℕ). block_in c (n % 256)) (nothing_at many (n / 256))
-    ∙ sym (get_or-replicate count n zero_block [] below))
+module _ (made : Numbers) (slots : PiecesView) (are : AreChunks made slots) where
+  all_below : All (λ n. n < length (replicate made.bound zero_block)) made.members
+  all_below k d low = omega (arith, are.numbers.below k d low, length-replicate made.bound zero_block)
 
-module _ (count : ℕ) (chunks : List (List ℕ)) (are : AreChunks count chunks) where
-  pub chunk_there : (n : ℕ) → n < count → n / 256 < length chunks
-  chunk_there n below = omega (arith, are.enough)
+  pub members_few : length made.members ≤ made.bound
+  members_few = few_members made.bound made.members are.numbers.below are.numbers.distinct
 
-  pub length-at : (n : ℕ) → n < count → length (block_at chunks n) ≡ 4096
-  length-at n below = length-block_in (get_or chunks (n / 256) []) (n % 256) (omega arith) (are.whole (n / 256))
+  pub view_whole : All (λ octets. length octets ≡ 4096) (view_of made slots).blocks
+  view_whole =
+      laid_whole 4096 (replicate made.bound zero_block) made.members slots.blocks
+      (All-from_get_or (λ b. length b ≡ 4096) (replicate made.bound zero_block) [] (λ i low.
+      ap length (get_or-replicate made.bound i zero_block [] (omega (arith, length-replicate made.bound zero_block)))
+      ∙ length-zero_block)) are.whole
 
-  pub view_whole : All (λ octets. length octets ≡ 4096) (view_of count chunks).blocks
-  view_whole = All-from_get_or (λ octets. length octets ≡ 4096) (view_of count chunks).blocks [] (λ n low.
-      let below : n < count = omega (arith, length-view count chunks) in
-      ap length (get_or-view count n chunks below) ∙ length-at n below)
+  pub slot_there : (i : ℕ) → i < length made.members → i < length slots.blocks
+  slot_there i low = omega (arith, members_few, are.size)
 
-  made_is : (i : ℕ) → i < length chunks
-      → get_or (view_of count chunks).made i false ≡ ltb 0 (length (get_or chunks i []))
-  made_is i there = get_or-map (λ chunk. ltb 0 (length chunk)) chunks i [] false there
+  -- a block that has octets
+  pub in_slot : (n i : ℕ) → i < length made.members → get_or made.members i 0 ≡ n
+      → get_or (view_of made slots).blocks n [] ≡ get_or slots.blocks i []
+  in_slot n i low is =
+      ap (λ (m : ℕ). get_or (view_of made slots).blocks m []) (sym is)
+      ∙ laid_at (replicate made.bound zero_block) made.members slots.blocks i are.numbers.distinct all_below low (slot_there i low)
 
-  pub has_octets : (n : ℕ) → n < count → HasOctets (view_of count chunks).made n → 0 < length (get_or chunks (n / 256) [])
-  has_octets n below made =
-      ltb-true 0 (length (get_or chunks (n / 256) [])) (sym (made_is (n / 256) (chunk_there n below)) ∙ made)
+  -- one that has none
+  pub in_none : (n : ℕ) → n < made.bound → ¬ (Contains made.members n) → get_or (view_of made slots).blocks n [] ≡ zero_block
+  in_none n there other =
+      laid_other (replicate made.bound zero_block) made.members slots.blocks n (not_at made.members n other)
+      ∙ get_or-replicate made.bound n zero_block [] there
 
-  -- another chunk in place of one
-  module _ (i : ℕ) (chunk : List ℕ) (there : i < length chunks) where
-    pub at_same : (n : ℕ) → n / 256 ≡ i → block_at (set chunks i chunk) n ≡ block_in chunk (n % 256)
-    at_same n is =
-        ap (λ (c : List ℕ). block_in c (n % 256))
-        (ap (λ (j : ℕ). get_or (set chunks i chunk) j []) is ∙ get_or-set_same chunks i chunk [] there)
+  -- a slot more, for a block that has none
+  module _ (n : ℕ) (there : n < made.bound) (other : ¬ (Contains made.members n)) where
+    pub next_there : length made.members < made.bound
+    next_there =
+        omega (
+          arith,
+          few_members made.bound (made.members ++ n ∷ []) (below_push made.bound n made.members are.numbers.below there)
+              (distinct_push made.members n are.numbers.distinct other),
+          length_push made.members n,
+        )
 
-    pub at_other : (n : ℕ) → n / 256 ≢ i → block_at (set chunks i chunk) n ≡ block_at chunks n
-    at_other n other = ap (λ (c : List ℕ). block_in c (n % 256)) (get_or-set_other chunks i (n / 256) chunk [] other)
+    module _ (now : Numbers) (slots_now : PiecesView) (added : now ≡ record { bound = made.bound; members = made.members ++ n ∷ [] })
+        (same : slots_now.blocks ≡ slots.blocks) where
+      pub given_blocks : (view_of now slots_now).blocks ≡ (view_of made slots).blocks
+      given_blocks =
+          ap (λ (m : Numbers). (view_of m slots_now).blocks) added
+          ∙ ap (λ (l : List (List ℕ)). laid_over (replicate made.bound zero_block) (made.members ++ n ∷ []) l) same
+          ∙ laid_push (replicate made.bound zero_block) made.members slots.blocks n (omega (arith, next_there, are.size))
+          ∙ ap (λ (b : List ℕ). set (view_of made slots).blocks n b)
+          (are.zeros (length made.members) (omega arith) next_there ∙ sym (in_none n there other))
+          ∙ set-get_or (view_of made slots).blocks n []
 
-    pub set_are : length chunk ≡ 1048576 → AreChunks count (set chunks i chunk)
-    set_are size = record {
-      enough = omega (arith, are.enough, length-set chunks i chunk);
-      whole = λ j. elim (cases_eq j i) [
-        | inl is ↦ λ some. ap (λ (k : ℕ). length (get_or (set chunks i chunk) k [])) is
-            ∙ ap length (get_or-set_same chunks i chunk [] there) ∙ size
-        | inr other ↦ subst (λ (l : List ℕ). 0 < length l → length l ≡ 1048576) (sym (get_or-set_other chunks i j chunk [] other))
-            (are.whole j)
-      ];
-    }
+      pub given_has : Contains now.members n
+      given_has = subst (λ (m : Numbers). Contains m.members n) (sym added)
+          (length made.members, omega (arith, length_push made.members n), get_or_push made.members n n (length made.members) refl)
 
-    -- the same blocks
-    pub set_blocks : ((k : ℕ) → k < 256 → block_in chunk k ≡ block_in (get_or chunks i []) k)
-        → (view_of count (set chunks i chunk)).blocks ≡ (view_of count chunks).blocks
-    set_blocks same =
-        ext_get_or [] (view_of count (set chunks i chunk)).blocks (view_of count chunks).blocks
-        (length-view count (set chunks i chunk) ∙ sym (length-view count chunks)) (λ n low.
-        let below : n < count = omega (arith, length-view count (set chunks i chunk)) in
-        get_or-view count n (set chunks i chunk) below ∙ at n ∙ sym (get_or-view count n chunks below))
-      where
-        at : (n : ℕ) → block_at (set chunks i chunk) n ≡ block_at chunks n
-        at n = elim (cases_eq (n / 256) i) [
-          | inl is ↦
-              at_same n is ∙ same (n % 256) (omega arith) ∙ ap (λ (j : ℕ). block_in (get_or chunks j []) (n % 256)) (sym is)
-          | inr other ↦ at_other n other
-        ]
+      pub given_are : IsNumbers now → IsMade slots_now.made (length made.members)
+          → ((i : ℕ) → IsMade slots.made i → IsMade slots_now.made i) → AreChunks now slots_now
+      given_are numbers room kept =
+          let bound : now.bound ≡ made.bound = ap (λ (m : Numbers). m.bound) added in
+          let size : length now.members ≡ length (made.members ++ n ∷ []) = ap (λ (m : Numbers). length m.members) added in
+          record {
+            numbers = numbers;
+            size = ap length same ∙ are.size ∙ sym bound;
+            whole = subst (λ (l : List (List ℕ)). All (λ b. length b ≡ 4096) l) (sym same) are.whole;
+            room = λ i low. elim (cases_lt i (length made.members)) [
+              | inl earlier ↦ kept i (are.room i earlier)
+              | inr past ↦
+                  let last : length made.members ≡ i = omega (arith, size, length_push made.members n) in
+                  subst (λ (j : ℕ). IsMade slots_now.made j) last room
+            ];
+            zeros = λ i past low. ap (λ (l : List (List ℕ)). get_or l i []) same
+                ∙ are.zeros i (omega (arith, size, length_push made.members n)) (omega (arith, bound));
+          }
 
-    pub set_room : 0 < length chunk → (n : ℕ) → n / 256 ≡ i → HasOctets (view_of count (set chunks i chunk)).made n
-    set_room some n is =
-        ap (λ (j : ℕ). get_or (view_of count (set chunks i chunk)).made j false) is
-        ∙ get_or-map (λ c. ltb 0 (length c)) (set chunks i chunk) i [] false (omega (arith, length-set chunks i chunk))
-        ∙ ap (λ (c : List ℕ). ltb 0 (length c)) (get_or-set_same chunks i chunk [] there)
-        ∙ above (length chunk) some
-      where
-        above : (m : ℕ) → 0 < m → ltb 0 m ≡ true
-        above m low = grind arith
+  -- other octets in a slot
+  module _ (n i : ℕ) (low : i < length made.members) (is : get_or made.members i 0 ≡ n) (octets : List ℕ) (slots_now : PiecesView)
+      (put : slots_now ≡ record { blocks = set slots.blocks i octets; made = slots.made }) where
+    pub put_view : view_of made slots_now ≡ record { blocks = set (view_of made slots).blocks n octets; made = made.members }
+    put_view =
+        ap (λ (s : PiecesView). view_of made s) put
+        ∙ ap (λ (l : List (List ℕ)). record { blocks = l; made = made.members })
+        (laid_set (replicate made.bound zero_block) made.members slots.blocks i octets are.numbers.distinct low (slot_there i low)
+        ∙ ap (λ (m : ℕ). set (view_of made slots).blocks m octets) is)
 
-    pub set_kept : 0 < length chunk → (n : ℕ) → HasOctets (view_of count chunks).made n
-        → HasOctets (view_of count (set chunks i chunk)).made n
-    set_kept some n made = elim (cases_eq (n / 256) i) [
-      | inl is ↦ set_room some n is
-      | inr other ↦
-          ap (λ (l : List Bool). get_or l (n / 256) false) (map-set (λ c. ltb 0 (length c)) chunks i chunk)
-          ∙ get_or-set_other (view_of count chunks).made i (n / 256) (ltb 0 (length chunk)) false other ∙ made
-    ]
-
-  -- a put of a block
-  module _ (n : ℕ) (from chunk : List ℕ) (below : n < count) (whole : length from ≡ 4096)
-      (some : 0 < length (get_or chunks (n / 256) []))
-      (put : chunk ≡ overwritten (4096 * (n % 256)) from (get_or chunks (n / 256) [])) where
-    old_size : length (get_or chunks (n / 256) []) ≡ 1048576
-    old_size = are.whole (n / 256) some
-
-    fits : 4096 * (n % 256) + 4096 ≤ length (get_or chunks (n / 256) [])
-    fits = omega (arith, old_size)
-
-    pub put_size : length chunk ≡ 1048576
-    put_size = ap length put ∙ length-put (n % 256) from (get_or chunks (n / 256) []) whole fits ∙ old_size
-
-    put_here : block_at (set chunks (n / 256) chunk) n ≡ from
-    put_here =
-        at_same (n / 256) chunk (chunk_there n below) n refl
-        ∙ in_some chunk (n % 256) (omega (arith, put_size))
-        ∙ ap (λ (l : List ℕ). block (n % 256) l) put
-        ∙ block-put (n % 256) from (get_or chunks (n / 256) []) whole fits
-
-    put_elsewhere : (k : ℕ) → k ≢ n → block_at (set chunks (n / 256) chunk) k ≡ block_at chunks k
-    put_elsewhere k other = elim (cases_eq (k / 256) (n / 256)) [
-      | inl is ↦
-          let apart : k % 256 ≢ n % 256 = λ e. other (omega arith) in
-          at_same (n / 256) chunk (chunk_there n below) k is
-          ∙ in_some chunk (k % 256) (omega (arith, put_size))
-          ∙ ap (λ (l : List ℕ). block (k % 256) l) put
-          ∙ block-put_other (n % 256) from (get_or chunks (n / 256) []) whole fits (k % 256) apart
-          ∙ sym (in_some (get_or chunks (n / 256) []) (k % 256) some)
-          ∙ ap (λ (j : ℕ). block_in (get_or chunks j []) (k % 256)) (sym is)
-      | inr apart ↦ at_other (n / 256) chunk (chunk_there n below) k apart
-    ]
-
-    put_blocks : (view_of count (set chunks (n / 256) chunk)).blocks ≡ set (view_of count chunks).blocks n from
-    put_blocks =
-        ext_get_or [] (view_of count (set chunks (n / 256) chunk)).blocks (set (view_of count chunks).blocks n from)
-        (length-view count (set chunks (n / 256) chunk) ∙ sym (length-set (view_of count chunks).blocks n from ∙ length-view count chunks))
-        (λ k low.
-        let inside : k < count = omega (arith, length-view count (set chunks (n / 256) chunk)) in
-        get_or-view count k (set chunks (n / 256) chunk) inside ∙ elim (cases_eq k n) [
-          | inl is ↦
-              ap (λ (j : ℕ). block_at (set chunks (n / 256) chunk) j) is ∙ put_here
-              ∙ sym (ap (λ (j : ℕ). get_or (set (view_of count chunks).blocks n from) j []) is
-              ∙ get_or-set_same (view_of count chunks).blocks n from [] (omega (arith, length-view count chunks)))
-          | inr other ↦
-              put_elsewhere k other
-              ∙ sym (get_or-set_other (view_of count chunks).blocks n k from [] other ∙ get_or-view count k chunks inside)
-        ])
-
-    put_made : (view_of count (set chunks (n / 256) chunk)).made ≡ (view_of count chunks).made
-    put_made =
-        map-set (λ c. ltb 0 (length c)) chunks (n / 256) chunk
-        ∙ ap (λ (b : Bool). set (view_of count chunks).made (n / 256) b)
-        (ap (λ (m : ℕ). ltb 0 m) (put_size ∙ sym old_size) ∙ sym (made_is (n / 256) (chunk_there n below)))
-        ∙ set-get_or (view_of count chunks).made (n / 256) false
-
-    pub put_is : view_of count (set chunks (n / 256) chunk)
-        ≡ record { blocks = set (view_of count chunks).blocks n from; made = (view_of count chunks).made }
-    put_is =
-        ap (λ (b : List (List ℕ)). record { blocks = b; made = (view_of count (set chunks (n / 256) chunk)).made }) put_blocks
-        ∙ ap (λ (m : List Bool). record { blocks = set (view_of count chunks).blocks n from; made = m }) put_made
-
--- ---- the vector of chunks, with a new chunk in place of the one that `chunks[n / 256]` reads
-
-module _ (count : ℕ) (items : List (Vec ℕ Global)) (are : AreChunks count (octets_of items)) (n : ℕ) (below : n < count) where
-  pub index_there : n / 256 < length items
-  index_there = omega (arith, chunk_there count (octets_of items) are n below, length-map items (λ chunk. chunk.items))
-
-  module _ (old : Vec ℕ Global) (read : old ≡ get_or items (n / 256) old) where
-    pub was : old.items ≡ get_or (octets_of items) (n / 256) []
-    was = ap (λ (v : Vec ℕ Global). v.items) read ∙ sym (get_or-map (λ (v : Vec ℕ Global). v.items) items (n / 256) old [] index_there)
-
-    module _ (new : Vec ℕ Global) where
-      set_is : octets_of (set items (n / 256) new) ≡ set (octets_of items) (n / 256) new.items
-      set_is = map-set (λ (v : Vec ℕ Global). v.items) items (n / 256) new
-
-      there : n / 256 < length (octets_of items)
-      there = chunk_there count (octets_of items) are n below
-
-      -- the same octets
-      pub kept_is : new.items ≡ old.items → octets_of (set items (n / 256) new) ≡ octets_of items
-      kept_is same =
-          set_is ∙ ap (λ (l : List ℕ). set (octets_of items) (n / 256) l) (same ∙ was) ∙ set-get_or (octets_of items) (n / 256) []
-
-      -- filled up with zeros
-      module _ (filled_size : length new.items ≡ 1048576)
-          (same : (k : ℕ) → 4096 * k + 4096 ≤ 1048576 → block_in new.items k ≡ block_in old.items k) where
-        filled_above : 0 < length new.items
-        filled_above = omega (arith, filled_size)
-
-        pub filled_are : AreChunks count (octets_of (set items (n / 256) new))
-        filled_are = subst (λ (l : List (List ℕ)). AreChunks count l) (sym set_is)
-            (set_are count (octets_of items) are (n / 256) new.items there filled_size)
-
-        pub filled_blocks : (view_of count (octets_of (set items (n / 256) new))).blocks ≡ (view_of count (octets_of items)).blocks
-        filled_blocks =
-            ap (λ (l : List (List ℕ)). (view_of count l).blocks) set_is
-            ∙ set_blocks count (octets_of items) are (n / 256) new.items there (λ k low.
-            same k (omega arith) ∙ ap (λ (l : List ℕ). block_in l k) was)
-
-        pub filled_room : HasOctets (view_of count (octets_of (set items (n / 256) new))).made n
-        filled_room = subst (λ (l : List (List ℕ)). HasOctets (view_of count l).made n) (sym set_is)
-            (set_room count (octets_of items) are (n / 256) new.items there filled_above n refl)
-
-        pub filled_kept : (k : ℕ) → HasOctets (view_of count (octets_of items)).made k
-            → HasOctets (view_of count (octets_of (set items (n / 256) new))).made k
-        filled_kept k made = subst (λ (l : List (List ℕ)). HasOctets (view_of count l).made k) (sym set_is)
-            (set_kept count (octets_of items) are (n / 256) new.items there filled_above k made)
-
-      -- with another block
-      module _ (from : List ℕ) (whole : length from ≡ 4096) (room : HasOctets (view_of count (octets_of items)).made n)
-          (is : new.items ≡ overwritten (4096 * (n % 256)) from old.items) where
-        put_in : new.items ≡ overwritten (4096 * (n % 256)) from (get_or (octets_of items) (n / 256) [])
-        put_in = is ∙ ap (λ (l : List ℕ). overwritten (4096 * (n % 256)) from l) was
-
-        put_above : 0 < length (get_or (octets_of items) (n / 256) [])
-        put_above = has_octets count (octets_of items) are n below room
-
-        pub put_are : AreChunks count (octets_of (set items (n / 256) new))
-        put_are = subst (λ (l : List (List ℕ)). AreChunks count l) (sym set_is)
-            (set_are count (octets_of items) are (n / 256) new.items there
-            (put_size count (octets_of items) are n from new.items below whole put_above put_in))
-
-        pub put_view : view_of count (octets_of (set items (n / 256) new))
-            ≡ record { blocks = set (view_of count (octets_of items)).blocks n from; made = (view_of count (octets_of items)).made }
-        put_view =
-            ap (λ (l : List (List ℕ)). view_of count l) set_is
-            ∙ put_is count (octets_of items) are n from new.items below whole put_above put_in
+    pub put_are : length octets ≡ 4096 → AreChunks made slots_now
+    put_are size = subst (λ (s : PiecesView). AreChunks made s) (sym put) (record {
+      numbers = are.numbers;
+      size = length-set slots.blocks i octets ∙ are.size;
+      whole = All-set (λ b. length b ≡ 4096) slots.blocks i octets size are.whole;
+      room = are.room;
+      zeros = λ j past below. get_or-set_other slots.blocks i j octets [] (λ e. omega arith) ∙ are.zeros j past below;
+    })

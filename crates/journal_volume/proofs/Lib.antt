@@ -1,6 +1,7 @@
 pub mod Copied
 pub mod Exchanged
 pub mod InChunks
+pub mod InPieces
 pub mod Index
 pub mod Keeping
 pub mod Laid
@@ -8,6 +9,7 @@ pub mod Marked
 pub mod PartIndex
 pub mod PartsIn
 pub mod PutBack
+pub mod SlotsLaid
 pub mod Told
 pub mod WithPart
 pub mod Written

@@ -93,7 +93,7 @@ module _ (xs : List (List ℕ)) (ps : List ℕ) (octets : List ℕ) (n at : ℕ)
       (all_fit xs ps octets whole there size) length-written_blocks same_part
 
 module _ (blocks : ChunksView) (octets : List ℕ) (kept dirty : Numbers) (v : IsVolume blocks octets kept dirty) where
-  -- with more parts of a block kept, whose chunk has octets now
+  -- with more parts of a block kept, which has octets now
   pub kept_is : (new : ChunksView) (more : List ℕ) (now : Numbers) (n : ℕ) → new.blocks ≡ blocks.blocks
       → ((m : ℕ) → HasOctets blocks.made m → HasOctets new.made m) → HasOctets new.made n → now.bound ≡ kept.bound → IsNumbers now
       → length more ≡ 256 * length now.members

@@ -1,4 +1,5 @@
 pub mod Chunks
 pub mod Numbers
 pub mod Parts
+pub mod Pieces
 pub mod Volume

@@ -31,7 +31,7 @@ pub record BatchView : Type 0 where
 abbrev pub before : List (List ℕ) → List ℕ → List ℕ → List (List ℕ)
 before blocks numbers octets = put_back blocks numbers (parts_in (length numbers) octets)
 
--- no path back takes memory, since the chunk of each kept part has octets
+-- no path back takes memory, since the block of each kept part has octets
 pub record IsVolume (blocks : ChunksView) (octets : List ℕ) (kept dirty : Numbers) : Type 0 where
   pub count : kept.bound ≡ 16 * length blocks.blocks
   pub whole : All (λ octets. length octets ≡ 4096) blocks.blocks

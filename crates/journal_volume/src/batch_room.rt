@@ -2,11 +2,12 @@
 
 ghost use Rattle.std.specs.Prelude.{◌≡◌, ◌*◌, ◌<◌, ◌≤◌, [], length, slice_index_or, take, IfOk};
 ghost use Rattle.std.specs.List.{All, flat_map};
+ghost use Rattle.model.specs.Volume.{block};
 ghost use Rattle.journal_volume.specs.Volume.{BatchView};
 
 use crate::BATCH_BLOCKS;
 use crate::chunks::Chunks;
-use fs_blocks::{BLOCK_SIZE, put_block};
+use fs_blocks::{BLOCK_SIZE, block_of, put_block};
 use std::alloc::{AllocError, Global};
 use std::marker::Model;
 
@@ -50,6 +51,17 @@ impl BatchBuf {
         ensures { result.now ≡ self.now.images }
     {
         &self.images[..self.count * BLOCK_SIZE]
+    }
+
+    /// The octets of its block at a place. Its clauses also state what a batch keeps.
+    pub fn image(&self, place: usize) -> &[u8]
+        requires { place < length self.now.numbers }
+        ensures octets { result.now ≡ block place self.now.images }
+        ensures whole { length result.now ≡ 4096 }
+        ensures few { length self.now.numbers ≤ 512 }
+        ensures size { length self.now.images ≡ 4096 * length self.now.numbers }
+    {
+        block_of(&self.images[..self.count * BLOCK_SIZE], place)
     }
 
     // Replaces its blocks with those that have these numbers.

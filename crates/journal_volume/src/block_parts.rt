@@ -30,7 +30,7 @@ pub(crate) fn part_of(blocks: &Chunks, number: usize) -> &[u8]
     &blocks.block((number / BLOCK_PARTS) as u32)[start..start + PART_SIZE]
 }
 
-/// Exchanges the octets of a part, whose chunk has octets, for others.
+/// Exchanges the octets of a part, whose block has octets, for others.
 pub(crate) fn swap_part(blocks: &mut Chunks, number: usize, other: &mut [u8])
     requires there { number / 16 < length blocks.old.blocks }
     requires room { HasOctets blocks.old.made (number / 16) }

@@ -1,35 +1,33 @@
-//! The cached blocks, in chunks that get octets when one of their blocks is first not zeros.
+//! The cached blocks. A block of zeros gets octets when something is first put into it.
 
-ghost use Rattle.std.specs.Prelude.{◌≡◌, ℕ, ◌*◌, ◌+◌, ◌<◌, ◌≤◌, [], length, replicate, slice_index_or, slice_set, IfOk, OnErr, OnOk};
+ghost use Rattle.std.specs.Prelude.{◌≡◌, ℕ, ◌*◌, ◌+◌, ◌<◌, ◌≤◌, [], length, replicate, slice_index_or, slice_set, IfOk, OnOk};
 ghost use Rattle.std.specs.Prelude.{is_ok, if◌then◌else◌};
 ghost use Rattle.std.specs.List.{All};
 ghost use Rattle.disk.specs.Image.{overwritten};
 ghost use Rattle.model.specs.Volume.{blocks_from};
-ghost use Rattle.journal_volume.specs.Chunks.{ChunksView, AreChunks, HasOctets, block_in, octets_of, view_of, zero_block};
+ghost use Rattle.journal_volume.specs.Chunks.{ChunksView, AreChunks, HasOctets, view_of};
+ghost use Rattle.journal_volume.specs.Pieces.{zero_block};
 
-use fs_blocks::{BLOCK_SIZE, block_of, put_in_block};
+use crate::number_set::NumberSet;
+use crate::pieces::Pieces;
+use fs_blocks::{BLOCK_SIZE, block_of};
 use std::alloc::{AllocError, Global};
 use std::marker::Model;
 
-/// The number of blocks in a chunk.
-const CHUNK_BLOCKS: usize = 256;
-
-const CHUNK_SIZE: usize = CHUNK_BLOCKS * BLOCK_SIZE;
-
-/// Blocks of 4,096 octets. A chunk of 256 blocks that are zeros needs no memory.
+/// Blocks of 4,096 octets. A block of zeros takes no memory before something is put into it.
 #[derive(Drop)]
 pub struct Chunks {
-    count: u32,
-    // the last chunk may have room for more blocks than there are
-    chunks: Vec<Vec<u8>>,
+    // the blocks that have octets, in the order in which they got them: the place of one of them is its slot
+    made: NumberSet,
+    slots: Pieces,
 }
 
 impl Model for Chunks {
     ghost Value = { ChunksView };
 
-    ghost view = { λ c. view_of c.count (octets_of c.chunks.items) };
+    ghost view = { λ c. view_of c.made c.slots };
 
-    ghost invariant = { λ c. AreChunks c.count (octets_of c.chunks.items) };
+    ghost invariant = { λ c. AreChunks c.made c.slots };
 }
 
 impl Chunks {
@@ -37,8 +35,9 @@ impl Chunks {
     pub fn new(alloc: Global, count: u32) -> Result<Chunks, AllocError>
         ensures { IfOk result (λ c. c.blocks ≡ replicate count zero_block) }
     {
-        let chunks = empty_chunks(alloc, count as usize / CHUNK_BLOCKS + 1)?;
-        Ok(Chunks { count, chunks })
+        let made = NumberSet::new(alloc, count)?;
+        let slots = Pieces::new(alloc, count)?;
+        Ok(Chunks { made, slots })
     }
 
     /// Blocks with these octets.
@@ -58,7 +57,7 @@ impl Chunks {
         ensures count { result ≡ length self.now.blocks }
         ensures whole { All (λ octets. length octets ≡ 4096) self.now.blocks }
     {
-        self.count
+        self.slots.len()
     }
 
     /// The octets of a block.
@@ -67,12 +66,13 @@ impl Chunks {
         ensures octets { result.now ≡ slice_index_or self.now.blocks number [] }
         ensures whole { length result.now ≡ 4096 }
     {
-        let chunk = self.chunks[number as usize / CHUNK_BLOCKS].as_slice();
-        block_of_chunk(chunk, number as usize % CHUNK_BLOCKS)
+        match self.made.place(number) {
+            Some(slot) => self.slots.block(slot),
+            None => &[0; BLOCK_SIZE],
+        }
     }
 
-    /// Replaces the octets of a block. Its chunk gets octets only if this changes the block. If memory is refused,
-    /// nothing changes.
+    /// Replaces the octets of a block. It gets octets only if this changes it. If memory is refused, nothing changes.
     pub fn replace(&mut self, number: u32, from: &[u8]) -> Result<(), AllocError>
         requires there { number < length self.old.blocks }
         requires whole { length from.now ≡ 4096 }
@@ -86,18 +86,22 @@ impl Chunks {
         Ok(())
     }
 
-    // Gives octets to the chunk of a block, so that a put of the block takes no memory.
+    // Gives octets to a block, so that a put takes no memory. If memory is refused, no block changes.
     pub(crate) fn make_room(&mut self, number: u32) -> Result<(), AllocError>
         requires { number < length self.old.blocks }
         ensures blocks { self.new.blocks ≡ self.old.blocks }
         ensures room { OnOk result (HasOctets self.new.made number) }
         ensures kept { (n : ℕ) → HasOctets self.old.made n → HasOctets self.new.made n }
     {
-        fill_up(&mut self.chunks[number as usize / CHUNK_BLOCKS], CHUNK_SIZE)?;
+        if let Some(_slot) = self.made.place(number) {
+            return Ok(());
+        }
+        self.slots.make_room(self.made.as_slice().len())?;
+        self.made.insert(number);
         Ok(())
     }
 
-    // Replaces octets of a block whose chunk has octets, from a place in the block on.
+    // Replaces octets of a block that has octets, from a place in the block on.
     pub(crate) fn put_at(&mut self, number: u32, at: usize, part: &[u8])
         requires there { number < length self.old.blocks }
         requires room { HasOctets self.old.made number }
@@ -106,42 +110,8 @@ impl Chunks {
           blocks = slice_set self.old.blocks number (overwritten at part.now (slice_index_or self.old.blocks number []));
         } }
     {
-        let chunk = self.chunks[number as usize / CHUNK_BLOCKS].as_mut_slice();
-        put_in_block(chunk, number as usize % CHUNK_BLOCKS, at, part);
+        if let Some(slot) = self.made.place(number) {
+            self.slots.put_at(slot, at, part);
+        }
     }
-}
-
-// So many chunks without octets.
-fn empty_chunks(alloc: Global, many: usize) -> Result<Vec<Vec<u8>>, AllocError>
-    ensures { IfOk result (λ chunks. octets_of chunks.items ≡ replicate many []) }
-{
-    let mut chunks = Vec::with_capacity(alloc, many)?;
-    for _i in 0..many {
-        chunks.push(Vec::new(alloc))?;
-    }
-    Ok(chunks)
-}
-
-// Gives a chunk without octets so many zeros, and leaves one that has octets. If memory is refused, nothing changes.
-fn fill_up(chunk: &mut Vec<u8>, size: usize) -> Result<(), AllocError>
-    requires { 0 < length chunk.old.items → length chunk.old.items ≡ size }
-    ensures size { OnOk result (length chunk.new.items ≡ size) }
-    ensures blocks { (k : ℕ) → 4096 * k + 4096 ≤ size → block_in chunk.new.items k ≡ block_in chunk.old.items k }
-    ensures refused { OnErr result (chunk.new.items ≡ chunk.old.items) }
-{
-    chunk.resize(size, 0)?;
-    Ok(())
-}
-
-// The octets of a block of a chunk.
-fn block_of_chunk(chunk: &[u8], number: usize) -> &[u8]
-    requires below { number < 256 }
-    requires whole { 0 < length chunk.now → length chunk.now ≡ 1048576 }
-    ensures octets { result.now ≡ block_in chunk.now number }
-    ensures whole { length result.now ≡ 4096 }
-{
-    if chunk.is_empty() {
-        return &[0; BLOCK_SIZE];
-    }
-    block_of(chunk, number)
 }

@@ -5,6 +5,7 @@ mod batch_room;
 mod block_parts;
 mod chunks;
 mod number_set;
+mod pieces;
 mod volume;
 
 pub use batch_room::BatchBuf;

@@ -1,6 +1,6 @@
 //! Blocks that changes are written into at once, and what their parts had before.
 
-ghost use Rattle.std.specs.Prelude.{◌≡◌, ◌⊎◌, ◌↔◌, ℕ, ◌+◌, ◌*◌, ◌/◌, ◌<◌, ◌≤◌, List, [], ◌∷◌, ◌++◌, length, slice_index_or, IfOk};
+ghost use Rattle.std.specs.Prelude.{◌≡◌, ◌⊎◌, ◌↔◌, ℕ, ◌+◌, ◌*◌, ◌/◌, ◌<◌, ◌≤◌, List, [], ◌∷◌, ◌++◌, length, slice_index_or, IfOk, IsTrue};
 ghost use Rattle.std.specs.Prelude.{is_ok, if◌then◌else◌, OnOk};
 ghost use Rattle.std.specs.List.{All, Contains, flat_map};
 ghost use Rattle.model.specs.Volume.{AreDistinct, blocks_from, laid_over};
@@ -109,6 +109,14 @@ impl Volume {
         ensures { result ≡ length self.now.dirty }
     {
         self.dirty.as_slice().len()
+    }
+
+    /// Whether a block is dirty.
+    pub fn is_dirty(&self, number: u32) -> bool
+        requires { number < length self.now.seen }
+        ensures { IsTrue result ↔ Contains self.now.dirty number }
+    {
+        self.dirty.place(number).is_some()
     }
 
     /// Copies the dirty blocks out of the cache; there may be at most 512 of them. Afterwards none is dirty.

@@ -1,5 +1,6 @@
 pub mod KernelLaws
 pub mod TakingLaws
+pub mod CleanLaws
 pub mod ExecLaws
 pub mod AdminLaws
 pub mod Reading

@@ -119,6 +119,16 @@ answered kernel m t mark seat = answered_by kernel.host kernel.spool m t mark se
 abbrev pub is_dirty : KernelView → ℕ → Bool
 is_dirty kernel k = list_any (λ (n : ℕ). n == k) kernel.dirty
 
+-- whether there is a block of this number, and it didn't change since then
+abbrev pub is_clean : KernelView → ℕ → Bool
+is_clean kernel k = nat_lt k (length kernel.blocks) && not (is_dirty kernel k)
+
+-- such a block, with its octets
+pub record IsClean (kernel : KernelView) (k : ℕ) (octets : Octets) : Type 0 where
+  pub clean : is_clean kernel k ≡ true
+  pub octets_are : octets ≡ slice_index_or kernel.blocks k []
+  pub whole : length octets ≡ 4096
+
 -- the dirty blocks are those that were dirty, and those that differ now; one change dirties at most 254 and those of the bitmap
 pub record Dirties (old new : KernelView) : Type 0 where
   pub size : length new.blocks ≡ length old.blocks

@@ -9,7 +9,8 @@ ghost use Rattle.std.specs.Prelude.{IfOk, IfSome, OnErr, length, true, false, is
 ghost use Rattle.kernel.specs.Errors.{of_join, of_exec, of_admin, of_expire};
 ghost use Rattle.kernel.specs.Kept.{IsKept};
 ghost use Rattle.kernel.specs.Kernel.{Administers, Execs, FitsMode, Takes, Tested, TestedOrMemory, admin_refusal_of, early_refusal};
-ghost use Rattle.kernel.specs.Kernel.{exec_refusal, expire_refusal_of, has_batch, halted_for_good, is_block, join_refusal, joined, left};
+ghost use Rattle.kernel.specs.Kernel.{IsClean, exec_refusal, expire_refusal_of, has_batch, halted_for_good, is_block, is_clean};
+ghost use Rattle.kernel.specs.Kernel.{join_refusal, joined, left};
 ghost use Rattle.kernel.specs.Kernel.{made_durable, mode_at, most_dirty, only_tested, released, released_of, seat_of};
 ghost use Rattle.kernel_seats.specs.Seats.{holds, ready, ready_of, Seat as SeatView};
 ghost use Rattle.model.specs.Files.{free_inodes};
@@ -33,8 +34,8 @@ use kernel_seats::{Seat, position, release, release_of};
 use kernel_shared::{AdminError, ExecError, ExpireError, JoinError, MOST_SESSIONS, Stale, Ticket};
 pub use label::{Label, read_label};
 use model::{Mark, Message, Mode, Moment};
-use session::Received;
 use session_lookups::LookUps;
+use session_received::Received;
 use spool::AddError;
 pub use spool::Spool;
 use std::alloc::Global;
@@ -166,7 +167,7 @@ impl Kernel {
     /// Answers a message at once: its reply is held with its dependency, and its change is accepted at the given moment.
     /// The result is what the session sends next, which is `None` if it sends nothing more, and the mark of the message.
     /// Refused as `NoSession` (E10), `LaterOut` (E9), `LaterDirty` (E8, only while the kernel is not halted) or `Memory`
-    /// (E2), tested in that order; a refusal changes nothing. This reads the text of the message and then makes the call
+    /// (E2), tested in that order; a refusal changes nothing. This reads the message and then makes the call
     /// of `exec_received`.
     pub fn exec(
         &mut self,
@@ -183,7 +184,7 @@ impl Kernel {
         self.exec_received(alloc, sid, received, moment)
     }
 
-    /// Answers a message as `exec` does. Its text was read before, and is not read again. If an allocation was refused
+    /// Answers a message as `exec` does. It was read before, and is not read again. If an allocation was refused
     /// as it was read, the call is refused as `Memory` (E2) where no other refusal is due, unless the kernel is halted.
     pub fn exec_received(
         &mut self,
@@ -313,6 +314,14 @@ impl Kernel {
         self.spool.copy_dirty(into);
         self.in_flight = Some(last);
         Some(Ticket::new(last))
+    }
+
+    /// The octets of a block that no change has written since the last batch was taken. `None` if one has, or if there is no such block.
+    pub fn clean_block(&self, number: u32) -> Option<&[u8]>
+        ensures clean { IfSome result (λ octets. IsClean self.now number octets.now) }
+        ensures when { IsSome result ↔ IsTrue (is_clean self.now number) }
+    {
+        self.spool.clean_block(number)
     }
 
     /// Notes that the batch in flight is on disk: its changes are durable. `Stale` (E13) exactly if the ticket is not

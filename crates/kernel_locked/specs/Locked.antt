@@ -1,8 +1,10 @@
 -- What a call does to the kernel under the lock, and to the caller's buffer.
-use Rattle.std.specs.Prelude.{◌≡◌, ℕ, ◌+◌, Bool, Some, None, List, ◌++◌, if◌then◌else◌, length}
+use Rattle.std.specs.Prelude.{◌≡◌, ℕ, ◌+◌, ◌-◌, Bool, Some, None, List, [], ◌++◌, if◌then◌else◌, filter, length, slice_index_or, take}
+use Rattle.std.specs.List.{flat_map}
+use Rattle.copy_portions.specs.Copying.{PortionView}
 use Rattle.kernel_shared.specs.declared.kern.ExecOutcome.{ExecOutcome}
 use Rattle.kernel_shared.specs.declared.kern.KernelCounts.{KernelCounts}
-use Rattle.kernel.specs.Kernel.{Execs, KernelView, released_of, seat_of}
+use Rattle.kernel.specs.Kernel.{Execs, KernelView, is_clean, released_of, seat_of}
 use Rattle.model.specs.Files.{free_inodes}
 use Rattle.model.specs.Lawful.{IsLawful}
 use Rattle.model.specs.Spool.{Spool}
@@ -27,6 +29,15 @@ pub record Answers (old new : KernelView) (number : ℕ) (m : Message) (t : ℕ)
   pub executed : Execs old served number m t (record { next = answered.next; mark = answered.mark; has_accepted = has_accepted })
   pub accepted : answered.accepted ≡ if has_accepted then Some (length served.spool) else None
   pub given : Gives served new number before after answered.is_held
+
+-- of the blocks with these numbers those that are clean, as many as a portion has room for after its own
+abbrev pub copied : KernelView → List ℕ → PortionView → List ℕ
+copied kernel asked portion = take (1024 - length portion.numbers) (filter (λ n. is_clean kernel n) asked)
+
+-- they were put into the portion
+pub record Copies (kernel : KernelView) (asked : List ℕ) (old new : PortionView) : Type 0 where
+  pub numbers : new.numbers ≡ old.numbers ++ copied kernel asked old
+  pub images : new.images ≡ old.images ++ flat_map (λ n. slice_index_or kernel.blocks n []) (copied kernel asked old)
 
 -- what a kernel holds
 pub record IsCounted (kernel : KernelView) (counts : KernelCounts) : Type 0 where

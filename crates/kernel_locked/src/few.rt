@@ -2,10 +2,9 @@
 
 ghost use Rattle.std.specs.Prelude.{◌≡◌};
 
-use model::{Command, Message, Moment, Parsed};
-use session_grammar::read;
+use model::{Command, Moment};
 use session_lookups::{LookUps, is_since};
-use std::alloc::Global;
+use session_received::Received;
 use text_dates::read_since;
 
 /// The lines of so many articles fit one release, with the first line and the last one: a message-id has at most 250 octets.
@@ -14,13 +13,9 @@ const FEW: u64 = 256;
 /// So many changes are looked at, at most, since the kernel's lock is held meanwhile.
 const LOOKED: u64 = 4_096;
 
-/// The moment since which a line asks for new articles, if it does. `None` as well where the line is wrong, or memory is refused.
-pub(crate) fn asked_since(alloc: Global, message: &Message, moment: Moment) -> Option<i64> {
-    let Message::Line(line) = message else {
-        return None;
-    };
-    let Ok(Parsed::Command(Command::NewNews { date, time, .. })) = read(alloc, line.as_slice())
-    else {
+/// The moment since which a line asks for new articles, if it does. `None` as well where the calendar lacks its date or its time.
+pub(crate) fn asked_since(received: &Received<'_>, moment: Moment) -> Option<i64> {
+    let Some(Command::NewNews { date, time, .. }) = received.command() else {
         return None;
     };
     read_since(date.as_slice(), time.as_slice(), moment).ok()

@@ -9,11 +9,12 @@ ghost use Rattle.kernel.specs.Kernel.{halted_for_good, left, mode_at};
 ghost use Rattle.kernel_expiring.specs.Ages.{IsAgedGroup};
 ghost use Rattle.model.specs.declared.change.Change.TheVariants.{Expire, Group};
 ghost use Rattle.text_names.specs.Requests.{group_of};
-ghost use Rattle.kernel_locked.specs.Locked.{Answers, Gives, IsCounted, IsFoundAt};
+ghost use Rattle.kernel_locked.specs.Locked.{Answers, Copies, Gives, IsCounted, IsFoundAt};
 
 use crate::few::{are_few, asked_since};
 use crate::obstacles::obstacle_in;
 use crate::turns::Turns;
+use copy_portions::Portion;
 use journal_volume::BatchBuf;
 use kernel::{Kernel, Outcome};
 use kernel_expiring::{AgedGroup, GonePart, aged_group, gone_part};
@@ -22,9 +23,9 @@ use kernel_shared::{
     AdminError, Admitted, ExecError, ExecOutcome, ExpireError, Expired, JoinError, Kern,
     KernelCounts, Obstacle, Receipt, Stale, Ticket,
 };
-use model::{Message, Mode, Moment, Text};
-use session::Received;
+use model::{Command, Message, Mode, Moment, Text};
 use session_lookups::LookUps;
+use session_received::Received;
 use std::alloc::Global;
 use std::sync::{Mutex, Wait};
 use text_framing::{BLOCK_LIMIT, LINE_LIMIT};
@@ -68,30 +69,13 @@ impl Locked {
     }
 }
 
-/// The commands whose answers grow with the groups or the spool, and are made whole.
-const LONG: [&[u8]; 3] = [b"LIST", b"NEWGROUPS", b"NEWNEWS"];
-
-/// Whether a line begins with a keyword, in either case.
-fn has_keyword(line: &[u8], keyword: &[u8]) -> bool {
-    if line.len() < keyword.len() {
-        return false;
-    }
-    let (word, rest) = line.split_at(keyword.len());
-    let ends = match rest.first() {
-        Some(octet) => *octet == b' ' || *octet == b'\t',
-        None => true,
-    };
-    ends && word.eq_ignore_ascii_case(keyword)
-}
-
-/// Whether the answer to a message may be long and is made whole. What this says decides only who waits for whom.
-fn may_be_long(message: &Message) -> bool {
-    match message {
-        Message::Line(line) => LONG
-            .iter()
-            .any(|keyword| has_keyword(line.as_slice(), keyword)),
-        Message::Block(_) | Message::TooLong => false,
-    }
+/// Whether the answer to a message may be long and is made whole: it grows with the groups or the spool. What this says decides only who
+/// waits for whom.
+fn may_be_long(received: &Received<'_>) -> bool {
+    matches!(
+        received.command(),
+        Some(Command::List(..) | Command::NewGroups { .. } | Command::NewNews { .. })
+    )
 }
 
 /// Whether a message is one that a session in this mode may send.
@@ -201,6 +185,20 @@ fn aged_in(kernel: &Kernel, place: usize, wildmat: &Wildmat, since: u64) -> Aged
     aged_group(kernel.spool(), place, wildmat, since)
 }
 
+/// Puts those of these blocks into a portion that are clean, in this order, as far as there is room.
+fn copy_clean_in(kernel: &Kernel, numbers: &[u32], into: &mut Portion)
+    ensures { Copies kernel.now numbers.now into.old into.new }
+{
+    for number in numbers {
+        if into.is_full() {
+            return;
+        }
+        if let Some(octets) = kernel.clean_block(*number) {
+            into.push(*number, octets);
+        }
+    }
+}
+
 /// Drops a session and its held outputs; does nothing if it does not exist.
 fn leave_in(kernel: &mut Kernel, sid: u64)
     ensures { kernel.new ≡ left kernel.old sid }
@@ -246,25 +244,23 @@ impl Kern for Locked {
         self.kernel.lock(rt).mode(sid)
     }
 
-    /// The text of a block is read before a lock is taken. A message that its session cannot send is answered as if the
-    /// session did not exist. None is sent: each session's messages come from one thread, which asks for them in the
-    /// session's mode.
+    /// A message that its session cannot send is answered as if the session did not exist. None is sent: each session's messages come
+    /// from one thread, which asks for them in the session's mode.
     fn answer<R: Wait>(
         &self,
         rt: &R,
         alloc: Global,
         sid: u64,
-        message: &Message,
+        received: Received<'_>,
         moment: Moment,
         into: &mut ReadyBuf,
     ) -> Result<ExecOutcome, ExecError> {
-        let received = Received::of(alloc, message);
-        let is_long = may_be_long(message);
+        let is_long = may_be_long(&received);
         if is_long {
             self.long.begin(rt);
         }
         let answered = {
-            let _turn = match self.turn_of(message) {
+            let _turn = match self.turn_of(received.message()) {
                 Some(turn) => Some(turn.lock(rt)),
                 None => None,
             };
@@ -281,14 +277,8 @@ impl Kern for Locked {
         obstacle_in(self.kernel.lock(rt).spool(), id, groups)
     }
 
-    fn asks_for_few<R: Wait>(
-        &self,
-        rt: &R,
-        alloc: Global,
-        message: &Message,
-        moment: Moment,
-    ) -> bool {
-        match asked_since(alloc, message, moment) {
+    fn asks_for_few<R: Wait>(&self, rt: &R, received: &Received<'_>, moment: Moment) -> bool {
+        match asked_since(received, moment) {
             Some(from) => are_few(self.kernel.lock(rt).spool(), from),
             None => false,
         }
@@ -331,6 +321,10 @@ impl Kern for Locked {
 
     fn take_batch<R: Wait>(&self, rt: &R, into: &mut BatchBuf) -> Option<Ticket> {
         self.kernel.lock(rt).take_batch(into)
+    }
+
+    fn copy_clean<R: Wait>(&self, rt: &R, numbers: &[u32], into: &mut Portion) {
+        copy_clean_in(&self.kernel.lock(rt), numbers, into);
     }
 
     fn committed<R: Wait>(&self, rt: &R, ticket: Ticket, _: Receipt) -> Result<(), Stale> {

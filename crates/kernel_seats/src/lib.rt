@@ -21,8 +21,9 @@ ghost use Rattle.model.specs.Answer.{answer};
 
 use kernel_outbox::{Outgoing, Queue, ReadyBuf, Source};
 use model::{Awaits, Mark, Mode, Moment, Session};
-use session::{Received, Served, serve};
+use session::{Served, serve};
 use session_lookups::ChangeSpool;
+use session_received::Received;
 use session_replies::{Answered, push_greeting, stopped};
 use std::alloc::{AllocError, Global};
 use std::marker::Model;
@@ -107,7 +108,7 @@ impl Seat {
 
     /// Serves a message at the given moment over a spool that takes changes, and holds its reply. Answers what the
     /// session sends next, and the mark of the message. Refused only for want of memory, also if an allocation was
-    /// refused as the text of the message was read; then neither session nor spool changes.
+    /// refused as the message was read; then neither session nor spool changes.
     pub fn serve<S: ChangeSpool>(
         &mut self,
         alloc: Global,

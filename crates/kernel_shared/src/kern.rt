@@ -5,10 +5,12 @@ ghost use Rattle.std.specs.Prelude.{◌≡◌, ◌<◌, IfOk, length};
 use crate::{
     AdminError, Admitted, ExecError, ExpireError, Expired, JoinError, Receipt, Stale, Ticket,
 };
+use copy_portions::Portion;
 use journal_volume::BatchBuf;
 use kernel_expiring::{AgedGroup, GonePart};
 use kernel_outbox::ReadyBuf;
-use model::{Mark, Message, Mode, Moment, Text};
+use model::{Mark, Mode, Moment, Text};
+use session_received::Received;
 use std::alloc::Global;
 use std::sync::Wait;
 use text_names::{GroupName, GroupRequest, Wildmat};
@@ -76,15 +78,14 @@ pub trait Kern {
     /// What a session sends next; `None` if no session has this number, or it was closed (`Kernel::mode`).
     fn mode<R: Wait>(&self, rt: &R, sid: u64) -> Option<Mode>;
 
-    /// Answers a message (`Kernel::exec`). Its text is read before the lock is taken. If it was served, what is ready of
-    /// its session is put after the content of the buffer, under the same lock. If it was not served, the buffer stays as
-    /// it was.
+    /// Answers a message (`Kernel::exec_received`). If it was served, what is ready of its session is put after the content of the buffer,
+    /// under the same lock. If it was not served, the buffer stays as it was.
     fn answer<R: Wait>(
         &self,
         rt: &R,
         alloc: Global,
         sid: u64,
-        message: &Message,
+        received: Received<'_>,
         moment: Moment,
         into: &mut ReadyBuf,
     ) -> Result<ExecOutcome, ExecError>
@@ -95,13 +96,7 @@ pub trait Kern {
 
     /// Whether the answer to a line that asks for new articles at this moment surely fits one release, if it is answered now.
     /// Nothing changes.
-    fn asks_for_few<R: Wait>(
-        &self,
-        rt: &R,
-        alloc: Global,
-        message: &Message,
-        moment: Moment,
-    ) -> bool;
+    fn asks_for_few<R: Wait>(&self, rt: &R, received: &Received<'_>, moment: Moment) -> bool;
 
     /// Puts what is ready of a session after the content of the buffer. Answers whether the session still holds
     /// outputs.
@@ -143,6 +138,10 @@ pub trait Kern {
     /// Copies the dirty blocks into the buffer as the batch in flight. `None` if there is nothing to take
     /// (`Kernel::take_batch`).
     fn take_batch<R: Wait>(&self, rt: &R, into: &mut BatchBuf) -> Option<Ticket>;
+
+    /// Puts those of these blocks into a portion that no change has written since the last batch was taken, in this order, as far as
+    /// there is room (`Kernel::clean_block`).
+    fn copy_clean<R: Wait>(&self, rt: &R, numbers: &[u32], into: &mut Portion);
 
     /// Notes that the batch in flight is on disk, of which its journal gave a receipt. `Stale` (E13) if the ticket is not
     /// that of the batch in flight or the kernel is halted (`Kernel::committed`).

@@ -12,7 +12,9 @@ use crate::opening_refusals::refusal_of;
 use disk::{Disk, DiskError};
 use disk_cache::WCache;
 use disk_causes::Cause;
-use disk_file::{CountedDisk, Counts, Explains, FileDisk, FileError, holder, sync_directory};
+use disk_file::{
+    CountedDisk, Counts, Explains, FileDisk, FileError, give_name, holder, sync_directory,
+};
 use disk_overlay::Overlay;
 use journal_gates::write_gates_back;
 use kernel::{Opened, Refused};
@@ -173,18 +175,6 @@ fn format_part<R: Files<File = File>>(
             Err(error.because(refused.disk.cause()))
         }
     }
-}
-
-/// Gives a new volume its name, which no file has, and takes the one away under which it was made. Where the file system has no second
-/// names, it is renamed. A refusal leaves neither.
-fn give_name<R: Files<File = File>>(rt: &R, part: &str, path: &str) -> io::Result<()> {
-    let named = match rt.hard_link(part, path) {
-        Err(error) if error.kind() != ErrorKind::AlreadyExists => fs::rename(rt, part, path),
-        linked => linked,
-    };
-    // a renamed one isn't there any more
-    let _ = fs::remove_file(rt, part);
-    named
 }
 
 /// Puts a new volume in place of an empty file. Refused, and the new one removed, if another command has that file or has written to it

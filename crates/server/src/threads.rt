@@ -5,13 +5,15 @@ ghost use Rattle.journal.specs.Journal.{IsIdle};
 
 use crate::staff::{Recruiter, Staff, Started, Wanted};
 use crate::{ServeError, Server};
-use crossbeam_channel::{Receiver, Sender, bounded};
+use crossbeam_channel::{Receiver, Sender, bounded, unbounded};
 use disk::Disk;
 use journal_volume::BatchBuf;
 use kernel_shared::{Asking, Bells, Closing, Hooks, Kern, halt};
 use server_accepting::{Acceptor, Caller, Doors, FAREWELLS, Parting, Way, linger_all};
 use server_attending::{Attending, Verdicts, Watching, file_left};
+use server_backup::{BackupPlan, FileWork};
 use server_consoles::Operator;
+use server_copying::{Copies, CopyJob};
 use server_flusher::{FlushError, Flusher, FlusherEnd, flush_all};
 use server_logging::{Cause, Log, LogEvent, Moments};
 use server_mark::{Mark, Seat};
@@ -100,7 +102,8 @@ pub fn serve<
         channels,
         caller,
     } = Parts::make(rt, alloc, sessions, lines, answers)?;
-    attend(rt, alloc, control, &channels.operator)?;
+    let plan = BackupPlan::of(alloc, &journal)?;
+    attend(rt, alloc, control, &channels, plan)?;
     let moments = Moments::new(newest);
     let longest = LongestTime::new();
     let shared = Shared {
@@ -142,7 +145,7 @@ pub fn serve<
         }),
         None => None,
     };
-    let watch = Watch::new(file, monitor, log);
+    let watch = Watch::new(file, monitor, log, &channels.works);
     let started = Mutex::new(Started::none());
     let recruiting = Mutex::new(());
     let hall = Hall {
@@ -181,6 +184,12 @@ pub(crate) struct Channels {
     pub(crate) parting: Sender<Parting>,
     partings: Receiver<Parting>,
     operator: Operator,
+    /// Where copies of the volume's blocks are asked for, and where they are made.
+    copy: Sender<CopyJob>,
+    copies: Copies,
+    /// What the watcher is asked to do about the files of backups.
+    file_work: Sender<FileWork>,
+    works: Receiver<FileWork>,
     /// How many sessions are to have threads, and whether they have.
     pub(crate) wanted: Sender<Wanted>,
     pub(crate) asked: Receiver<Wanted>,
@@ -196,6 +205,8 @@ impl Channels {
         operator: Operator,
     ) -> Result<Channels, AllocError> {
         let (parting, partings) = bounded(alloc, FAREWELLS)?;
+        let (copy, to_copy) = unbounded(alloc)?;
+        let (file_work, works) = unbounded(alloc)?;
         let (wanted, asked) = bounded(alloc, 1)?;
         let (staffed, told) = bounded(alloc, 1)?;
         Ok(Channels {
@@ -203,6 +214,10 @@ impl Channels {
             parting,
             partings,
             operator,
+            copy,
+            copies: Copies::new(to_copy),
+            file_work,
+            works,
             wanted,
             asked,
             staffed,
@@ -282,13 +297,15 @@ fn attend<R: Threads + Wait + Clock + Copy + Send + 'static>(
     rt: &R,
     alloc: Global,
     control: Option<&UnixListener>,
-    operator: &Operator,
+    channels: &Channels,
+    plan: BackupPlan,
 ) -> Result<(), ServeError> {
     let Some(listener) = control else {
         return Ok(());
     };
-    let console = operator.console()?;
-    match server_control::start(rt, alloc, listener, console) {
+    let console = channels.operator.console()?;
+    let files = channels.file_work.clone()?;
+    match server_control::start(rt, alloc, listener, console, plan, files) {
         Ok(()) => Ok(()),
         Err(_) => Err(ServeError::Memory),
     }
@@ -465,6 +482,7 @@ fn answer_lines<R: Wait + Clock, K: Kern, H>(hall: &Hall<'_, R, K, H>, looker: L
         facts,
         writers: *writers,
         asking: *asking,
+        copies: &hall.channels.copy,
     };
     hall.channels.operator.answer_all(&service, seat)
 }
@@ -483,9 +501,11 @@ fn flush<R: Wait + Clock, D: Disk + Drop, K: Kern, H: Hooks>(
     } = hall.shared;
     let watching = Watching::new(hall.shared, hall.log, flusher.tally, facts);
     watching.look();
-    let attending = Attending::new(hall.shared, &watching, hall.verdicts, flusher.tally);
+    let copies = &hall.channels.copies;
+    let attending = Attending::new(hall.shared, &watching, hall.verdicts, flusher.tally, copies);
     let tally = flusher.tally;
     let end = flush_all(*rt, flusher, *kern, &attending, *bells);
+    copies.end(*rt);
     // a batch may be durable, and fail before it was looked at
     hall.log.note_durable(*rt, kern.counts(*rt).durable);
     match end {

@@ -8,8 +8,8 @@ use crate::caller_reading::{Incoming, Socket};
 use crate::counts::Counted;
 use crate::leaving::{Awaited, end_of};
 use crossbeam_channel::{Receiver, Sender};
-use kernel_shared::{Bells, ExecError, ExecOutcome, Hooks, Kern};
-use model::{Message, Mode, Moment};
+use kernel_shared::{Asked, Bells, ExecError, ExecOutcome, Hooks, Kern};
+use model::{Command, Message, Mode, Moment};
 use server_accepting::{Caller, Doors, Parting, identify, part, see_off};
 use server_attending::Verdicts;
 use server_logging::{
@@ -18,6 +18,7 @@ use server_logging::{
 use server_pace::Pace;
 use server_releasing::{Cut, Delivery, Hand, ReplyWriter, Shared, Unanswered};
 use server_roster::Guest;
+use session_received::Received;
 use std::alloc::{AllocError, Global};
 use std::net::{IpAddr, SocketAddr, TcpStream};
 use std::sync::{Arc, Wait};
@@ -275,18 +276,26 @@ impl<'a, 'b, R: Wait + Clock, K: Kern, H: Hooks> SessionThread<'a, 'b, R, K, H> 
     }
 
     /// Has a message answered, and tries again after each refusal that asks for that. Otherwise answers why the session ends.
-    pub(crate) fn have_answered(&mut self, message: &Message) -> Result<ExecOutcome, Ending> {
-        let Shared { rt, bells, .. } = self.shared;
+    /// The message is read for each try.
+    pub(crate) fn have_answered(&mut self, message: &Message) -> Result<Answered, Ending> {
+        let Shared {
+            rt,
+            alloc,
+            bells,
+            ..
+        } = self.shared;
         for _ in rt.forever() {
             let noted = bells.later.count();
             let moment = self.moments.now(*rt, self.log);
+            let received = Received::of(*alloc, message);
+            let asked = asked_by(&received);
             let answered = self
                 .writer
-                .answer(self.shared, &mut self.hand, message, moment);
+                .answer(self.shared, &mut self.hand, received, moment);
             match answered {
-                Ok(answered) => {
-                    note(bells, message, answered.next);
-                    return Ok(answered);
+                Ok(outcome) => {
+                    note(bells, message, outcome.next);
+                    return Ok(Answered { outcome, asked });
                 }
                 Err(Unanswered::NoPlace) => self.await_place()?,
                 Err(Unanswered::Refused(error)) => {
@@ -337,6 +346,21 @@ impl<'a, 'b, R: Wait + Clock, K: Kern, H: Hooks> SessionThread<'a, 'b, R, K, H> 
             self.writer.wait_for_release(*rt, &mut self.hand);
         }
         Ok(())
+    }
+}
+
+/// What came of a message, and the command that it was, if an article follows it.
+#[derive(Clone, Copy)]
+pub(crate) struct Answered {
+    pub(crate) outcome: ExecOutcome,
+    pub(crate) asked: Asked,
+}
+
+/// The command of a line after which an article is awaited.
+fn asked_by(received: &Received<'_>) -> Asked {
+    match received.command() {
+        Some(Command::Ihave(_)) => Asked::Ihave,
+        _ => Asked::Post,
     }
 }
 

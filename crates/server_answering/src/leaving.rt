@@ -1,6 +1,6 @@
 //! How a session's thread leaves its caller's blocks to the thread that flushes.
 
-use crate::answering::{SessionThread, ending_of};
+use crate::answering::{Answered, SessionThread, ending_of};
 use crate::counts::Counted;
 use crate::http::is_http;
 use kernel_shared::{Asked, ExecOutcome, Hooks, Kern};
@@ -74,21 +74,21 @@ impl<'a, 'b, R: Wait + Clock, K: Kern, H: Hooks> SessionThread<'a, 'b, R, K, H> 
         message: Message,
         counts: &mut Counted,
     ) -> Result<Awaited, Ending> {
-        let answered = match settled.mode {
+        let Answered { outcome, asked } = match settled.mode {
             Some(Mode::Block) => self.have_judged(&message, settled)?,
             Some(Mode::Line) | None => self.have_answered(&message)?,
         };
-        counts.note(settled.mode.unwrap_or(Mode::Line), answered);
+        counts.note(settled.mode.unwrap_or(Mode::Line), outcome);
         Ok(Awaited {
             session: settled.session,
-            mode: answered.next,
-            asked: asked_by(&message),
+            mode: outcome.next,
+            asked,
             has_left: false,
         })
     }
 
     /// Has a post or a transfer answered that is awaited, and tells the log of it.
-    fn have_judged(&mut self, message: &Message, awaited: Awaited) -> Result<ExecOutcome, Ending> {
+    fn have_judged(&mut self, message: &Message, awaited: Awaited) -> Result<Answered, Ending> {
         let Awaited { session, asked, .. } = awaited;
         let offered = Offered {
             session,
@@ -97,7 +97,7 @@ impl<'a, 'b, R: Wait + Clock, K: Kern, H: Hooks> SessionThread<'a, 'b, R, K, H> 
         };
         let answered = self.have_answered(message);
         match answered {
-            Ok(answered) => self.verdicts.tell(self.shared, offered, answered),
+            Ok(answered) => self.verdicts.tell(self.shared, offered, answered.outcome),
             Err(ending) => {
                 if let Some(cause) = refusal_of(ending) {
                     self.verdicts.tell_refused(self.shared, session, cause);
@@ -137,23 +137,12 @@ impl<'a, 'b, R: Wait + Clock, K: Kern, H: Hooks> SessionThread<'a, 'b, R, K, H> 
         }
         let answered = match self.writer.take_back(self.shared.rt, &mut self.hand) {
             None => return Err(Ending::Failed),
-            Some(TakenBack::Block(block)) => self.have_judged(&block, awaited)?,
+            Some(TakenBack::Block(block)) => self.have_judged(&block, awaited)?.outcome,
             Some(TakenBack::Filed(Ok(answered))) => answered,
             Some(TakenBack::Filed(Err(error))) => return Err(ending_of(error)),
         };
         counts.note(Mode::Block, answered);
         Ok(awaited.after_block(answered))
-    }
-}
-
-/// The command of a line after which an article is awaited: such a line is `POST` or `IHAVE`.
-fn asked_by(message: &Message) -> Asked {
-    match message {
-        Message::Line(line) => match line.as_slice().trim_ascii_start().first() {
-            Some(b'I') | Some(b'i') => Asked::Ihave,
-            _ => Asked::Post,
-        },
-        Message::Block(_) | Message::TooLong => Asked::Post,
     }
 }
 

@@ -2,7 +2,9 @@
 
 use crate::pace::Pace;
 use crate::verdicts::{Offered, Verdicts};
+use journal_volume::BatchBuf;
 use kernel_shared::{ExecError, Hooks, Kern};
+use server_copying::Copies;
 use server_flusher::Filing;
 use server_logging::PostRefusal;
 use server_releasing::{FiledBlock, Shared, release_committed};
@@ -17,6 +19,7 @@ pub struct Attending<'a, R, K, H, W> {
     verdicts: Verdicts<'a>,
     tally: &'a Tally,
     pace: Pace,
+    copies: &'a Copies,
 }
 
 impl<'a, R, K, H, W> Drop for Attending<'a, R, K, H, W> {
@@ -27,6 +30,7 @@ impl<'a, R, K, H, W> Drop for Attending<'a, R, K, H, W> {
             verdicts: _,
             tally: _,
             pace: _,
+            copies: _,
         } = self;
     }
 }
@@ -38,6 +42,7 @@ impl<'a, R, K, H, W> Attending<'a, R, K, H, W> {
         hooks: &'a W,
         verdicts: Verdicts<'a>,
         tally: &'a Tally,
+        copies: &'a Copies,
     ) -> Attending<'a, R, K, H, W> {
         Attending {
             shared,
@@ -45,6 +50,7 @@ impl<'a, R, K, H, W> Attending<'a, R, K, H, W> {
             verdicts,
             tally,
             pace: Pace::new(),
+            copies,
         }
     }
 }
@@ -90,6 +96,15 @@ impl<'a, R: Wait + Clock, K: Kern, H: Hooks, W> Filing for Attending<'a, R, K, H
 
     fn note_round(&self) {
         self.pace.note_round(self.shared.rt);
+    }
+
+    fn copy_batch(&self, batch: &BatchBuf) {
+        self.copies
+            .after_batch(self.shared.rt, self.shared.kern, batch);
+    }
+
+    fn copy_on(&self) {
+        self.copies.between(self.shared.rt, self.shared.kern);
     }
 }
 

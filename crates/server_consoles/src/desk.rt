@@ -11,6 +11,7 @@ ghost use Rattle.std.specs.Prelude.{◌≡◌};
 use crate::consoles::Console;
 use crossbeam_channel::{Receiver, Sender, bounded, unbounded};
 use kernel_shared::{Hand, Kern};
+use server_copying::CopyJob;
 use server_mark::Seat;
 use server_operator::{OperatorService, Refused, Reply, answer, hand_on, write_answer};
 use server_operator_lines::{LINE_OCTETS, Next, next_line};
@@ -31,7 +32,7 @@ pub const CONSOLES: usize = 8;
 const ENDING_SECS: u64 = 1;
 
 /// A line without its LF, or why it was not kept.
-pub(crate) type Kept = Result<Vec<u8>, Refused>;
+pub type Kept = Result<Vec<u8>, Refused>;
 
 /// What the thread that makes the changes waits for.
 #[derive(Drop)]
@@ -40,6 +41,14 @@ pub(crate) enum Order {
     Asked(Kept),
     /// A line of another console, and where its answer goes.
     AskedThere(Kept, Sender<Reply>),
+    /// A copy of the volume's blocks, which another console writes.
+    Copy(CopyJob),
+    /// A portion of it is on the way back to be filled.
+    Emptied,
+    /// There is something to do for the thread that watches files.
+    Watch,
+    /// Another console has something to write, and asks for what makes the server wait with its end.
+    Writes(Sender<Reply>),
     /// The server ends.
     Ends,
 }
@@ -126,6 +135,12 @@ impl Operator {
                         &replies,
                         Reply::AnswerThere(answer, unwritten.one()),
                     );
+                }
+                Ok(Order::Copy(job)) => service.copy(job),
+                Ok(Order::Emptied) => service.bells.flusher.unpark(),
+                Ok(Order::Watch) => service.bells.watcher.unpark(),
+                Ok(Order::Writes(replies)) => {
+                    hand_on(service.rt, &replies, Reply::Unwritten(unwritten.one()));
                 }
                 Ok(Order::Ends) | Err(_) => break,
             }
@@ -263,6 +278,7 @@ impl Writing {
                     drop(answer);
                     drop(unwritten);
                 }
+                Ok(Reply::Unwritten(unwritten)) => drop(unwritten),
                 Ok(Reply::Ends) | Err(_) => return,
             }
         }

@@ -6,4 +6,4 @@ mod consoles;
 mod desk;
 
 pub use consoles::{Console, write_end};
-pub use desk::{CONSOLES, Operator};
+pub use desk::{CONSOLES, Kept, Operator};

@@ -1,9 +1,11 @@
 //! The connections to the control socket. One thread accepts them, and each has a thread. None of them is joined, as those of the operator
 //! aren't: they may wait for whoever has connected, and nobody waits for them.
 
-use server_consoles::{CONSOLES, Console, write_end};
+use crossbeam_channel::Sender;
+use server_backup::{BackupPlan, Backups, FileWork, path_of};
+use server_consoles::{CONSOLES, Console, Kept, write_end};
 use std::alloc::{AllocError, Global};
-use std::io::{self, BufReader, BufWriter, ErrorKind, Read, Write};
+use std::io::{self, BufRead, BufReader, BufWriter, ErrorKind, Read, Write};
 use std::os::unix::net::{UnixListener, UnixStream};
 use std::sync::atomic::{AtomicUsize, Ordering};
 use std::sync::{Arc, Wait};
@@ -25,11 +27,15 @@ pub fn start<R: Threads + Wait + Clock + Copy + Send + 'static>(
     alloc: Global,
     listener: &UnixListener,
     console: Console,
+    plan: BackupPlan,
+    files: Sender<FileWork>,
 ) -> io::Result<()> {
     let entry = Entry {
         alloc,
         listener: listener.try_clone()?,
         console,
+        plan: Arc::new(alloc, plan)?,
+        files,
         places: Arc::new(alloc, AtomicUsize::new(0))?,
     };
     let own = *rt;
@@ -43,6 +49,10 @@ struct Entry {
     alloc: Global,
     listener: UnixListener,
     console: Console,
+    /// What a backup has in common with the volume.
+    plan: Arc<BackupPlan, Global>,
+    /// A way to the thread that may make files.
+    files: Sender<FileWork>,
     /// How many connections there are.
     places: Arc<AtomicUsize, Global>,
 }
@@ -71,10 +81,17 @@ impl Entry {
         let Some(place) = Place::take(&self.places)? else {
             return turn_away(&stream);
         };
-        let (own, alloc, console) = (*rt, self.alloc, self.console.another()?);
+        let (own, alloc) = (*rt, self.alloc);
+        let (console, plan) = (self.console.another()?, Arc::try_clone(&self.plan)?);
+        let files = self.files.clone()?;
         let _connection = thread::spawn(rt, move || {
+            let backups = Backups {
+                console: &console,
+                plan: &plan,
+                files: &files,
+            };
             // whoever connected finds how that ended
-            let _ = attend(&own, alloc, &stream, &console);
+            let _ = attend(&own, alloc, &stream, backups);
             drop(stream);
             drop(place);
         })?;
@@ -121,18 +138,69 @@ fn attend<R: Wait + Clock>(
     rt: &R,
     alloc: Global,
     stream: &UnixStream,
-    console: &Console,
+    backups: Backups<'_>,
 ) -> io::Result<()> {
     stream.set_write_timeout(Some(Duration::from_secs(SILENT_SECS)))?;
     let mut lines = BufReader::new(alloc, Patient::new(rt, stream)?)?;
     let mut answers = BufWriter::new(alloc, stream)?;
     for _ in rt.forever() {
         lines.get_mut().begin()?;
-        if !console.answer_next(rt, alloc, &mut lines, &mut answers)? {
+        if !answer_next(rt, alloc, backups, &mut lines, &mut answers)? {
             return Ok(());
         }
     }
     unreachable!()
+}
+
+/// Answers the next line. Answers false where there are no more lines.
+fn answer_next<R: Wait, L: BufRead, A: Write>(
+    rt: &R,
+    alloc: Global,
+    backups: Backups<'_>,
+    lines: &mut L,
+    answers: &mut A,
+) -> io::Result<bool> {
+    match backups.console.next(rt, alloc, lines)? {
+        Some(line) => {
+            answer(rt, alloc, backups, line, answers)?;
+            Ok(true)
+        }
+        None => Ok(false),
+    }
+}
+
+/// Answers a line. A backup is made here, since it takes long, and so that nobody but its own console waits for its file.
+fn answer<R: Wait, A: Write>(
+    rt: &R,
+    alloc: Global,
+    backups: Backups<'_>,
+    line: Kept,
+    answers: &mut A,
+) -> io::Result<()> {
+    let path = match &line {
+        Ok(octets) => path_of(alloc, octets.as_slice())?,
+        Err(_) => None,
+    };
+    match path {
+        Some(path) => back_up(rt, alloc, backups, path.as_slice(), answers),
+        None => backups.console.answer(rt, alloc, line, answers),
+    }
+}
+
+/// Makes a backup at a path, and writes the answer.
+fn back_up<R: Wait, A: Write>(
+    rt: &R,
+    alloc: Global,
+    backups: Backups<'_>,
+    path: &[u8],
+    answers: &mut A,
+) -> io::Result<()> {
+    let _unwritten = backups.console.write_before_end(rt, alloc)?;
+    match backups.make(rt, alloc, path) {
+        Ok(changes) => writeln!(answers, "changes {changes}")?,
+        Err(refused) => writeln!(answers, "{refused}")?,
+    }
+    write_end(answers)
 }
 
 /// A connection from which a line has to come in time.

@@ -59,8 +59,8 @@ impl Taking {
         self.octets = 0;
     }
 
-    /// The server begins to wait for the caller. What the system's buffers took before it ever waited doesn't count: the caller needn't have
-    /// taken any of that.
+    /// The server begins to wait for the caller. What the system's buffers took before it ever waited doesn't count: the caller needn't
+    /// have taken any of that.
     pub(crate) fn begin<R: Clock>(&mut self, rt: &R)
         ensures { as_nanos self.old.waited ≡ 0 → self.new.octets ≡ 0 }
     {

@@ -45,6 +45,12 @@ pub trait Filing {
 
     /// The callers that a batch waited for have come, or it waits for them no longer.
     fn note_round(&self);
+
+    /// A batch is durable, and the kernel was told so: what copies blocks gets these.
+    fn copy_batch(&self, batch: &BatchBuf);
+
+    /// There was no batch: what copies blocks goes on.
+    fn copy_on(&self);
 }
 
 /// What the flusher shares with the threads of the sessions.
@@ -379,6 +385,7 @@ fn flush_to_end<R: Wait, D: Disk, K: Kern, H: Hooks + Filing>(
             *hooks,
         ) {
             Ok(Some(raised)) => {
+                hooks.copy_batch(&work.batch);
                 work.marks = work.marks.after(&work.batch);
                 follow(rt, around, work.marks.all(), batch_len(last, raised));
                 last = Some(raised);
@@ -388,6 +395,7 @@ fn flush_to_end<R: Wait, D: Disk, K: Kern, H: Hooks + Filing>(
                     work.seat.stop(*mark, halted);
                     return FlusherEnd::Stopped;
                 }
+                hooks.copy_on();
                 bells.flusher.park(rt);
             }
             Err(error) => return FlusherEnd::Failed(error),

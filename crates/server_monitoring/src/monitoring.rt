@@ -1,7 +1,9 @@
 //! What a monitor is told of a running server, in a file that is written again and again.
 
+use crossbeam_channel::Receiver;
 use disk_file::{are_one, make_anew};
 use kernel_shared::{Kern, halt};
+use server_backup::FileWork;
 use server_logging::{Cause, EventCounts, Log, LogEvent};
 use server_metrics::{CommitTimes, Metrics, SessionStates, VolumeCounts, text};
 use server_releasing::{Shared, Writers};
@@ -176,6 +178,8 @@ pub struct Watch<'a> {
     pub file: Option<&'a ServedFile>,
     pub monitor: Option<Monitor<'a>>,
     log: &'a Log,
+    /// What is to be done about the files of backups.
+    works: &'a Receiver<FileWork>,
     /// The path of the volume's file named another one before anything else went wrong.
     pub is_replaced: AtomicBool,
     /// The log has said why the server fails.
@@ -190,6 +194,7 @@ impl<'a> Drop for Watch<'a> {
             file: _,
             monitor: _,
             log: _,
+            works: _,
             is_replaced: _,
             has_told: _,
             has_ended: _,
@@ -203,11 +208,13 @@ impl<'a> Watch<'a> {
         file: Option<&'a ServedFile>,
         monitor: Option<Monitor<'a>>,
         log: &'a Log,
+        works: &'a Receiver<FileWork>,
     ) -> Watch<'a> {
         Watch {
             file,
             monitor,
             log,
+            works,
             is_replaced: AtomicBool::new(false),
             has_told: AtomicBool::new(false),
             has_ended: AtomicBool::new(false),
@@ -228,9 +235,9 @@ impl<'a> Watch<'a> {
     }
 
     /// Looks at once, then every fifteen seconds and when the operator asks how the server is, and for the last time after `end` was
-    /// called. Each time it looks at the volume's file, and writes the file for a monitor. Once the path of the volume's file names
-    /// another one or none, or the file has another length, it halts the kernel and sets `is_replaced`, unless the log was told
-    /// before why the server fails.
+    /// called. Each time it looks at the volume's file, writes the file for a monitor, and does what backups ask for. Once the path of
+    /// the volume's file names another one or none, or the file has another length, it halts the kernel and sets `is_replaced`, unless
+    /// the log was told before why the server fails.
     pub fn look_all<R: Files<File = File> + Wait + Clock, K: Kern, G>(
         &self,
         shared: &Shared<'_, R, K, G>,
@@ -242,6 +249,7 @@ impl<'a> Watch<'a> {
             if let Some(monitor) = self.monitor {
                 write(shared, monitor, &mut written);
             }
+            self.carry_out_all(shared);
             if is_last {
                 return;
             }
@@ -249,6 +257,16 @@ impl<'a> Watch<'a> {
                 .bells
                 .watcher
                 .park_timeout(shared.rt, Duration::from_secs(LOOK_SECS));
+        }
+    }
+
+    /// Does what backups ask for about their files.
+    fn carry_out_all<R: Files<File = File> + Wait, K, G>(&self, shared: &Shared<'_, R, K, G>) {
+        for _ in shared.rt.forever() {
+            let Ok(work) = self.works.try_recv(shared.rt) else {
+                return;
+            };
+            work.carry_out(shared.rt, shared.alloc);
         }
     }
 

@@ -14,6 +14,8 @@ pub enum Reply {
     Answer(Answer),
     /// The same for another console, which keeps what is beside it until the answer is written.
     AnswerThere(Answer, Option<Sender<()>>),
+    /// What another console keeps while the server is to wait for it with its end.
+    Unwritten(Option<Sender<()>>),
     /// There are no more answers.
     Ends,
 }

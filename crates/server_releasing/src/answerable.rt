@@ -2,30 +2,31 @@
 
 use crate::Shared;
 use kernel_shared::Kern;
-use model::{Message, Moment};
+use model::Moment;
 use server_outgoing::Outgoing;
 use server_places::{NoPlace, needs_place};
+use session_received::Received;
 use std::sync::Wait;
 
 /// A message that may be answered now: its reply is not large, or its session has a place for it, or nobody needs one. Who has the kernel
 /// answer a message gives this, so it doesn't do so without a look at the places.
-#[derive(Clone, Copy)]
+#[derive(Drop)]
 pub(crate) struct Answerable<'m> {
-    message: &'m Message,
+    received: Received<'m>,
 }
 
 impl<'m> Answerable<'m> {
     /// The message.
-    pub(crate) fn message(self) -> &'m Message {
-        self.message
+    pub(crate) fn into_received(self) -> Received<'m> {
+        self.received
     }
 
     /// A message that needs no place, whatever the session has. `None` if this one does.
-    pub(crate) fn without_place(message: &'m Message) -> Option<Answerable<'m>> {
-        if needs_place(message) {
+    pub(crate) fn without_place(received: Received<'m>) -> Option<Answerable<'m>> {
+        if needs_place(&received) {
             None
         } else {
-            Some(Answerable { message })
+            Some(Answerable { received })
         }
     }
 
@@ -36,15 +37,14 @@ impl<'m> Answerable<'m> {
         shared: &Shared<'_, R, K, H>,
         writer: usize,
         outgoing: &mut Outgoing,
-        message: &'m Message,
+        received: Received<'m>,
         moment: Moment,
     ) -> Option<Answerable<'m>> {
-        if outgoing.place.is_some() || !needs_place(message) {
-            return Some(Answerable { message });
+        if outgoing.place.is_some() || !needs_place(&received) {
+            return Some(Answerable { received });
         }
         let Shared {
             rt,
-            alloc,
             kern,
             writers,
             ..
@@ -55,13 +55,13 @@ impl<'m> Answerable<'m> {
                 outgoing.asks = false;
             }
             Err(NoPlace) => {
-                outgoing.asks = !kern.asks_for_few(*rt, *alloc, message, moment);
+                outgoing.asks = !kern.asks_for_few(*rt, &received, moment);
                 if outgoing.asks {
                     return None;
                 }
                 writers.forget(*rt, writer);
             }
         }
-        Some(Answerable { message })
+        Some(Answerable { received })
     }
 }

@@ -10,6 +10,7 @@ use crate::{Hand, ReplyWriter, Shared};
 use kernel_shared::{Asked, Bells, ExecError, ExecOutcome, Hooks, Kern};
 use model::{Message, Moment};
 use server_outgoing::{LeftBlock, Patience, Turn};
+use session_received::Received;
 use std::sync::Wait;
 use std::thread;
 use std::time::Clock;
@@ -129,7 +130,8 @@ impl ReplyWriter {
         turn: &mut Turn<'_>,
     ) -> Option<FiledBlock> {
         let left = turn.outgoing().take_left()?;
-        let answer = match Answerable::without_place(&left.block) {
+        let received = Received::of(shared.alloc, &left.block);
+        let answer = match Answerable::without_place(received) {
             Some(answerable) => self.answer_into(shared, turn, answerable, left.moment),
             // only blocks are left
             None => Err(ExecError::NoSession),

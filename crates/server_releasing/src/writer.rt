@@ -6,9 +6,10 @@ use crate::answerable::Answerable;
 use crate::{Hand, Shared};
 use kernel_outbox::RELEASE_ENTRIES;
 use kernel_shared::{ExecError, ExecOutcome, Hooks, Kern, Look};
-use model::{Message, Moment};
+use model::Moment;
 use server_outgoing::{Cut, Delivery, Desk, Outgoing, Patience, Turn};
 use server_roster::{Chosen, Guest, ListedSession, Place};
+use session_received::Received;
 use std::alloc::{AllocError, Global};
 use std::net::{Shutdown, TcpStream};
 use std::sync::{Arc, Wait};
@@ -123,15 +124,20 @@ impl ReplyWriter {
         &self,
         shared: &Shared<'_, R, K, H>,
         hand: &mut Hand,
-        message: &Message,
+        received: Received<'_>,
         moment: Moment,
     ) -> Result<ExecOutcome, Unanswered> {
         let mut turn = self.desk.turn(shared.rt, hand);
         if turn.outgoing().is_full() {
             self.release_ready(shared, turn.outgoing(), Patience::Long);
         }
-        let Some(answerable) = Answerable::of(shared, self.number, turn.outgoing(), message, moment)
-        else {
+        let Some(answerable) = Answerable::of(
+            shared,
+            self.number,
+            turn.outgoing(),
+            received,
+            moment,
+        ) else {
             turn.end_before_send();
             return Err(Unanswered::NoPlace);
         };
@@ -176,7 +182,7 @@ impl ReplyWriter {
             shared.rt,
             shared.alloc,
             outgoing.sid,
-            answerable.message(),
+            answerable.into_received(),
             moment,
             &mut outgoing.ready,
         );

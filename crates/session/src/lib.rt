@@ -9,13 +9,12 @@ ghost use Rattle.session.specs.Served.{IsFiled, IsServed};
 
 mod commands;
 mod messages;
-mod received;
 mod steps;
 
 use model::{Mark, Moment, Session, lawful_stays};
-pub use received::Received;
 use session_lookups::{ChangeSpool, FilingError};
 use session_posting::{Accepted, Step, Stored};
+use session_received::Received;
 use session_replies::{Answered, full};
 use std::alloc::{AllocError, Global};
 use steps::step;
@@ -30,10 +29,10 @@ pub struct Served {
     pub has_accepted: bool,
 }
 
-/// Answers a message and files the change that it accepts, at the given moment. The text of the message was read before,
-/// and is not read again. The mark is `Long` if a posted article is refused because it would be too long as it is stored.
+/// Answers a message and files the change that it accepts, at the given moment. The message was read before, and is
+/// not read again. The mark is `Long` if a posted article is refused because it would be too long as it is stored.
 /// It is `Full` if there is no room for the change, and otherwise `Served`. Refused only for want of memory, also if an
-/// allocation was refused as the text was read; then nothing has changed.
+/// allocation was refused as the message was read; then nothing has changed.
 pub fn serve<S: ChangeSpool>(
     alloc: Global,
     spool: &mut S,

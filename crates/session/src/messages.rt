@@ -2,7 +2,7 @@
 
 ghost use Rattle.std.specs.Prelude.{◌≡◌, IfOk, None};
 ghost use Rattle.model.specs.Answer.{awaiting, line_answer, says};
-ghost use Rattle.model.specs.Commands.{parsed_line};
+ghost use Rattle.session_grammar.specs.Arguments.{IsParsed};
 ghost use Rattle.model.specs.Reads.{line_reads};
 ghost use Rattle.model.specs.declared.session.Awaits.TheVariants as waits;
 ghost use Rattle.session_replies.specs.Answered.{Answers, answered};
@@ -11,12 +11,12 @@ ghost use Rattle.session_replies.specs.Replies.{sent};
 ghost use Rattle.session_posting.specs.Outcomes.{said, said_served};
 ghost use Rattle.session.specs.Steps.{IsStep, step_of};
 
-use crate::Received;
 use crate::commands::command;
 use model::{Awaits, Mark, Message, Moment, Parsed, Session};
 use session_grammar::arguments_are_in_grammar;
 use session_lookups::LookUps;
 use session_posting::{Step, ihave_block, post_block};
+use session_received::Received;
 use session_replies::{Answered, Reply, ends, says_line};
 use std::alloc::{AllocError, Global};
 
@@ -39,20 +39,20 @@ fn bad<'m>(alloc: Global, session: &Session) -> Result<Step<'m>, AllocError>
     Ok(served(says_line(alloc, session, Reply::SyntaxError, 0)?))
 }
 
-/// The answer to a command line without its CRLF.
+/// The answer to a line, by what it is.
 fn line<L: LookUps>(
     alloc: Global,
     spool: &L,
     session: &Session,
-    text: &[u8],
+    parsed: Parsed,
     moment: Moment,
 ) -> Result<Answered, AllocError>
+    requires { IsParsed parsed }
     ensures { IfOk result (λ r. Answers (L.octets_of spool.now) (L.keeps spool.now) r
-        (line_answer (L.host_of spool.now) (L.changes spool.now) session.now moment (parsed_line text.now))
-        (line_reads (L.host_of spool.now) (L.changes spool.now) session.now moment (parsed_line text.now))) }
+        (line_answer (L.host_of spool.now) (L.changes spool.now) session.now moment parsed)
+        (line_reads (L.host_of spool.now) (L.changes spool.now) session.now moment parsed)) }
 {
-    arguments_are_in_grammar();
-    match session_grammar::read(alloc, text)? {
+    match parsed {
         Parsed::Command(read) => command(alloc, spool, session, read, moment),
         Parsed::Unknown => says_line(alloc, session, Reply::UnknownCommand, 0),
         Parsed::Bad => says_line(alloc, session, Reply::SyntaxError, 0),
@@ -65,15 +65,17 @@ pub(crate) fn at_line<'m, L: LookUps>(
     alloc: Global,
     spool: &L,
     session: &Session,
-    message: &'m Message,
+    received: Received<'m>,
     moment: Moment,
 ) -> Result<Step<'m>, AllocError>
     ensures { IfOk result (λ step. IsStep (L.octets_of spool.now) (L.keeps spool.now) (said step)
-        (step_of (L.host_of spool.now) (L.changes spool.now) session.now moment waits.Line message.now)) }
+        (step_of (L.host_of spool.now) (L.changes spool.now) session.now moment waits.Line received.entry)) }
 {
-    match message {
-        Message::Line(text) => {
-            let answered = line(alloc, spool, session, text.as_slice(), moment)?;
+    match received.message() {
+        Message::Line(_) => {
+            arguments_are_in_grammar();
+            let parsed = received.into_parsed()?;
+            let answered = line(alloc, spool, session, parsed, moment)?;
             Ok(served(answered))
         }
         Message::Block(_) => bad(alloc, session),

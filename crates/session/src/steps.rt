@@ -10,11 +10,11 @@ ghost use Rattle.session_posting.specs.Outcomes.{said};
 ghost use Rattle.session_replies.specs.Answered.{made_answer, reply_of};
 ghost use Rattle.session.specs.Steps.{IsStep, step_of};
 
-use crate::Received;
 use crate::messages::{at_ihave, at_line, at_nothing, at_post};
 use model::{Awaits, Moment, Session};
 use session_lookups::LookUps;
 use session_posting::Step;
+use session_received::Received;
 use std::alloc::{AllocError, Global};
 
 /// Answers a message at the given moment. A line is a command (RFC 3977, section 3.1), and a block is the article that
@@ -51,13 +51,12 @@ fn by_kind<'m, L: LookUps>(
     ensures { IfOk result (λ step. IsStep (L.octets_of spool.now) (L.keeps spool.now) (said step)
         (step_of (L.host_of spool.now) (L.changes spool.now) session.now moment session.now.awaits received.entry)) }
 {
-    let message = received.message();
     match &session.awaits {
-        Awaits::Line => at_line(alloc, spool, session, message, moment),
+        Awaits::Line => at_line(alloc, spool, session, received, moment),
         Awaits::PostBlock => at_post(alloc, spool, session, received, moment),
         Awaits::IhaveBlock(id) => {
             at_ihave(alloc, spool, session, id.as_slice(), received, moment)
         }
-        Awaits::Nothing => at_nothing(alloc, spool, session, message, moment),
+        Awaits::Nothing => at_nothing(alloc, spool, session, received.message(), moment),
     }
 }

@@ -6,8 +6,10 @@ use Rattle.model.specs.Spool.{Spool, NewsGroup, group_named, high, low}
 use Rattle.model.specs.Stream.{Octets}
 use Rattle.model.proofs.Growing.{new_has_nothing}
 use Rattle.model.proofs.HoldsOne.{changes_few}
+use Rattle.session_lookups.specs.Held.{article_with}
 use Rattle.spool_index.specs.View.{IndexView}
 use Rattle.kernel_outbox.specs.declared.made_lines.Lines.{Lines}
+use Rattle.spool_texts.specs.Overviews.{KeepsArticle}
 use Rattle.spool_texts.specs.Parts.{HasLines, HasRange, IsStored, KeepsLines}
 use Rattle.journal_volume.specs.Volume.{VolumeView}
 use Rattle.spool_growing.specs.Kept.{IsKept}
@@ -42,6 +44,13 @@ module _ (host : Octets) (inodes : ℕ) (volume : VolumeView) (index : IndexView
         first = omega (arith, above);
         order = order;
         high = below;
+      }
+
+  pub keeps_article : (serial : ℕ) → IsSome (article_with S serial) → KeepsArticle inodes volume.seen index places serial
+  keeps_article serial there =
+      record {
+        has = record { changes = S; stored = stored; indexed = kept.indexed; there = there };
+        placed = placed_there;
       }
 
   pub keeps_lines : (lines : Lines) → HasLines S lines → KeepsLines inodes volume.seen index places lines

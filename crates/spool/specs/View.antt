@@ -1,5 +1,6 @@
 -- The spool as its callers see it, and what a change leaves of it.
-use Rattle.std.specs.Prelude.{◌≡◌, ℕ, List, [], ◌∷◌, ◌++◌}
+use Rattle.std.specs.Prelude.{◌≡◌, ◌<◌, ℕ, List, [], ◌∷◌, ◌++◌, length, slice_index_or}
+use Rattle.std.specs.List.{Contains}
 use Rattle.model.specs.Stream.{Octets}
 use Rattle.model.specs.Spool.{Spool}
 use Rattle.model.specs.declared.change.Change.{Change}
@@ -15,6 +16,13 @@ pub record SpoolView : Type 0 where
   pub blocks : List Octets
   pub dirty : List ℕ
   pub sound : ∥ IsHeld host inodes blocks changes ∥₁
+
+-- a block that isn't dirty, with its octets
+pub record IsClean (s : SpoolView) (k : ℕ) (octets : Octets) : Type 0 where
+  pub there : k < length s.blocks
+  pub clean : Contains s.dirty k → ⊥
+  pub octets_are : octets ≡ slice_index_or s.blocks k []
+  pub whole : length octets ≡ 4096
 
 -- what holds for every spool
 abbrev pub IsSpool : SpoolView → Type 0

@@ -3,8 +3,8 @@
 #![tactic(auto)]
 
 ghost use Rattle.std.specs.Prelude.{◌≡◌, ◌+◌, ◌-◌, ◌<◌, ◌≤◌, ◌||◌, ◌&&◌, nat_lt, ℕ, List, [], Some, false, None, length, replicate};
-ghost use Rattle.std.specs.Prelude.{slice_index_or, IfOk, IsTrue, OnErr, OnOk};
-ghost use Rattle.std.specs.List.{All, flat_map};
+ghost use Rattle.std.specs.Prelude.{slice_index_or, IfNone, IfOk, IfSome, IsTrue, OnErr, OnOk, ◌⊎◌};
+ghost use Rattle.std.specs.List.{All, Contains, flat_map};
 ghost use Rattle.model.specs.Lawful.{MayExpire, MayFile, MayMake};
 ghost use Rattle.model.specs.Layout.{Holds};
 ghost use Rattle.model.specs.Names.{is_host};
@@ -113,7 +113,7 @@ fn group_asked(alloc: Global, request: &GroupRequest) -> Result<NewGroup, AllocE
 impl Spool {
     ghost use Rattle.spool.specs.Kept.{CanStand};
     ghost use Rattle.spool.specs.Refusals.{Tested, article_refusal, expiry_refusal, group_refusal, has_number, is_full_for};
-    ghost use Rattle.spool.specs.View.{Adds, IsSpool};
+    ghost use Rattle.spool.specs.View.{Adds, IsClean, IsSpool};
 
     /// The spool in the blocks of a volume, with its index and the places of its files.
     pub fn of(
@@ -227,6 +227,17 @@ impl Spool {
         ensures { result ≡ length self.now.dirty }
     {
         self.volume.dirty_len()
+    }
+
+    /// The octets of a block that isn't dirty. `None` if it is, or if there is no such block.
+    pub fn clean_block(&self, number: u32) -> Option<&[u8]>
+        ensures clean { IfSome result (λ octets. IsClean self.now number octets.now) }
+        ensures none { IfNone result ((length self.now.blocks ≤ number) ⊎ Contains self.now.dirty number) }
+    {
+        if number >= self.volume.len() || self.volume.is_dirty(number) {
+            return None;
+        }
+        Some(self.volume.block(number))
     }
 
     /// Copies the dirty blocks, at most 512, into the buffer in place of its content. Afterwards none is dirty.

@@ -68,7 +68,6 @@ impl LookUps for Spool {
 
     fn push_part(&self, part: &Part, serial: u64, reply: &mut Vec<u8>) -> Result<(), AllocError> {
         spool_texts::push_part(
-            self.alloc,
             &self.volume,
             self.inodes,
             &self.index,
@@ -86,7 +85,6 @@ impl LookUps for Spool {
         reply: &mut Vec<u8>,
     ) -> Result<(), AllocError> {
         spool_texts::push_overview(
-            self.alloc,
             &self.volume,
             self.inodes,
             &self.index,

@@ -6,11 +6,12 @@ ghost use Rattle.model.specs.Article.{Carried, cause};
 ghost use Rattle.model.specs.Lawful.{MayFile};
 ghost use Rattle.model.specs.Spool.{Spool};
 ghost use Rattle.model.specs.Spool as spool;
+ghost use Rattle.spool_index.specs.Kept as kept;
 ghost use Rattle.spool_index.specs.View.{Indexes};
 ghost use Rattle.spool_admission.specs.Fields.{MayHaveId};
 
 use model::{Envelope, Text};
-use spool_index::Index;
+use spool_index::{Index, Lengths};
 use std::alloc::{AllocError, Global};
 use text_article::{Article, made_id};
 use text_names::is_of_host;
@@ -22,6 +23,17 @@ pub fn id_of<'a>(article: &'a Article<'_>) -> &'a [u8]
     match article.id() {
         Some(id) => id,
         None => &[],
+    }
+}
+
+/// How many octets an article has, of a text that another server may have carried.
+pub fn lengths_of(article: &Article<'_>) -> Lengths
+    requires { cause Carried article.now ≡ None }
+    ensures { result ≡ kept.lengths_of article.now }
+{
+    Lengths {
+        text: article.text().len() as u32,
+        header: article.header().len() as u32,
     }
 }
 

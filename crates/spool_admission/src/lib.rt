@@ -4,5 +4,5 @@
 mod article_admission;
 mod group_admission;
 
-pub use article_admission::{id_of, may_file};
+pub use article_admission::{id_of, lengths_of, may_file};
 pub use group_admission::{find_group, groups_here, may_expire, may_make};

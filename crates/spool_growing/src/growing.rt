@@ -14,7 +14,7 @@ use fs_blocks::Blocks;
 use fs_layout::bitmap::lowest_free;
 use journal_volume::Volume;
 use model::{Envelope, NewGroup};
-use spool_admission::id_of;
+use spool_admission::{id_of, lengths_of};
 use spool_index::{Index, Places};
 use spool_records::{article_record, expiry_record, group_record};
 use std::alloc::{AllocError, Global};
@@ -169,8 +169,8 @@ pub fn grow_by_article(
         volume.drop_stage();
         return Err(AllocError);
     };
-    let size = text.len() as u64;
-    let Ok(()) = index.push_article(id_of(article), size, kept, &lines.sizes) else {
+    let lengths = lengths_of(article);
+    let Ok(()) = index.push_article(id_of(article), lengths, kept, &lines.sizes) else {
         places.pop_change();
         volume.drop_stage();
         return Err(AllocError);

@@ -20,8 +20,8 @@ use Rattle.session_lookups.specs.Held.{article_with, gone_with, groups_now}
 use Rattle.spool_groups.specs.Finding.{Rise}
 use Rattle.spool_groups.proofs.Searching.{filter_mapped}
 use Rattle.spool_index.specs.Finding.{entry_with, is_still_in, note_at, number_upto}
-use Rattle.spool_index.specs.Notes.{groups_in, id_in, moment_in, size_in}
-use Rattle.spool_index.specs.Kept.{kept}
+use Rattle.spool_index.specs.Notes.{groups_in, id_in, lengths_in, moment_in}
+use Rattle.spool_index.specs.Kept.{kept, lengths_of}
 use Rattle.spool_index.specs.View.{IndexView, Indexes}
 use Rattle.spool_index.specs.declared.note.Note.{Note}
 use Rattle.spool_index.proofs.Lists.{any_filtered}
@@ -65,10 +65,10 @@ each_id e = by_change e.serial e.change where
   by_change n (Article filing) = refl
   by_change n (Expire expiry) = refl
 
-pub each_size : (e : SpoolEntry) → size_in (kept e) ≡ option_map (λ (a : NewsArticle). length a.text) (article_filed e)
-each_size e = by_change e.serial e.change where
+pub each_lengths : (e : SpoolEntry) → lengths_in (kept e) ≡ option_map (λ (a : NewsArticle). lengths_of a.text) (article_filed e)
+each_lengths e = by_change e.serial e.change where
   by_change : (n : ℕ) (c : Change)
-      → size_in (kept (record { serial = n; change = c })) ≡ option_map (λ (a : NewsArticle). length a.text)
+      → lengths_in (kept (record { serial = n; change = c })) ≡ option_map (λ (a : NewsArticle). lengths_of a.text)
       (article_filed (record { serial = n; change = c }))
   by_change n (Group created) = refl
   by_change n (Article filing) = refl

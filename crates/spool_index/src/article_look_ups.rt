@@ -11,12 +11,12 @@ ghost use Rattle.spool_index.specs.Finding.{note_at};
 
 use crate::Index;
 use crate::latest::moments_below;
-use crate::note::Note;
+use crate::note::{Lengths, Note};
 use model::Text;
 
 impl Index {
     ghost use Rattle.spool_index.specs.Finding.{entry_with, is_still_in, number_upto};
-    ghost use Rattle.spool_index.specs.Kept.{kept};
+    ghost use Rattle.spool_index.specs.Kept.{kept, lengths_of};
     ghost use Rattle.spool_index.specs.View.{Indexes};
 
     /// What is kept of the change with this serial.
@@ -28,12 +28,12 @@ impl Index {
         note_in(&self.notes, serial)
     }
 
-    /// The number of octets in the text of the article with this serial, if there is one.
-    pub fn size(&self, serial: u64) -> Option<u64>
-        ensures { (S : Spool) → Indexes S self.now → result ≡ option_map (λ a. length a.text) (article_with S serial) }
+    /// How many octets the article with this serial has, if there is one.
+    pub fn lengths(&self, serial: u64) -> Option<Lengths>
+        ensures { (S : Spool) → Indexes S self.now → result ≡ option_map (λ a. lengths_of a.text) (article_with S serial) }
     {
         match self.note(serial) {
-            Some(note) => note.size(),
+            Some(note) => note.lengths(),
             None => None,
         }
     }

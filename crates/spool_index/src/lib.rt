@@ -15,6 +15,7 @@ ghost use Rattle.model.specs.declared.change.Change.{Change};
 ghost use Rattle.spool_groups.specs.Shown.{shown};
 ghost use Rattle.spool_groups.specs.Filing.{AreLineSizes, EndBelow};
 ghost use Rattle.spool_groups.specs.Naming.{heads};
+ghost use Rattle.spool_index.specs.Kept.{lengths_of};
 
 mod article_look_ups;
 mod ids;
@@ -30,7 +31,7 @@ use ids::Ids;
 use latest::push_latest;
 pub use laws::{places_are_by_name, places_grow_with_the_spool};
 use model::{Envelope, NewGroup, Text};
-pub use note::Note;
+pub use note::{Lengths, Note};
 pub use places::{ChangePlace, Places};
 use spool_groups::{Group, Keys, expire_one, place_of, push_lines, reserve_lines};
 use std::alloc::{AllocError, Global};
@@ -175,7 +176,7 @@ impl Index {
     pub fn push_article(
         &mut self,
         id: &[u8],
-        size: u64,
+        lengths: Lengths,
         envelope: Envelope,
         sizes: &[u64],
     ) -> Result<(), AllocError>
@@ -184,7 +185,7 @@ impl Index {
         requires small { All (λ n. n < 2 ^ 32) sizes.now }
         requires fits { EndBelow (2 ^ 32) self.old.groups }
         ensures ok { OnOk result ((host : Octets) (S : Spool) (text : Octets)
-            → MayFile host S (record { text = text; envelope = envelope }) → id.now ≡ article.id text → size ≡ length text
+            → MayFile host S (record { text = text; envelope = envelope }) → id.now ≡ article.id text → lengths ≡ lengths_of text
             → AreLineSizes S text envelope.groups sizes.now → Indexes S self.old
             → Indexes (S ++ Change.Article (record { text = text; envelope = envelope }) ∷ []) self.new) }
         ensures err { OnErr result (self.new ≡ self.old) }
@@ -205,7 +206,7 @@ impl Index {
         );
         let note = Note::Article {
             id: own_id,
-            size,
+            lengths,
             groups,
             moment,
         };

@@ -4,6 +4,15 @@ ghost use Rattle.std.specs.Prelude.{◌≡◌, option_map};
 
 use model::{Moment, Names, Text};
 
+/// How many octets an article has as it is stored. No article has more than 262,144.
+#[derive(Clone, Copy)]
+pub struct Lengths {
+    /// in its text
+    pub text: u32,
+    /// in its header, without the empty line
+    pub header: u32,
+}
+
 /// What is kept of a change, by its serial.
 #[derive(Drop)]
 pub enum Note {
@@ -12,8 +21,7 @@ pub enum Note {
     /// An article was filed. Its text stays in its file.
     Article {
         id: Text,
-        /// the number of octets in its text
-        size: u64,
+        lengths: Lengths,
         groups: Names,
         /// when it was filed
         moment: Moment,
@@ -26,7 +34,7 @@ pub enum Note {
 }
 
 impl Note {
-    ghost use Rattle.spool_index.specs.Notes.{groups_in, id_in, moment_in, size_in};
+    ghost use Rattle.spool_index.specs.Notes.{groups_in, id_in, lengths_in, moment_in};
 
     /// For an article, its message-id.
     pub fn id(&self) -> Option<&[u8]>
@@ -39,13 +47,13 @@ impl Note {
         }
     }
 
-    /// For an article, the number of octets in its text.
-    pub fn size(&self) -> Option<u64>
-        ensures { result ≡ size_in self.now }
+    /// For an article, how many octets it has.
+    pub fn lengths(&self) -> Option<Lengths>
+        ensures { result ≡ lengths_in self.now }
     {
         match self {
             Note::Group => None,
-            Note::Article { size, .. } => Some(*size),
+            Note::Article { lengths, .. } => Some(*lengths),
             Note::Expiry { .. } => None,
         }
     }

@@ -15,7 +15,7 @@ ghost use Rattle.spool_opening.specs.Stored.{IsFileAt};
 use crate::continued_lines::line_sizes;
 use fs_blocks::Blocks;
 use model::{Envelope, NewGroup, Text};
-use spool_admission::{groups_here, id_of, may_expire, may_file, may_make};
+use spool_admission::{groups_here, id_of, lengths_of, may_expire, may_file, may_make};
 use spool_index::{ChangePlace, Index, Places};
 use spool_reading::{Files, ReadSpoolError};
 use std::alloc::Global;
@@ -160,9 +160,9 @@ pub fn replay_article<B: Blocks>(
         return Err(ReadSpoolError::Damaged);
     };
     let id = id_of(&article);
-    let size = text.len() as u64;
-    let lengths = sizes.as_slice();
-    replay.index.push_article(id, size, envelope, lengths)?;
+    let lengths = lengths_of(&article);
+    let lines = sizes.as_slice();
+    replay.index.push_article(id, lengths, envelope, lines)?;
     replay.places.push_change(place)?;
     Ok(())
 }

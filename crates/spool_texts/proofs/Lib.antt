@@ -8,3 +8,5 @@ pub mod LineSizes
 pub mod Making
 pub mod Staying
 pub mod Copied
+pub mod Filed
+pub mod Copies

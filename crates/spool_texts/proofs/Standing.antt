@@ -37,6 +37,8 @@ use Rattle.model.specs.Packs.{member_octets, pack_name}
 use Rattle.model.specs.Records.{article_record}
 use Rattle.model.specs.Spool.{Spool, SpoolEntry, NewsArticle, article_filed, entries, news_article}
 use Rattle.model.specs.FileKinds.{article_file}
+use Rattle.spool_index.specs.Kept.{lengths_of}
+use Rattle.spool_index.specs.declared.note.Lengths.{Lengths}
 use Rattle.model.specs.SpoolFiles.{change_file}
 use Rattle.model.specs.declared.change.Change.{Change}
 use Rattle.model.specs.declared.change.Change.TheVariants.{Group, Article, Expire}
@@ -120,17 +122,18 @@ placed_at {X} inodes f xs places k x same at =
           (slice_get-get_or places k 0 low) at,
     )
 
-pub record Sized (S : Spool) (serial n : ℕ) : Type 0 where
+pub record Sized (S : Spool) (serial : ℕ) (lengths : Lengths) : Type 0 where
   pub article : NewsArticle
   pub its_own : article_with S serial ≡ Some article
-  pub size_is : n ≡ length article.text
+  pub lengths_are : lengths ≡ lengths_of article.text
 
-pub sized : (S : Spool) (serial n : ℕ) → Some n ≡ option_map (λ (a : NewsArticle). length a.text) (article_with S serial) → Sized S serial n
-sized S serial n is = by_option (article_with S serial) refl is where
-  by_option : (o : Option NewsArticle) → article_with S serial ≡ o → Some n ≡ option_map (λ (a : NewsArticle). length a.text) o
-      → Sized S serial n
+pub sized : (S : Spool) (serial : ℕ) (lengths : Lengths)
+    → Some lengths ≡ option_map (λ (a : NewsArticle). lengths_of a.text) (article_with S serial) → Sized S serial lengths
+sized S serial lengths is = by_option (article_with S serial) refl is where
+  by_option : (o : Option NewsArticle) → article_with S serial ≡ o → Some lengths ≡ option_map (λ (a : NewsArticle). lengths_of a.text) o
+      → Sized S serial lengths
   by_option None at same = absurd (cc)
-  by_option (Some a) at same = record { article = a; its_own = at; size_is = same_Some n (length a.text) same }
+  by_option (Some a) at same = record { article = a; its_own = at; lengths_are = same_Some lengths (lengths_of a.text) same }
 
 -- ---- where its file ends
 

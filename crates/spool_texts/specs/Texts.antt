@@ -1,12 +1,11 @@
 -- What is required of blocks that texts are read from.
 use Rattle.std.specs.Prelude.{◌≡◌, ℕ, zero, suc, ◌+◌, ◌-◌, ◌^◌, ◌<◌, ◌≤◌, List, [], ◌++◌, length, take, drop, slice_index, IsSome}
-use Rattle.model.specs.Article.{header_lines}
+use Rattle.model.specs.Article.{header}
 use Rattle.model.specs.Files.{File, IsFile, content_of, entry}
 use Rattle.model.specs.Stream.{Octets, line}
 use Rattle.model.specs.Indexed.{ArePlaces, FilePlaces, line_start}
 use Rattle.model.specs.Spool.{Spool}
 use Rattle.session_lookups.specs.Held.{article_with, text_of}
-use Rattle.text_fields.specs.Header.{IsHeader}
 use Rattle.spool_index.specs.View.{IndexView, Indexes}
 use Rattle.spool_texts.specs.declared.text_places.TextPlace.{TextPlace}
 
@@ -39,11 +38,7 @@ pub record IsPlaceOf (inodes : ℕ) (blocks : List Octets) (index : IndexView) (
   pub small : p.from + p.size < 2 ^ 64
   pub size : length (octets_in inodes blocks p) ≡ p.size
   pub text : (S : Spool) → Indexes S index → ArePlaces inodes blocks S places → octets_in inodes blocks p ≡ text_of S serial
-
--- a prefix of a text has the text's header
-pub record HasHeader (front text : Octets) : Type 0 where
-  pub lines : header_lines front ≡ header_lines text
-  pub header : (n : ℕ) → IsHeader front n → IsHeader text n
+  pub header : (S : Spool) → Indexes S index → p.header ≡ length (header (text_of S serial))
 
 -- ---- lines of an overview
 

@@ -11,12 +11,11 @@ ghost use Rattle.spool_index.specs.View.{Indexes};
 ghost use Rattle.spool_texts.specs.Texts.{HasArticle};
 
 use crate::sending::push_stuffed;
-use crate::text_places::{front_of, place_of};
+use crate::text_places::place_of;
 use fs_blocks::Blocks;
 use model::Part;
 use spool_index::{Index, Places};
-use std::alloc::{AllocError, Global};
-use text_fields::header_length;
+use std::alloc::AllocError;
 
 /// The number of octets of the line that ends a header.
 const EMPTY_LINE_SIZE: u64 = 2;
@@ -46,7 +45,6 @@ pub fn push_article<B: Blocks>(
 /// nothing for `Nothing`. Refused only for want of memory; then the reply may hold any octets, and the caller discards
 /// it.
 pub fn push_part<B: Blocks>(
-    alloc: Global,
     blocks: &B,
     inodes: u32,
     index: &Index,
@@ -63,15 +61,14 @@ pub fn push_part<B: Blocks>(
 {
     match part {
         Part::Whole => push_article(blocks, inodes, index, places, serial, reply),
-        Part::Head => push_head(alloc, blocks, inodes, index, places, serial, reply),
-        Part::Body => push_body(alloc, blocks, inodes, index, places, serial, reply),
+        Part::Head => push_head(blocks, inodes, index, places, serial, reply),
+        Part::Body => push_body(blocks, inodes, index, places, serial, reply),
         Part::Nothing => Ok(()),
     }
 }
 
 /// Appends the header of an article, without the empty line, as `push_part` does.
 fn push_head<B: Blocks>(
-    alloc: Global,
     blocks: &B,
     inodes: u32,
     index: &Index,
@@ -86,14 +83,12 @@ fn push_head<B: Blocks>(
         → reply.new.items ≡ reply.old.items ++ stuffed (header (text_of S serial))) }
 {
     let text = place_of(blocks, inodes, index, places, serial);
-    let front = front_of(alloc, blocks, inodes, text)?;
-    let size = header_length(&front) as u64;
+    let size = text.header as u64;
     push_stuffed(blocks, inodes, text.inode, text.from, size, reply)
 }
 
 /// Appends the part of an article after its empty line, as `push_part` does.
 fn push_body<B: Blocks>(
-    alloc: Global,
     blocks: &B,
     inodes: u32,
     index: &Index,
@@ -108,10 +103,7 @@ fn push_body<B: Blocks>(
         → reply.new.items ≡ reply.old.items ++ stuffed (body (text_of S serial))) }
 {
     let text = place_of(blocks, inodes, index, places, serial);
-    let front = front_of(alloc, blocks, inodes, text)?;
-    let skipped = text
-        .size
-        .min(header_length(&front) as u64 + EMPTY_LINE_SIZE);
+    let skipped = text.size.min(text.header as u64 + EMPTY_LINE_SIZE);
     let from = text.from + skipped;
     push_stuffed(blocks, inodes, text.inode, from, text.size - skipped, reply)
 }

@@ -20,7 +20,7 @@ use spool_groups::Group;
 use spool_index::{Index, Places};
 
 /// What ends a line.
-const CRLF: &[u8] = b"\r\n";
+pub(crate) const CRLF: &[u8] = b"\r\n";
 
 /// The line that ends a block.
 const END: &[u8] = b".\r\n";
@@ -138,7 +138,7 @@ fn append_lines<B: Blocks>(
 }
 
 /// Appends the octets of a file from `start` up to `stop`, for which there is room.
-fn append_run<B: Blocks>(
+pub(crate) fn append_run<B: Blocks>(
     blocks: &B,
     inodes: u32,
     inode: u32,

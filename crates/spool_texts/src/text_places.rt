@@ -1,23 +1,15 @@
 //! The places of the texts of articles.
 
-ghost use Rattle.std.specs.Prelude.{◌≡◌, ◌<◌, length, IfOk};
-ghost use Rattle.model.specs.Files.{File, HasRoom, IsFile, IsFileSystem, entry, table};
+ghost use Rattle.model.specs.Files.{File, HasRoom, IsFileSystem, table};
 ghost use Rattle.model.specs.Indexed.{IsAt};
 ghost use Rattle.spool_index.specs.Viewed.{place_of as viewed};
-ghost use Rattle.spool_texts.specs.Texts.{EndsAt, HasArticle, HasHeader, IsPlaceOf, octets_in};
+ghost use Rattle.spool_texts.specs.Texts.{EndsAt, HasArticle, IsPlaceOf};
 
 use fs_blocks::Blocks;
-use fs_inodes::read_entry;
 use fs_layout::inodes::size_of;
 use spool_index::{ChangePlace, Index, Places};
-use std::alloc::{AllocError, Global};
-use text_article::HEADER_LIMIT;
-use text_fields::header_length;
 
-/// The number of octets of the longest header that is stored, and of the empty line after it.
-const FRONT_SIZE: u64 = HEADER_LIMIT as u64 + 2;
-
-/// Some octets of a file.
+/// The octets of a text in a file.
 #[derive(Clone, Copy)]
 pub(crate) struct TextPlace {
     pub(crate) inode: u32,
@@ -25,6 +17,8 @@ pub(crate) struct TextPlace {
     pub(crate) from: u64,
     /// the number of octets
     pub(crate) size: u64,
+    /// the number of octets of the header, without the empty line
+    pub(crate) header: u32,
 }
 
 /// The inode in whose file a change's file stands, whether by itself or in the pack, and the place after its last octet
@@ -55,37 +49,16 @@ pub(crate) fn place_of<B: Blocks>(
     requires there { HasArticle inodes (B.blocks blocks.now) index.now places.now serial }
     ensures { IsPlaceOf inodes (B.blocks blocks.now) index.now places.now serial result }
 {
-    let Some(size) = index.size(serial) else {
+    let Some(lengths) = index.lengths(serial) else {
         unreachable!()
     };
+    let size = lengths.text as u64;
     let place = places.changes()[(serial - 1) as usize];
     let (inode, end) = end_of(blocks, inodes, place);
     TextPlace {
         inode,
         from: end - size,
         size,
+        header: lengths.header,
     }
-}
-
-/// The prefix of a text with its header and the empty line after it; all of a text that has no empty line, or a longer
-/// header than is stored.
-pub(crate) fn front_of<B: Blocks>(
-    alloc: Global,
-    blocks: &B,
-    inodes: u32,
-    text: TextPlace,
-) -> Result<Vec<u8>, AllocError>
-    requires room { HasRoom inodes (B.blocks blocks.now) }
-    requires rule { IsFileSystem inodes (B.blocks blocks.now) }
-    requires below { text.inode < inodes }
-    requires file { IsFile (entry inodes (B.blocks blocks.now) text.inode) }
-    requires size { length (octets_in inodes (B.blocks blocks.now) text) ≡ text.size }
-    ensures { IfOk result (λ front. HasHeader front.items (octets_in inodes (B.blocks blocks.now) text)) }
-{
-    let few = text.size.min(FRONT_SIZE);
-    let front = read_entry(alloc, blocks, inodes, text.inode, text.from, few)?;
-    if header_length(&front) < front.len() {
-        return Ok(front);
-    }
-    read_entry(alloc, blocks, inodes, text.inode, text.from, text.size)
 }

@@ -1,144 +1,104 @@
-//! Devices over files of the system.
+//! A device over a file, and what it is asked.
 
-use disk::{Disk, DiskError};
-use disk_causes::Cause;
+use crate::said::{NO_MEMORY, NOT_ASKED, Said, of_device};
+use crate::words::Words;
+use disk::Disk;
 use disk_file::{Explains, FileDisk, FileError};
-use std::fs::{self, File};
-use std::io::ErrorKind;
-use std::test::Fail;
+use std::alloc::Global;
+use std::fs;
+use std::marker::Model;
+use std::rt::HostRuntime;
 
-#[test]
-fn octets_stay_in_the_file(rt: HostRuntime) -> Result<(), Fail> {
-    let path = "filedisk_octets";
-    let mut disk = FileDisk::open(&rt, path, 8)?;
-    assert_eq!(rt; disk.write(2, b"abcd"), Ok(()));
-    assert_eq!(rt; disk.sync(), Ok(()));
-    let mut octets = [1; 8];
-    assert_eq!(rt; disk.read(0, &mut octets), Ok(()));
-    assert_eq!(rt; octets, *b"\0\0abcd\0\0");
-    drop(disk);
-    let mut longer = FileDisk::open(&rt, path, 10)?;
-    let mut octets = [1; 6];
-    assert_eq!(rt; longer.read(4, &mut octets), Ok(()));
-    assert_eq!(rt; octets, *b"cd\0\0\0\0");
-    fs::remove_file(&rt, path)?;
-    Ok(())
+/// The most octets that a row reads.
+const MOST_READ: u64 = 4096;
+
+/// A device over a file, sealed: the proof of a caller learns nothing about it.
+pub(crate) struct Device {
+    disk: FileDisk,
 }
 
-#[test]
-fn what_can_not_be_had_is_refused(rt: HostRuntime) {
-    for (path, error) in [
-        ("/", FileError::Refused(ErrorKind::IsADirectory)),
-        ("", FileError::Missing),
-        ("no/such/directory/volume", FileError::Missing),
-        ("/dev/null", FileError::Irregular),
-    ] {
-        assert!(rt;
-            matches!(FileDisk::open(&rt, path, 8), Err(e) if e == error),
-            "{path}"
-        );
-        assert!(rt;
-            matches!(FileDisk::open_existing(&rt, path), Err(e) if e == error),
-            "{path}"
-        );
+impl Drop for Device {
+    fn drop(self) {
+        let Device { disk: _ } = self;
     }
-    for (path, error) in [
-        ("/", FileError::Irregular),
-        ("/dev/null", FileError::Irregular),
-        ("filedisk_missing", FileError::Missing),
-    ] {
-        assert!(rt;
-            matches!(FileDisk::open_to_read(&rt, path), Err(e) if e == error),
-            "{path}"
-        );
+}
+
+impl Model for Device {
+    ghost Value = { Unit };
+
+    ghost view = { λ s. tt };
+}
+
+impl Device {
+    /// Opens a device as a row says; `None` if the row can't be read.
+    pub(crate) fn open(
+        rt: &HostRuntime,
+        word: &str,
+        words: &mut Words<'_>,
+    ) -> Option<Result<Device, FileError>> {
+        let path = words.path();
+        let opened = match word {
+            "existing" => FileDisk::open_existing(rt, path),
+            "reading" => FileDisk::open_to_read(rt, path),
+            "open" => FileDisk::open(rt, path, words.number()?),
+            "make" => made(rt, path, words.number()?, words.next()),
+            _ => return None,
+        };
+        match opened {
+            Ok(disk) => Some(Ok(Device { disk })),
+            Err(error) => Some(Err(error)),
+        }
     }
-    assert!(rt;
-        matches!(
-            FileDisk::open_existing(&rt, "filedisk_missing"),
-            Err(FileError::Missing)
-        )
-    );
-    assert!(rt; !matches!(fs::exists(&rt, "filedisk_missing"), Ok(true)));
-}
 
-#[test]
-fn refusals_are_said_in_words(rt: HostRuntime) -> Result<(), Fail> {
-    for (error, words) in [
-        (FileError::of(ErrorKind::NotFound), "the file isn't there"),
-        (
-            FileError::of(ErrorKind::PermissionDenied),
-            "the file can't be opened: permission denied",
-        ),
-        (
-            FileError::Held,
-            "the volume is in use by a server or another command",
-        ),
-        (FileError::Irregular, "it is no regular file"),
-        (FileError::Failed(Cause::Io), "I/O error"),
-    ] {
-        assert_eq!(rt; format!(in rt.alloc(); "{error}")?.as_str(), words);
+    /// What the device answers; `None` if the row can't be read.
+    pub(crate) fn answer(
+        &mut self,
+        alloc: Global,
+        word: &str,
+        words: &mut Words<'_>,
+    ) -> Option<Said> {
+        match word {
+            "write" => Some(self.write(words.number()?, words.next().as_bytes())),
+            "read" => Some(self.read(alloc, words.number()?, words.number()?)),
+            "sync" => Some(of_device(self.disk.sync())),
+            "len" => Some(Said::Number(self.disk.len())),
+            "cause" => Some(Said::Cause(self.disk.cause())),
+            _ => None,
+        }
     }
-    Ok(())
+
+    fn write(&mut self, at: u64, octets: &[u8]) -> Said {
+        match at.checked_add(octets.len() as u64) {
+            Some(end) if end <= self.disk.len() => of_device(self.disk.write(at, octets)),
+            _ => NOT_ASKED,
+        }
+    }
+
+    /// Reads into octets that no file here has.
+    fn read(&mut self, alloc: Global, at: u64, count: u64) -> Said {
+        if MOST_READ < count {
+            return NOT_ASKED;
+        }
+        let Ok(mut room) = vec![in alloc; 1u8; count as usize] else {
+            return NO_MEMORY;
+        };
+        match at.checked_add(room.len() as u64) {
+            Some(end) if end <= self.disk.len() => match self.disk.read(at, room.as_mut_slice()) {
+                Ok(()) => Said::Octets(room),
+                Err(error) => of_device(Err(error)),
+            },
+            _ => NOT_ASKED,
+        }
+    }
 }
 
-// The file is made shorter while the device is open.
-#[test]
-fn a_read_past_the_files_end_is_a_fault(rt: HostRuntime) -> Result<(), Fail> {
-    let path = "filedisk_shorter";
-    let mut disk = FileDisk::open(&rt, path, 8)?;
-    File::options().write(true).open(&rt, path)?.set_len(4)?;
-    let mut octets = [0; 8];
-    assert_eq!(rt; disk.cause(), None);
-    assert_eq!(rt; disk.read(0, &mut octets), Err(DiskError::Fault));
-    assert_eq!(rt; disk.cause(), Some(Cause::Short));
-    fs::remove_file(&rt, path)?;
-    Ok(())
-}
-
-// A second device is refused before it changes the length.
-#[test]
-fn two_devices_never_share_a_file(rt: HostRuntime) -> Result<(), Fail> {
-    let path = "filedisk_shared";
-    let mut first = FileDisk::open(&rt, path, 8)?;
-    assert_eq!(rt; first.write(0, b"12345678"), Ok(()));
-    assert!(rt; matches!(FileDisk::open(&rt, path, 4), Err(FileError::Held)));
-    assert!(rt; matches!(FileDisk::open_existing(&rt, path), Err(FileError::Held)));
-    drop(first);
-    let mut second = FileDisk::open_existing(&rt, path)?;
-    assert_eq!(rt; second.len(), 8);
-    let mut octets = [0; 8];
-    assert_eq!(rt; second.read(0, &mut octets), Ok(()));
-    assert_eq!(rt; octets, *b"12345678");
-    fs::remove_file(&rt, path)?;
-    Ok(())
-}
-
-// Who reads shares the file with others that read it, and with nobody who writes.
-#[test]
-fn readers_share_a_file(rt: HostRuntime) -> Result<(), Fail> {
-    let path = "filedisk_read";
-    let mut whole = FileDisk::open(&rt, path, 8)?;
-    assert_eq!(rt; whole.write(0, b"12345678"), Ok(()));
-    assert!(rt; matches!(FileDisk::open_to_read(&rt, path), Err(FileError::Held)));
-    drop(whole);
-    let mut first = FileDisk::open_to_read(&rt, path)?;
-    let second = FileDisk::open_to_read(&rt, path)?;
-    assert!(rt; matches!(FileDisk::open_existing(&rt, path), Err(FileError::Held)));
-    assert_eq!(rt; first.len(), 8);
-    assert_eq!(rt; second.len(), 8);
-    assert_eq!(rt; first.write(0, b"x"), Err(DiskError::Fault));
-    let mut octets = [0; 8];
-    assert_eq!(rt; first.read(0, &mut octets), Ok(()));
-    assert_eq!(rt; octets, *b"12345678");
-    fs::remove_file(&rt, path)?;
-    Ok(())
-}
-
-// The system refuses to sync this file, so a sync that did not ask it would answer `Ok`.
-#[test]
-fn a_sync_reaches_the_system(rt: HostRuntime) -> Result<(), Fail> {
-    let mut disk = FileDisk::open_existing(&rt, "/proc/self/comm")?;
-    assert_eq!(rt; disk.sync(), Err(DiskError::Fault));
-    assert_eq!(rt; disk.cause(), Some(Cause::Other));
-    Ok(())
+/// Makes a file anew, which takes after another one if that is named.
+fn made(rt: &HostRuntime, path: &str, len: u64, other: &str) -> Result<FileDisk, FileError> {
+    if other.is_empty() {
+        return FileDisk::make(rt, path, len, None);
+    }
+    match fs::metadata(rt, other) {
+        Ok(other) => FileDisk::make(rt, path, len, Some(&other)),
+        Err(error) => Err(FileError::of(error.kind())),
+    }
 }

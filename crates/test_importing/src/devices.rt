@@ -23,6 +23,23 @@ fn imported(alloc: Global, disk: MemDisk, octets: &[u8]) -> Result<(MemDisk, boo
     Ok((store.into_disk(), failed))
 }
 
+/// Imports the batch, and opens the device, which may crash before. Answers the device, whether it failed, and its changes and
+/// those that are durable.
+fn came_to(
+    alloc: Global,
+    disk: MemDisk,
+    octets: &[u8],
+    crash: Option<Pick>,
+) -> Result<(MemDisk, (bool, u64, u64)), Fail> {
+    let (mut disk, has_failed) = imported(alloc, disk, octets)?;
+    if let Some(pick) = crash {
+        disk.crash(&[pick]);
+    }
+    let store = opened(alloc, disk)?;
+    let (all, durable) = store.len();
+    Ok((store.into_disk(), (has_failed, all, durable)))
+}
+
 /// A call that fails within an import of its own, and what is left of that.
 #[derive(Clone, Copy)]
 struct Fault {
@@ -91,21 +108,16 @@ const FAULTS: [Fault; 5] = [
 #[test]
 fn an_import_is_made_again_after_a_fault(rt: HostRuntime) -> Result<(), Fail> {
     let alloc = rt.alloc();
-    let mut disk = device(&rt, alloc, 1024, 64).ok_or("no volume")?;
+    let mut disk = device(alloc, 1024, 64)?;
     for fault in FAULTS {
         let Fault { kind, call, .. } = fault;
         let octets = articles(alloc, fault.from, fault.to)?;
         disk.fail_kind(kind, call);
-        let (mut failed, was_failed) = imported(alloc, disk, &octets)?;
-        assert!(rt; was_failed, "{kind:?} {call}");
-        failed.crash(&[fault.pick]);
-        let store = opened(alloc, failed)?;
-        assert_eq!(rt; store.len(), (fault.left, fault.left), "{kind:?} {call}");
-        let (again, was_failed) = imported(alloc, store.into_disk(), &octets)?;
-        assert!(rt; !was_failed, "{kind:?} {call}");
-        let store = opened(alloc, again)?;
-        assert_eq!(rt; store.len(), (fault.all, fault.all), "{kind:?} {call}");
-        disk = store.into_disk();
+        let (crashed, first) = came_to(alloc, disk, &octets, Some(fault.pick))?;
+        let (whole, second) = came_to(alloc, crashed, &octets, None)?;
+        assert_eq!(rt; first, (true, fault.left, fault.left), "{kind:?} {call}");
+        assert_eq!(rt; second, (false, fault.all, fault.all), "{kind:?} {call}");
+        disk = whole;
     }
     Ok(())
 }

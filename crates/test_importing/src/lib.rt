@@ -6,6 +6,8 @@ mod devices;
 #[cfg(test)]
 mod formats;
 #[cfg(test)]
+mod octets;
+#[cfg(test)]
 mod outcomes;
 #[cfg(test)]
 mod streams;

@@ -1,10 +1,10 @@
 //! Batches, and all that their imports report.
 
+use crate::octets::Octets;
 use crate::volumes::{articles, batch, store};
 use crate::watching::said;
 use std::rt::HostRuntime;
 use std::test::Fail;
-use test_support_rows::Octets;
 
 /// The name of a row, texts, the octets of the batch after them, and what the import reports.
 type Row<'a> = (&'a str, &'a [Octets<'a>], &'a [u8], &'a str);
@@ -184,7 +184,7 @@ fn rows() -> &'static [Row<'static>] {
 #[test]
 fn each_batch_is_filed_as_transfers_are(rt: HostRuntime) -> Result<(), Fail> {
     let alloc = rt.alloc();
-    let mut store = store(&rt, alloc).ok_or("no volume")?;
+    let mut store = store(alloc)?;
     for (name, texts, rest, expected) in rows() {
         let octets = batch(alloc, texts, rest)?;
         let found = said(alloc, &mut store, &octets)?;
@@ -197,7 +197,7 @@ fn each_batch_is_filed_as_transfers_are(rt: HostRuntime) -> Result<(), Fail> {
 #[test]
 fn a_full_volume_ends_an_import(rt: HostRuntime) -> Result<(), Fail> {
     let alloc = rt.alloc();
-    let mut store = store(&rt, alloc).ok_or("no volume")?;
+    let mut store = store(alloc)?;
     let octets = articles(alloc, 0, 60)?;
     let found = said(alloc, &mut store, &octets)?;
     assert_eq!(rt;

@@ -1,11 +1,12 @@
 //! Streams that fail within a batch: what came before is durable and counted.
 
+use crate::octets::Octets;
 use crate::volumes::{articles, batch, store};
 use crate::watching::{Log, said_to};
+use std::alloc::Global;
 use std::io::{self, ErrorKind, Read};
 use std::rt::HostRuntime;
 use std::test::Fail;
-use test_support_rows::Octets;
 
 /// Octets after which a read fails.
 #[derive(Drop)]
@@ -25,7 +26,7 @@ impl<'a> Read for Torn<'a> {
 #[test]
 fn a_read_that_fails_ends_an_import(rt: HostRuntime) -> Result<(), Fail> {
     let alloc = rt.alloc();
-    let mut store = store(&rt, alloc).ok_or("no volume")?;
+    let mut store = store(alloc)?;
     let octets = articles(alloc, 0, 3)?;
     let mut input = Torn { octets: &octets };
     let found = said_to(alloc, &mut store, &mut input, Log::new(alloc))?;
@@ -37,14 +38,19 @@ fn a_read_that_fails_ends_an_import(rt: HostRuntime) -> Result<(), Fail> {
     Ok(())
 }
 
-/// A text that is refused after one that is filed.
-#[test]
-fn a_refusal_that_cannot_be_told_ends_an_import(rt: HostRuntime) -> Result<(), Fail> {
-    let alloc = rt.alloc();
-    let mut store = store(&rt, alloc).ok_or("no volume")?;
+/// A text that is refused between two that are not.
+fn refused_in_between(alloc: Global) -> Result<Vec<u8>, Fail> {
     let mut octets = articles(alloc, 0, 1)?;
     octets.extend_from_slice(&batch(alloc, &[Octets::Are(b"Path: p\n")], b"")?)?;
     octets.extend_from_slice(&articles(alloc, 1, 2)?)?;
+    Ok(octets)
+}
+
+#[test]
+fn a_refusal_that_cannot_be_told_ends_an_import(rt: HostRuntime) -> Result<(), Fail> {
+    let alloc = rt.alloc();
+    let mut store = store(alloc)?;
+    let octets = refused_in_between(alloc)?;
     let mut input = octets.as_slice();
     let found = said_to(alloc, &mut store, &mut input, Log::deaf(alloc))?;
     assert_eq!(rt;

@@ -1,16 +1,10 @@
 //! Devices with a volume that has two groups, and batches for them.
 
+use crate::octets::Octets;
 use disk_memory::MemDisk;
-use journal_volume::BatchBuf;
-use kernel::{OpenError, Opened};
-use kernel_locked::Locked;
-use kernel_shared::{Kern, NoHooks, SESSIONS};
 use model::{Moment, Status};
-use server_flusher::{TurnSeat, flush_turn};
-use server_mark::Mark;
 use std::alloc::{AllocError, Global};
-use std::sync::Wait;
-use test_support_rows::Octets;
+use std::test::Fail;
 use text_names::{Description, GroupName, GroupRequest, is_host};
 use text_rnews::entry;
 use volume_new::{FORMAT_1, FORMAT_3, VolumePlan, are_sizes, device_octets};
@@ -49,69 +43,44 @@ pub(crate) fn formatted(alloc: Global, blocks: u64, inodes: u64, format: u32) ->
 }
 
 /// A device whose volume has the groups, in closed segments: an opening writes nothing.
-pub(crate) fn device<R: Wait>(rt: &R, alloc: Global, blocks: u64, inodes: u64) -> Option<MemDisk> {
-    let disk = with_groups(rt, alloc, formatted(alloc, blocks, inodes, FORMAT_3)?)?;
-    match kernel::open(alloc, disk, SESSIONS) {
-        Ok(Opened { journal, kernel: _ }) => Some(journal.into_disk()),
-        Err(_) => None,
-    }
+pub(crate) fn device(alloc: Global, blocks: u64, inodes: u64) -> Result<MemDisk, Fail> {
+    let disk = formatted(alloc, blocks, inodes, FORMAT_3).ok_or("no volume")?;
+    let disk = with_groups(alloc, opened(alloc, disk)?).ok_or("no groups")?;
+    Ok(opened(alloc, disk)?.into_disk())
 }
 
-/// A group with this name and status.
-fn request(alloc: Global, name: &[u8], status: Status) -> Option<GroupRequest> {
-    Some(GroupRequest {
+/// Makes the groups in a volume, and answers its device.
+fn with_groups(alloc: Global, store: Store<MemDisk>) -> Option<MemDisk> {
+    let mut store = store;
+    add_group(alloc, &mut store, OPEN, Status::Open)?;
+    add_group(alloc, &mut store, CLOSED, Status::Closed)?;
+    store.commit().ok()?;
+    Some(store.into_disk())
+}
+
+/// Makes a group with this name and status.
+fn add_group(alloc: Global, store: &mut Store<MemDisk>, name: &[u8], status: Status) -> Option<()> {
+    let group = GroupRequest {
         name: GroupName::read(name).ok()?,
         status,
         description: Description::read(alloc, b"test").ok()?,
         moment: Moment::at(MOMENT)?,
-    })
-}
-
-/// Makes the groups in a volume.
-fn with_groups<R: Wait>(rt: &R, alloc: Global, disk: MemDisk) -> Option<MemDisk> {
-    let Ok(
-        Opened {
-            mut journal,
-            kernel,
-        },
-    ) = kernel::open(alloc, disk, SESSIONS)
-    else {
-        return None;
     };
-    let kern = Locked::new(kernel);
-    let open = request(alloc, OPEN, Status::Open)?;
-    kern.admin(rt, alloc, &open).ok()?;
-    let closed = request(alloc, CLOSED, Status::Closed)?;
-    kern.admin(rt, alloc, &closed).ok()?;
-    let mut batch = BatchBuf::new(alloc).ok()?;
-    let Ok((mark, seat, _)) = Mark::new(alloc) else {
-        return None;
-    };
-    let mut seat = TurnSeat::new(seat);
-    flush_turn(
-        rt,
-        &mut journal,
-        &kern,
-        &mark,
-        &mut seat,
-        &mut batch,
-        &NoHooks,
-    )
-    .ok()?;
-    Some(journal.into_disk())
+    store.make_room().ok()?;
+    store.add_group(&group).ok()?;
+    Some(())
 }
 
 /// A store in a volume with room for a few texts.
-pub(crate) fn store<R: Wait>(rt: &R, alloc: Global) -> Option<Store<MemDisk>> {
-    let disk = device(rt, alloc, 1024, 64)?;
-    Store::open(alloc, disk).ok()
+pub(crate) fn store(alloc: Global) -> Result<Store<MemDisk>, Fail> {
+    opened(alloc, device(alloc, 1024, 64)?)
 }
 
 /// Opens the volume on a device.
-pub(crate) fn opened(alloc: Global, disk: MemDisk) -> Result<Store<MemDisk>, OpenError> {
+pub(crate) fn opened(alloc: Global, disk: MemDisk) -> Result<Store<MemDisk>, Fail> {
     match Store::open(alloc, disk) {
         Ok(store) => Ok(store),
-        Err(refused) => Err(refused.error),
+        Err(refused) => Err(refused.error)?,
     }
 }
 

@@ -61,14 +61,19 @@ fn new_kernel(alloc: Global) -> Option<Kernel> {
     Kernel::open(alloc, &mut journal, SESSIONS).ok()
 }
 
-/// Whether the group `x.a` was made, and its change is durable.
-fn makes_group<R: Wait>(rt: &R, alloc: Global, kernel: &Mutex<Kernel>) -> Option<()> {
-    let group = GroupRequest {
+/// The group `x.a`.
+fn group(alloc: Global) -> Option<GroupRequest> {
+    Some(GroupRequest {
         name: GroupName::read(b"x.a").ok()?,
         status: Status::Open,
         description: Description::read(alloc, b"test").ok()?,
         moment: post_moment()?,
-    };
+    })
+}
+
+/// Whether the group `x.a` was made, and its change is durable.
+fn makes_group<R: Wait>(rt: &R, alloc: Global, kernel: &Mutex<Kernel>) -> Option<()> {
+    let group = group(alloc)?;
     let mut batch = BatchBuf::new(alloc).ok()?;
     let mut kernel = kernel.lock(rt);
     kernel.admin(alloc, &group).ok()?;

@@ -1,6 +1,7 @@
 //! Tests of the largest volume.
 
 use crate::files::{commit, crashed, formatted, opened, read_file, write_file};
+use crate::sparse::Sparse;
 use std::alloc::Global;
 
 const BLOCKS: u64 = 4_194_304;
@@ -21,14 +22,18 @@ struct Found {
     is_sparse: bool,
 }
 
-/// A volume of this many blocks is made and opened. One file is committed, and another is not; then the device crashes,
-/// and is opened again.
-fn lived(alloc: Global, blocks: u64) -> Option<Found> {
+/// A volume of this many blocks is made and opened. One file is committed, and another is not; then the device crashes.
+fn left(alloc: Global, blocks: u64) -> Option<Sparse> {
     let mut open = opened(alloc, formatted(alloc, blocks)?)?;
     write_file(alloc, &mut open, b"first", TEXT)?;
     commit(alloc, &mut open)?;
     write_file(alloc, &mut open, b"second", TEXT)?;
-    let disk = crashed(open);
+    Some(crashed(open))
+}
+
+/// What such a device keeps, and what is found in it when it is opened again.
+fn lived(alloc: Global, blocks: u64) -> Option<Found> {
+    let disk = left(alloc, blocks)?;
     let is_sparse = disk.kept() < MANY;
     let open = opened(alloc, disk)?;
     let first = read_file(alloc, &open, b"first")?;

@@ -1,5 +1,6 @@
 //! A kernel that counts the groups and the expiries that it is asked for, and makes none.
 
+use copy_portions::Portion;
 use journal_volume::BatchBuf;
 use kernel_expiring::{AgedArticles, AgedGroup, GonePart};
 use kernel_outbox::ReadyBuf;
@@ -7,7 +8,8 @@ use kernel_shared::{
     AdminError, Admitted, ExecError, ExecOutcome, ExpireError, Expired, JoinError, Kern,
     KernelCounts, Obstacle, Receipt, Stale, Ticket,
 };
-use model::{Message, Mode, Moment, Text};
+use model::{Mode, Moment, Text};
+use session_received::Received;
 use std::alloc::Global;
 use std::sync::Wait;
 use std::sync::atomic::{AtomicBool, AtomicU64, Ordering};
@@ -80,7 +82,7 @@ impl Kern for Counting {
         _rt: &R,
         _alloc: Global,
         _sid: u64,
-        _message: &Message,
+        _received: Received<'_>,
         _moment: Moment,
         _into: &mut ReadyBuf,
     ) -> Result<ExecOutcome, ExecError> {
@@ -91,13 +93,7 @@ impl Kern for Counting {
         None
     }
 
-    fn asks_for_few<R: Wait>(
-        &self,
-        _rt: &R,
-        _alloc: Global,
-        _message: &Message,
-        _moment: Moment,
-    ) -> bool {
+    fn asks_for_few<R: Wait>(&self, _rt: &R, _received: &Received<'_>, _moment: Moment) -> bool {
         false
     }
 
@@ -162,6 +158,8 @@ impl Kern for Counting {
     fn take_batch<R: Wait>(&self, _rt: &R, _into: &mut BatchBuf) -> Option<Ticket> {
         None
     }
+
+    fn copy_clean<R: Wait>(&self, _rt: &R, _numbers: &[u32], _into: &mut Portion) {}
 
     fn committed<R: Wait>(&self, _rt: &R, _ticket: Ticket, _receipt: Receipt) -> Result<(), Stale> {
         Err(Stale)

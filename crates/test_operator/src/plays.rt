@@ -4,6 +4,7 @@ ghost use Rattle.std.specs.Prelude.{◌≡◌};
 
 use crate::kernels::Counting;
 use crate::streams::{Answers, Lines};
+use crossbeam_channel::unbounded;
 use disk_file::Counts;
 use kernel_shared::{Asking, Bells, Kern};
 use server_consoles::Operator;
@@ -144,6 +145,10 @@ fn answer_all<R: Wait + Clock>(operator: &Operator, alloc: Global, means: Means<
     let Ok(writers) = Writers::new(alloc, 0) else {
         return;
     };
+    // nobody takes copies here
+    let Ok((copies, _asked)) = unbounded(alloc) else {
+        return;
+    };
     let service = OperatorService {
         rt,
         alloc,
@@ -154,6 +159,7 @@ fn answer_all<R: Wait + Clock>(operator: &Operator, alloc: Global, means: Means<
         facts,
         writers: &writers,
         asking,
+        copies: &copies,
     };
     operator.answer_all(&service, seat)
 }

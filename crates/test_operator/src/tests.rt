@@ -56,26 +56,6 @@ fn lines_wait_for_an_operator_who_reads_nothing(rt: HostRuntime) -> Result<(), F
     Ok(())
 }
 
-#[test]
-fn a_line_before_the_stop_is_answered(rt: HostRuntime) -> Result<(), Fail> {
-    let mut lines = Vec::new(rt.alloc());
-    for _ in 0..4 {
-        push_line(&mut lines, 18)?;
-    }
-    let play = Play {
-        lines,
-        is_endless: false,
-        is_read: true,
-        durable: 1,
-        posts: 0,
-        stop: Stop::Groups(2),
-    };
-    let outcome = run(&rt, rt.alloc(), play).expect(&rt, "a play");
-    assert!(rt; outcome.is_in_time);
-    assert!(rt; outcome.text.as_slice() == b"1\nE1 Fault\nE4 Halted\nE4 Halted\n".as_slice());
-    Ok(())
-}
-
 /// What the operator sends and reads, and when the flusher stops.
 struct Row {
     name: &'static str,
@@ -87,31 +67,31 @@ struct Row {
     answers: &'static str,
 }
 
-#[test]
-fn a_refusal_waits_for_the_changes_that_it_may_report(rt: HostRuntime) -> Result<(), Fail> {
-    for (durable, answer) in [
-        (3, b"E12 NotFound\n".as_slice()),
-        (2, b"E1 Fault\n".as_slice()),
-    ] {
-        let mut lines = Vec::new(rt.alloc());
-        lines.extend_from_slice(b"expire x.a 1\n")?;
-        let play = Play {
-            lines,
-            is_endless: false,
-            is_read: true,
-            durable,
-            posts: 3,
-            stop: Stop::Groups(0),
-        };
-        let outcome = run(&rt, rt.alloc(), play).expect(&rt, "a play");
-        assert!(rt; outcome.is_in_time);
-        assert!(rt; outcome.text.as_slice() == answer);
-    }
-    Ok(())
-}
-
-/// The rows with `status`, `stop` and expiries by age.
-const ROWS: [Row; 12] = [
+const ROWS: &[Row] = &[
+    Row {
+        name: "a line before the stop is answered",
+        lines: "group x.a y 1 test\ngroup x.a y 1 test\ngroup x.a y 1 test\ngroup x.a y 1 test\n",
+        posts: 0,
+        durable: 1,
+        stop: Stop::Groups(2),
+        answers: "1\nE1 Fault\nE4 Halted\nE4 Halted\n",
+    },
+    Row {
+        name: "a refusal waits for the changes that it may report",
+        lines: "expire x.a 1\n",
+        posts: 3,
+        durable: 3,
+        stop: Stop::Groups(0),
+        answers: "E12 NotFound\n",
+    },
+    Row {
+        name: "a refusal is a fault if one of these changes is not durable",
+        lines: "expire x.a 1\n",
+        posts: 3,
+        durable: 2,
+        stop: Stop::Groups(0),
+        answers: "E1 Fault\n",
+    },
     Row {
         name: "what is old is taken out group by group, or listed",
         lines: "expire-older 30\nexpire-older 30 x.old\nlist-older 30 *,!x.old\nexpire-older 36500\nlist-older 1 x.new,y.*\nstop\n",
@@ -216,9 +196,14 @@ const ROWS: [Row; 12] = [
     },
 ];
 
+/// The rows, as a function, so that no proof of a test reads them.
+fn rows() -> &'static [Row] {
+    ROWS
+}
+
 #[test]
 fn lines_are_answered(rt: HostRuntime) -> Result<(), Fail> {
-    for row in &ROWS {
+    for row in rows() {
         let play = Play {
             lines: Vec::from_slice(rt.alloc(), row.lines.as_bytes())?,
             is_endless: false,

@@ -3,11 +3,15 @@
 //! A line `== NAME` of standard input begins a script that is played, a line `-- NAME` one that only later scripts use.
 //! The script consists of the lines up to the next of these. In it `$ WORD` is one of the program's words; without any
 //! they are `newsd sim --host news.example`. `+ N NAME` stands for the lines of an earlier script, N times. `> N` gives
-//! the output room for only N octets, prints how many are left, and gives the script's last line no LF.
+//! the output room for only N octets, prints how many are left, and gives the script's last line no LF. `? refusals` prints the
+//! words of each refusal in place of a run.
 #![tactic(auto)]
+
+mod refusals;
 
 use anyhow::{Result, anyhow};
 use program::{AfterRun, Question, ServeOptions, import, renew, run};
+use refusals::print_refusals;
 use std::alloc::{AllocError, Global};
 use std::fs::File;
 use std::io::{BufRead, BufReader, BufWriter, Write};
@@ -25,6 +29,8 @@ struct Script {
     is_played: bool,
     words: Vec<String>,
     room: Option<usize>,
+    /// It prints the words of each refusal.
+    tells_refusals: bool,
     lines: String,
 }
 
@@ -35,6 +41,7 @@ impl Script {
             is_played,
             words: Vec::new(alloc),
             room: None,
+            tells_refusals: false,
             lines: String::new(alloc),
         })
     }
@@ -47,6 +54,8 @@ impl Script {
             self.push_lines(used, earlier)?;
         } else if let Some(room) = line.strip_prefix("> ") {
             self.room = Some(room.parse::<usize>()?);
+        } else if line == "? refusals" {
+            self.tells_refusals = true;
         } else {
             self.lines.push_str(line)?;
             self.lines.push('\n')?;
@@ -73,6 +82,9 @@ impl Script {
         output: &mut W,
     ) -> Result<()> {
         writeln!(output, "== {}", self.name)?;
+        if self.tells_refusals {
+            return print_refusals(alloc, output);
+        }
         let mut faults = Vec::new(alloc);
         let status = match self.room {
             None => self.run(rt, alloc, self.lines.as_bytes(), output, &mut faults)?,
@@ -149,6 +161,20 @@ fn describe_question<W: Write>(output: &mut W, question: &Question<'_>) -> Resul
 
 /// Prints which server the words ask for.
 fn describe<W: Write>(output: &mut W, service: &ServeOptions<'_>) -> Result<()> {
+    describe_endpoints(output, service)?;
+    describe_limits(output, service)?;
+    if let Some(path) = service.metrics {
+        write!(output, ", metrics {path}")?;
+    }
+    if let Some(path) = service.control {
+        write!(output, ", control {path}")?;
+    }
+    writeln!(output)?;
+    Ok(())
+}
+
+/// Prints the volume, and where the server is called.
+fn describe_endpoints<W: Write>(output: &mut W, service: &ServeOptions<'_>) -> Result<()> {
     write!(output, "serves {} on", service.path)?;
     for endpoint in &service.endpoints {
         write!(output, " {endpoint}")?;
@@ -156,6 +182,11 @@ fn describe<W: Write>(output: &mut W, service: &ServeOptions<'_>) -> Result<()> 
     for endpoint in &service.proxied {
         write!(output, " proxied {endpoint}")?;
     }
+    Ok(())
+}
+
+/// Prints whom the server lets in, and how quiet it is.
+fn describe_limits<W: Write>(output: &mut W, service: &ServeOptions<'_>) -> Result<()> {
     let networks = service.networks.len();
     let quiet = if service.is_quiet { ", quiet" } else { "" };
     write!(output, ", networks {networks}{quiet}")?;
@@ -166,13 +197,6 @@ fn describe<W: Write>(output: &mut W, service: &ServeOptions<'_>) -> Result<()> 
     if let Some(most) = service.limits.posts_from {
         write!(output, ", posts {most}")?;
     }
-    if let Some(path) = service.metrics {
-        write!(output, ", metrics {path}")?;
-    }
-    if let Some(path) = service.control {
-        write!(output, ", control {path}")?;
-    }
-    writeln!(output)?;
     Ok(())
 }
 

@@ -4,6 +4,7 @@ use kernel_outbox::ReadyBuf;
 use kernel_shared::{Hooks, Kern, NoHooks};
 use model::{Message, Text};
 use server_releasing::{Hand, Limits, Shared};
+use session_received::Received;
 use std::alloc::Global;
 use std::net::{Net, TcpListener, TcpStream};
 use std::sync::Wait;
@@ -61,15 +62,22 @@ pub(crate) fn lets_go<R: Net<Listener = TcpListener, Stream = TcpStream> + Wait 
         batch: &store.batch,
     };
     session.writer().release(&shared, &mut Hand::new());
-    fill(&stage.near)?;
-    session.asks(b"DATE")?;
-    let since = Instant::now(rt).ok()?;
-    session.writer().send(&shared, &mut Hand::new());
-    let waited = since.elapsed(rt).ok()?;
+    let waited = waits_for_a_full_socket(&session)?;
     let is_gone = shared.kern.mode(rt, stage.sid).is_none();
     let mut caller = caller;
     let is_cut = !caller.reads(BYE) && !caller.reads(BYE);
     Some(is_gone && is_cut && is_between(waited, STALL_MILLIS, LATE_MILLIS))
+}
+
+/// How long a reply waits for a socket that takes nothing.
+fn waits_for_a_full_socket<R: Wait + Clock, K: Kern, H: Hooks>(
+    session: &Session<'_, R, K, H>,
+) -> Option<Duration> {
+    fill(&session.stage.near)?;
+    session.asks(b"DATE")?;
+    let since = Instant::now(session.rt()).ok()?;
+    session.writer().send(session.shared, &mut Hand::new());
+    since.elapsed(session.rt()).ok()
 }
 
 fn is_between(waited: Duration, least: u64, most: u64) -> bool {
@@ -143,7 +151,8 @@ fn reply_octets<R: Wait + Clock, K: Kern, H: Hooks>(session: &Session<'_, R, K, 
     let mut ready = ReadyBuf::new(*alloc).ok()?;
     let sid = session.stage.sid;
     let moment = moment()?;
-    kern.answer(*rt, *alloc, sid, &message, moment, &mut ready)
+    let received = Received::of(*alloc, &message);
+    kern.answer(*rt, *alloc, sid, received, moment, &mut ready)
         .ok()?;
     Some(ready.octets().len() as u64)
 }

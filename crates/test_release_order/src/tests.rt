@@ -1,5 +1,6 @@
-//! Tests of the orders and of callers that take little.
+//! Tests of the orders, of callers that take little, and of each fate that a block may have.
 
+use crate::leaving::{Fate, leave};
 use crate::plays::{Order, Then, play};
 use crate::races::race;
 use crate::stalls::{keeps, lets_go};
@@ -31,6 +32,21 @@ const ORDERS: [(Point, Then); 17] = [
     (Point::AfterGive, Then::End),
 ];
 
+/// What happens to blocks that are left. After the last one the kernel is halted.
+const FATES: [Fate; 11] = [
+    Fate::Accepted,
+    Fate::Refused,
+    Fate::Untold,
+    Fate::Filed,
+    Fate::TakenBack,
+    Fate::Dirty,
+    Fate::DirtyTakenBack,
+    Fate::Unsent,
+    Fate::Held,
+    Fate::Slow,
+    Fate::Halted,
+];
+
 #[test]
 fn no_order_loses_a_release(rt: HostRuntime) {
     let store = make_store(&rt, rt.alloc()).expect(&rt, "a store");
@@ -59,4 +75,18 @@ fn a_caller_that_takes_nothing_is_let_go(rt: HostRuntime) {
 #[test]
 fn a_caller_that_takes_little_is_not(rt: HostRuntime) {
     assert_eq!(rt; keeps(&rt, rt.alloc()), Some(true));
+}
+
+#[test]
+fn a_block_that_is_left_is_answered_once(rt: HostRuntime) {
+    let store = make_store(&rt, rt.alloc()).expect(&rt, "a store");
+    let mut number = 0u64;
+    for fate in FATES {
+        number = number.saturating_add(1);
+        assert_eq!(rt;
+            leave(&rt, rt.alloc(), &store, fate, number),
+            Some(true),
+            "{fate:?}"
+        );
+    }
 }

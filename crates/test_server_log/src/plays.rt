@@ -15,9 +15,7 @@ use std::sync::atomic::{AtomicBool, Ordering};
 use std::sync::{Arc, Wait};
 use std::thread::{Threads, join};
 use std::time::{Clock, Duration};
-use test_support_server::{
-    Hooked, Hooks, Lines, Operator, Setting, Stage, listen, new_device, open,
-};
+use test_support_server::{Hooked, Hooks, Lines, Operator, Setting, Stage, listen, open_new};
 
 /// The number of blocks that the server takes the volume to have: so few that the volume is nearly full at once.
 const FEW_BLOCKS: u64 = 1;
@@ -113,7 +111,14 @@ fn run<
     props: &Props,
     scene: Scene,
 ) -> Option<Result<(), ServeError>> {
-    let (journal, kernel) = open(alloc, new_device(alloc)?)?;
+    let operator = Operator {
+        rt: *rt,
+        is_due: Arc::try_clone(&props.have_left).ok()?,
+        first: b"group x.a y 1000000000 test\n",
+        last: b"stop\n",
+    };
+    let answers = props.answers.writer(rt).ok()?;
+    let (journal, kernel) = open_new(alloc)?;
     let Ok((mark, flush_seat, seat)) = Mark::new(alloc) else {
         return None;
     };
@@ -122,13 +127,6 @@ fn run<
     if scene == Scene::Fault {
         stage.fail(DiskCall::Sync, 1);
     }
-    let operator = Operator {
-        rt: *rt,
-        is_due: Arc::try_clone(&props.have_left).ok()?,
-        first: b"group x.a y 1000000000 test\n",
-        last: b"stop\n",
-    };
-    let answers = props.answers.writer(rt).ok()?;
     let log = Log::start(rt, alloc, props.logged.writer(rt).ok()?, Verbosity::All).ok()?;
     let setting = Setting {
         listeners,

@@ -66,6 +66,13 @@ fn serve<
         + Drop
         + 'static,
 >(rt: &R, alloc: Global, listener: &TcpListener, props: &Props, play: Play) -> Option<Served> {
+    let operator = Operator {
+        rt: *rt,
+        is_due: Arc::try_clone(&props.is_due).ok()?,
+        first: play.first,
+        last: play.last,
+    };
+    let answers = props.answers.writer(rt).ok()?;
     let disk = Lent::new(new_device(alloc)?, &props.place);
     let (journal, kernel) = open(alloc, disk)?;
     let Ok((mark, flush_seat, seat)) = Mark::new(alloc) else {
@@ -74,13 +81,6 @@ fn serve<
     let stage = Stage::new(journal, Locked::new(kernel), &mark, flush_seat, seat);
     let mut stage = stage.with_groups(rt, alloc)?;
     stage.fail(DiskCall::Sync, play.failing_sync);
-    let operator = Operator {
-        rt: *rt,
-        is_due: Arc::try_clone(&props.is_due).ok()?,
-        first: play.first,
-        last: play.last,
-    };
-    let answers = props.answers.writer(rt).ok()?;
     let log = silent_log(rt, alloc).ok()?;
     let hooks = Holding {
         rt,

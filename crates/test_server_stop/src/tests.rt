@@ -37,42 +37,49 @@ const FAILED: Left = Left {
     ..STOPPED
 };
 
-#[test]
-fn a_server_with_nothing_to_do_stops(rt: HostRuntime) {
-    assert_eq!(rt; stop(&rt, rt.alloc(), IDLE), Some(STOPPED));
+/// What a row shows, its play, and what the play has to leave.
+type Row = (&'static str, Play, Left);
+
+const ROWS: &[Row] = &[
+    ("a server with nothing to do stops", IDLE, STOPPED),
+    (
+        "a stop commits and releases what callers post",
+        Play {
+            last: b"stop\nstop\n",
+            callers: Callers::Post,
+            ..IDLE
+        },
+        STOPPED,
+    ),
+    ("a stop of a device that fails is a fault", FAULT, FAILED),
+    (
+        "a stop after a fault waits for no caller",
+        Play {
+            first: b"group x.c y 1000000000 test\n",
+            last: b"stop\n",
+            callers: Callers::Late,
+            ..FAULT
+        },
+        FAILED,
+    ),
+    (
+        "a stop lets the last reply arrive",
+        Play {
+            callers: Callers::Ask,
+            ..IDLE
+        },
+        STOPPED,
+    ),
+];
+
+/// The rows, as a function, so that no proof of a test reads them.
+fn rows() -> &'static [Row] {
+    ROWS
 }
 
 #[test]
-fn a_stop_commits_and_releases_what_callers_post(rt: HostRuntime) {
-    let play = Play {
-        last: b"stop\nstop\n",
-        callers: Callers::Post,
-        ..IDLE
-    };
-    assert_eq!(rt; stop(&rt, rt.alloc(), play), Some(STOPPED));
-}
-
-#[test]
-fn a_stop_of_a_device_that_fails_is_a_fault(rt: HostRuntime) {
-    assert_eq!(rt; stop(&rt, rt.alloc(), FAULT), Some(FAILED));
-}
-
-#[test]
-fn a_stop_after_a_fault_waits_for_no_caller(rt: HostRuntime) {
-    let play = Play {
-        first: b"group x.c y 1000000000 test\n",
-        last: b"stop\n",
-        callers: Callers::Late,
-        ..FAULT
-    };
-    assert_eq!(rt; stop(&rt, rt.alloc(), play), Some(FAILED));
-}
-
-#[test]
-fn a_stop_lets_the_last_reply_arrive(rt: HostRuntime) {
-    let play = Play {
-        callers: Callers::Ask,
-        ..IDLE
-    };
-    assert_eq!(rt; stop(&rt, rt.alloc(), play), Some(STOPPED));
+fn each_stop_leaves_what_it_must(rt: HostRuntime) {
+    for (name, play, left) in rows() {
+        assert_eq!(rt; stop(&rt, rt.alloc(), *play), Some(*left), "{name}");
+    }
 }

@@ -55,7 +55,7 @@ impl Flags {
 }
 
 /// What is held, and until when, in a play.
-#[derive(Clone, Copy, PartialEq, Eq)]
+#[derive(Clone, Copy, Debug, PartialEq, Eq)]
 pub(crate) enum Holds {
     Nothing,
     /// Nothing is held, and the device fails at its first sync.

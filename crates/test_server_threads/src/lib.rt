@@ -1,4 +1,5 @@
-//! Tests of the server's running threads: both ends of each socket are in one process, and every wait is bounded.
+//! Tests of the server's running threads, and of the mark that they share: both ends of each socket are in one process, and
+//! every wait is bounded.
 #![tactic(auto)]
 
 #[cfg(test)]
@@ -9,5 +10,7 @@ mod hooks;
 mod kernels;
 #[cfg(test)]
 mod plays;
+#[cfg(test)]
+mod seats;
 #[cfg(test)]
 mod tests;

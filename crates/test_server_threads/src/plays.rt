@@ -26,7 +26,7 @@ use std::sync::{Arc, Wait};
 use std::thread::{Parker, Threads, join};
 use std::time::Clock;
 use test_support_server::{
-    BLOCKS, Hooked, Setting, Stage, add_group, listen, new_device, open, silent_log,
+    BLOCKS, Hooked, Setting, Stage, add_group, listen, open_new, silent_log,
 };
 
 /// The outcome of a play.
@@ -87,7 +87,7 @@ fn make_stage<'a, R: Wait>(
     requires looks { seats.1.mark ≡ mark.now }
 {
     let (flush_seat, mut seat) = seats;
-    let (journal, kernel) = open(alloc, new_device(alloc)?)?;
+    let (journal, kernel) = open_new(alloc)?;
     let watch = Watch::new(mark, mark.another(&mut seat));
     let kern = Hooked::new(kernel, Watching::new(watch, flags));
     Stage::new(journal, kern, mark, flush_seat, seat).with_groups(rt, alloc)
@@ -213,25 +213,38 @@ fn receipt_of<R: Wait>(
     }
 }
 
-/// The answers of a kernel to a ticket in time, to the same ticket again, and to that of a batch that a halt left in
-/// flight.
-pub(crate) fn tell<R: Wait>(rt: &R, alloc: Global) -> Option<[Result<(), Stale>; 3]> {
-    let (mut journal, kernel) = open(alloc, new_device(alloc)?)?;
-    let kern = Locked::new(kernel);
+/// Makes a group, and writes its batch to a journal. Answers the batch's ticket, and the receipt.
+fn write_group<R: Wait>(
+    rt: &R,
+    alloc: Global,
+    kern: &Locked,
+    journal: &mut Journal<MemDisk>,
+    name: &[u8],
+) -> Option<(Ticket, Receipt)>
+    requires { IsIdle journal.old }
+    ensures { IfSome result (λ written. written.1.last ≡ written.0.last) }
+{
     let Ok(mut batch) = BatchBuf::new(alloc) else {
         return None;
     };
-    add_group(rt, alloc, &kern, b"x.a")?;
+    add_group(rt, alloc, kern, name)?;
     let ticket = kern.take_batch(rt, &mut batch)?;
-    let receipt = receipt_of(rt, &mut journal, &batch, ticket)?;
+    let receipt = receipt_of(rt, journal, &batch, ticket)?;
+    Some((ticket, receipt))
+}
+
+/// The answers of a kernel to a ticket in time, to the same ticket again, and to that of a batch that a halt left in
+/// flight.
+pub(crate) fn tell<R: Wait>(rt: &R, alloc: Global) -> Option<[Result<(), Stale>; 3]> {
+    let (mut journal, kernel) = open_new(alloc)?;
+    let kern = Locked::new(kernel);
+    let (ticket, receipt) = write_group(rt, alloc, &kern, &mut journal, b"x.a")?;
     let in_time = kern.committed(rt, ticket, receipt);
     let again = kern.committed(rt, ticket, receipt);
-    add_group(rt, alloc, &kern, b"x.b")?;
-    let ticket = kern.take_batch(rt, &mut batch)?;
+    // a receipt of a journal of another device
+    let (mut journal, _) = open_new(alloc)?;
+    let (ticket, receipt) = write_group(rt, alloc, &kern, &mut journal, b"x.b")?;
     kern.halt(rt);
-    // that of a journal of another device
-    let (mut journal, _) = open(alloc, new_device(alloc)?)?;
-    let receipt = receipt_of(rt, &mut journal, &batch, ticket)?;
     Some([in_time, again, kern.committed(rt, ticket, receipt)])
 }
 

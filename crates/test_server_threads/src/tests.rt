@@ -15,54 +15,44 @@ const GOOD: Outcome = Outcome {
     answered: 0,
 };
 
-/// `3` and LF.
-const SERIAL_THREE: u64 = 0x330a;
+/// One whose operator was answered with the serial 3: `3` and LF.
+const TOLD: Outcome = Outcome {
+    answered: 0x330a,
+    ..GOOD
+};
 
-#[test]
-fn a_client_reads_its_replies(rt: HostRuntime) {
-    assert_eq!(rt; play(&rt, rt.alloc(), Holds::Nothing), Some(GOOD));
+/// One whose device failed.
+const FAULT: Outcome = Outcome {
+    ended: ServeError::Fault,
+    ..GOOD
+};
+
+const PLAYS: &[(Holds, Outcome)] = &[
+    // a client reads its replies
+    (Holds::Nothing, GOOD),
+    // a flush and commands overlap
+    (Holds::Flush, GOOD),
+    // another session's post commits while a release is held
+    (Holds::Release, GOOD),
+    // what commits while a line is taken is released
+    (Holds::Taken, GOOD),
+    // the operator's serial waits for the mark
+    (Holds::Answer, TOLD),
+    // a fault ends the server, though the operator reads nothing
+    (Holds::Fault, FAULT),
+    (Holds::Unread, FAULT),
+];
+
+/// The plays, as a function, so that no proof of a test reads them.
+fn plays() -> &'static [(Holds, Outcome)] {
+    PLAYS
 }
 
 #[test]
-fn a_flush_and_commands_overlap(rt: HostRuntime) {
-    assert_eq!(rt; play(&rt, rt.alloc(), Holds::Flush), Some(GOOD));
-}
-
-#[test]
-fn another_sessions_post_commits_while_a_release_is_held(rt: HostRuntime) {
-    assert_eq!(rt; play(&rt, rt.alloc(), Holds::Release), Some(GOOD));
-}
-
-#[test]
-fn what_commits_while_a_line_is_taken_is_released(rt: HostRuntime) {
-    assert_eq!(rt; play(&rt, rt.alloc(), Holds::Taken), Some(GOOD));
-}
-
-#[test]
-fn the_operators_serial_waits_for_the_mark(rt: HostRuntime) {
-    let told = Outcome {
-        answered: SERIAL_THREE,
-        ..GOOD
-    };
-    assert_eq!(rt; play(&rt, rt.alloc(), Holds::Answer), Some(told));
-}
-
-#[test]
-fn a_fault_ends_the_server(rt: HostRuntime) {
-    let ended = Outcome {
-        ended: ServeError::Fault,
-        ..GOOD
-    };
-    assert_eq!(rt; play(&rt, rt.alloc(), Holds::Fault), Some(ended));
-}
-
-#[test]
-fn a_fault_ends_the_server_though_the_operator_reads_nothing(rt: HostRuntime) {
-    let ended = Outcome {
-        ended: ServeError::Fault,
-        ..GOOD
-    };
-    assert_eq!(rt; play(&rt, rt.alloc(), Holds::Unread), Some(ended));
+fn each_play_ends_as_it_must(rt: HostRuntime) {
+    for (holds, wanted) in plays() {
+        assert_eq!(rt; play(&rt, rt.alloc(), *holds), Some(*wanted), "{holds:?}");
+    }
 }
 
 #[test]

@@ -12,6 +12,10 @@ pub(crate) enum RowError {
     NoRows,
     #[error("no spool")]
     NoSpool,
+    #[error("no volume")]
+    NoVolume,
+    #[error("no change")]
+    NoChange,
     #[error("no memory")]
     Memory,
 }

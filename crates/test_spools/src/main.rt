@@ -1,8 +1,8 @@
-//! Makes the calls of spools in files over volumes in memory, and prints what each answers.
+//! Makes the calls of spools in files over volumes in memory, renews these spools, and prints what each row answers.
 //!
 //! A line `== NAME` of standard input begins a script that is played, a line `-- NAME` one that only later scripts use.
 //! The script consists of the rows up to the next of these. In it `+ NAME` stands for the rows of an earlier script.
-//! Each script has a new spool. A row is printed with its answer, `ROW -> ANSWER`. A line `# TEXT` is a remark, and is
+//! Each script has a new spool of the host news.example, and no new volume yet. A row is printed with its answer, `ROW -> ANSWER`. A line `# TEXT` is a remark, and is
 //! printed too.
 //!
 //! | Row | What it asks |
@@ -13,12 +13,19 @@
 //! | `change SERIAL WANTED` | whether the change is this one |
 //! | `find QUESTION`, `text QUESTION` | a number, or a text |
 //! | `dirty`, `carry`, `reopen` | the dirty blocks; takes them as a batch; opens what the batches have written |
+//! | `volume BLOCKS INODES HOST` | makes a new volume. With `write N` or `sync N` behind that, its n-th such call since the opening fails |
+//! | `renew` | renews the spool onto the new volume, and counts what the watcher was told |
+//! | `short SERIAL` | what the new volume has too little of for this change |
+//! | `open` | opens the new volume again, and counts its changes |
+//! | `renewed SERIAL` | the text of this change on the new volume |
 #![tactic(auto)]
 
 mod errors;
+mod renewals;
 mod scripts;
 mod shown;
 mod stage;
+mod volumes;
 mod words;
 
 use anyhow::Result;

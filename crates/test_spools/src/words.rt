@@ -1,6 +1,8 @@
 //! The words of a row.
 
 use crate::errors::RowError;
+use crate::volumes::NewVolume;
+use disk::DiskCall;
 use model::Status;
 use test_support_spool::{Asked, Call, Sent, Sought, Wanted};
 
@@ -34,7 +36,7 @@ impl<'a> Words<'a> {
     }
 
     /// The next word, which is a number.
-    fn number(&mut self) -> Result<u64, RowError> {
+    pub(crate) fn number(&mut self) -> Result<u64, RowError> {
         self.next().parse::<u64>().ok().ok_or(RowError::Unreadable)
     }
 
@@ -49,6 +51,29 @@ impl<'a> Words<'a> {
             .parse::<usize>()
             .ok()
             .ok_or(RowError::Unreadable)
+    }
+
+    /// `BLOCKS INODES HOST`, and perhaps `write N` or `sync N`: a new volume.
+    pub(crate) fn volume(&mut self) -> Result<NewVolume<'a>, RowError> {
+        let blocks = self.number()?;
+        let inodes = self.number()?;
+        let host = self.next();
+        let kind = match self.next() {
+            "sync" => DiskCall::Sync,
+            _ => DiskCall::Write,
+        };
+        let call = if self.rest.is_empty() {
+            0
+        } else {
+            self.number()?
+        };
+        Ok(NewVolume {
+            blocks,
+            inodes,
+            host,
+            kind,
+            call,
+        })
     }
 
     fn status(&mut self) -> Result<Status, RowError> {

@@ -31,11 +31,7 @@ impl Caller {
         alloc: Global,
     ) -> Option<(TcpStream, Caller)> {
         let listener = TcpListener::bind(rt, SocketAddr::from((Ipv4Addr::LOCALHOST, 0))).ok()?;
-        let stream = TcpStream::connect(rt, listener.local_addr().ok()?).ok()?;
-        stream
-            .set_read_timeout(Some(Duration::from_secs(READ_SECS)))
-            .ok()?;
-        let replies = BufReader::new(alloc, stream).ok()?;
+        let replies = replies_from(rt, alloc, listener.local_addr().ok()?)?;
         let (near, _) = listener.accept().ok()?;
         near.set_nodelay(true).ok()?;
         Some((near, Caller { replies, alloc }))
@@ -66,6 +62,19 @@ impl Caller {
         let count = self.replies.read(piece).ok()?;
         Some(count as u64)
     }
+}
+
+/// A new connection, whose reads end in time.
+fn replies_from<R: Net<Listener = TcpListener, Stream = TcpStream>>(
+    rt: &R,
+    alloc: Global,
+    address: SocketAddr,
+) -> Option<BufReader<TcpStream>> {
+    let stream = TcpStream::connect(rt, address).ok()?;
+    stream
+        .set_read_timeout(Some(Duration::from_secs(READ_SECS)))
+        .ok()?;
+    BufReader::new(alloc, stream).ok()
 }
 
 /// Fills a socket, whose writes hardly wait, until it takes no more. It answers the number of octets; `None` if it was

@@ -1,6 +1,7 @@
 //! A kernel under its lock, before and after whose calls a thread stops.
 
 use crate::stops::{Point, Stop};
+use copy_portions::Portion;
 use journal_volume::BatchBuf;
 use kernel_expiring::{AgedGroup, GonePart};
 use kernel_locked::Locked;
@@ -9,7 +10,8 @@ use kernel_shared::{
     AdminError, Admitted, ExecError, ExecOutcome, ExpireError, Expired, JoinError, Kern,
     KernelCounts, Obstacle, Receipt, Stale, Ticket,
 };
-use model::{Message, Mode, Moment, Text};
+use model::{Mode, Moment, Text};
+use session_received::Received;
 use std::alloc::Global;
 use std::sync::Wait;
 use text_names::{GroupName, GroupRequest, Wildmat};
@@ -39,14 +41,14 @@ impl<'a> Kern for Side<'a> {
         rt: &R,
         alloc: Global,
         sid: u64,
-        message: &Message,
+        received: Received<'_>,
         moment: Moment,
         into: &mut ReadyBuf,
     ) -> Result<ExecOutcome, ExecError> {
         if self.stop.is_refused() {
             return Err(ExecError::LaterDirty);
         }
-        let answered = self.inner.answer(rt, alloc, sid, message, moment, into);
+        let answered = self.inner.answer(rt, alloc, sid, received, moment, into);
         self.stop.pass(rt, Point::AfterAnswer);
         answered
     }
@@ -55,14 +57,8 @@ impl<'a> Kern for Side<'a> {
         self.inner.obstacle(rt, id, groups)
     }
 
-    fn asks_for_few<R: Wait>(
-        &self,
-        rt: &R,
-        alloc: Global,
-        message: &Message,
-        moment: Moment,
-    ) -> bool {
-        self.inner.asks_for_few(rt, alloc, message, moment)
+    fn asks_for_few<R: Wait>(&self, rt: &R, received: &Received<'_>, moment: Moment) -> bool {
+        self.inner.asks_for_few(rt, received, moment)
     }
 
     fn give_ready<R: Wait>(&self, rt: &R, sid: u64, into: &mut ReadyBuf) -> bool {
@@ -104,6 +100,10 @@ impl<'a> Kern for Side<'a> {
 
     fn take_batch<R: Wait>(&self, rt: &R, into: &mut BatchBuf) -> Option<Ticket> {
         self.inner.take_batch(rt, into)
+    }
+
+    fn copy_clean<R: Wait>(&self, rt: &R, numbers: &[u32], into: &mut Portion) {
+        self.inner.copy_clean(rt, numbers, into);
     }
 
     fn committed<R: Wait>(&self, rt: &R, ticket: Ticket, receipt: Receipt) -> Result<(), Stale> {

@@ -16,6 +16,7 @@ use server_releasing::{
     Hand, Limits, ReplyWriter, Shared, TakenBack, Untold, Writers, give_short_writes,
 };
 use server_roster::Guest;
+use session_received::Received;
 use std::alloc::{AllocError, Global};
 use std::net::{Net, TcpListener, TcpStream};
 use std::sync::{Arc, Mutex, Wait};
@@ -59,19 +60,8 @@ impl Stage {
     ) -> Option<(Stage, Caller)> {
         let sid = kernel.join(rt, alloc).ok()?;
         let (near, caller) = Caller::connect(rt, alloc)?;
-        give_short_writes(&near).ok()?;
-        let near = Arc::new(alloc, near).ok()?;
-        let writing = Arc::try_clone(&near).ok()?;
-        let ending = Arc::try_clone(&near).ok()?;
-        let writers = Writers::new(alloc, 1).ok()?;
-        let writer = writers.make(rt, alloc)?;
-        let guest = Guest {
-            session: sid,
-            peer: near.peer_addr().ok()?,
-            since: moment()?,
-            socket: ending,
-        };
-        writer.begin(rt, &mut Hand::new(), guest, writing);
+        let near = shared_socket(alloc, near)?;
+        let writers = begun(rt, alloc, sid, &near)?;
         let stage = Stage {
             alloc,
             limits,
@@ -110,6 +100,38 @@ impl Stage {
             longest: &self.longest,
         }
     }
+}
+
+/// The server's end of a connection, whose writes are short.
+fn shared_socket(alloc: Global, near: TcpStream) -> Option<Arc<TcpStream, Global>> {
+    give_short_writes(&near).ok()?;
+    Arc::new(alloc, near).ok()
+}
+
+/// The writer of a session, which has begun.
+fn begun<R: Wait + Clock>(
+    rt: &R,
+    alloc: Global,
+    sid: u64,
+    near: &Arc<TcpStream, Global>,
+) -> Option<Writers> {
+    let guest = guest(sid, near)?;
+    let writing = Arc::try_clone(near).ok()?;
+    let writers = Writers::new(alloc, 1).ok()?;
+    writers
+        .make(rt, alloc)?
+        .begin(rt, &mut Hand::new(), guest, writing);
+    Some(writers)
+}
+
+/// The caller of a session.
+fn guest(sid: u64, near: &Arc<TcpStream, Global>) -> Option<Guest> {
+    Some(Guest {
+        session: sid,
+        peer: near.peer_addr().ok()?,
+        since: moment()?,
+        socket: Arc::try_clone(near).ok()?,
+    })
 }
 
 /// The most device calls of a batch that is carried home.
@@ -158,20 +180,24 @@ fn new_kernel(alloc: Global, blocks: u64, inodes: u64) -> Option<(Kernel, Journa
     Some((kernel, journal))
 }
 
-/// Makes a group that takes posts, whose change is durable.
+/// A group that takes posts.
+fn group(alloc: Global) -> Option<GroupRequest> {
+    Some(GroupRequest {
+        name: GroupName::read(b"x.a").ok()?,
+        status: Status::Open,
+        description: Description::read(alloc, b"test").ok()?,
+        moment: moment()?,
+    })
+}
+
+/// Makes that group, whose change is durable.
 fn add_group<R: Wait>(
     rt: &R,
     alloc: Global,
     kern: &Locked,
     journal: &mut Journal<MemDisk>,
 ) -> Option<()> {
-    let group = GroupRequest {
-        name: GroupName::read(b"x.a").ok()?,
-        status: Status::Open,
-        description: Description::read(alloc, b"test").ok()?,
-        moment: moment()?,
-    };
-    kern.admin(rt, alloc, &group).ok()?;
+    kern.admin(rt, alloc, &group(alloc)?).ok()?;
     let mut batch = BatchBuf::new(alloc).ok()?;
     let ticket = kern.take_batch(rt, &mut batch)?;
     let receipt = written(rt, journal, &batch, ticket)?;
@@ -291,8 +317,9 @@ impl<'a, R: Wait + Clock, K: Kern, H: Hooks> Session<'a, R, K, H> {
 
     fn has_answered(&self, message: &Message) -> Option<()> {
         let moment = moment()?;
+        let received = Received::of(self.shared.alloc, message);
         self.writer()
-            .answer(self.shared, &mut Hand::new(), message, moment)
+            .answer(self.shared, &mut Hand::new(), received, moment)
             .ok()?;
         Some(())
     }

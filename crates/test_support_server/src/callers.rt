@@ -24,11 +24,21 @@ pub fn listen<R: Net<Listener = TcpListener, Stream = TcpStream>>(rt: &R) -> Opt
 }
 
 /// A caller.
-#[derive(Drop)]
 pub struct Caller {
     stream: TcpStream,
     replies: BufReader<TcpStream>,
     alloc: Global,
+}
+
+// By hand: a crate of tests that drops one would otherwise prove the derived one again, field by field.
+impl Drop for Caller {
+    fn drop(self) {
+        let Caller {
+            stream: _,
+            replies: _,
+            alloc: _,
+        } = self;
+    }
 }
 
 impl Caller {

@@ -1,5 +1,6 @@
 //! A kernel two of whose calls a test can refuse.
 
+use copy_portions::Portion;
 use journal_volume::BatchBuf;
 use kernel::Kernel;
 use kernel_expiring::{AgedGroup, GonePart};
@@ -10,6 +11,7 @@ use kernel_shared::{
     KernelCounts, Obstacle, Receipt, Stale, Ticket,
 };
 use model::{Message, Mode, Moment, Text};
+use session_received::Received;
 use std::alloc::Global;
 use std::sync::Wait;
 use text_names::{GroupName, GroupRequest, Wildmat};
@@ -28,10 +30,16 @@ pub trait Hooks {
 }
 
 /// A kernel under its lock, and what is refused in its place.
-#[derive(Drop)]
 pub struct Hooked<H> {
     inner: Locked,
     hooks: H,
+}
+
+// By hand: a crate of tests that drops one would otherwise prove the derived one again, field by field.
+impl<H: Drop> Drop for Hooked<H> {
+    fn drop(self) {
+        let Hooked { inner: _, hooks: _ } = self;
+    }
 }
 
 impl<H> Hooked<H> {
@@ -61,13 +69,13 @@ impl<H: Hooks> Kern for Hooked<H> {
         rt: &R,
         alloc: Global,
         sid: u64,
-        message: &Message,
+        received: Received<'_>,
         moment: Moment,
         into: &mut ReadyBuf,
     ) -> Result<ExecOutcome, ExecError> {
-        match self.hooks.refusal_of(message) {
+        match self.hooks.refusal_of(received.message()) {
             Some(error) => Err(error),
-            None => self.inner.answer(rt, alloc, sid, message, moment, into),
+            None => self.inner.answer(rt, alloc, sid, received, moment, into),
         }
     }
 
@@ -75,14 +83,8 @@ impl<H: Hooks> Kern for Hooked<H> {
         self.inner.obstacle(rt, id, groups)
     }
 
-    fn asks_for_few<R: Wait>(
-        &self,
-        rt: &R,
-        alloc: Global,
-        message: &Message,
-        moment: Moment,
-    ) -> bool {
-        self.inner.asks_for_few(rt, alloc, message, moment)
+    fn asks_for_few<R: Wait>(&self, rt: &R, received: &Received<'_>, moment: Moment) -> bool {
+        self.inner.asks_for_few(rt, received, moment)
     }
 
     fn give_ready<R: Wait>(&self, rt: &R, sid: u64, into: &mut ReadyBuf) -> bool {
@@ -121,6 +123,10 @@ impl<H: Hooks> Kern for Hooked<H> {
 
     fn take_batch<R: Wait>(&self, rt: &R, into: &mut BatchBuf) -> Option<Ticket> {
         self.inner.take_batch(rt, into)
+    }
+
+    fn copy_clean<R: Wait>(&self, rt: &R, numbers: &[u32], into: &mut Portion) {
+        self.inner.copy_clean(rt, numbers, into);
     }
 
     fn committed<R: Wait>(&self, rt: &R, ticket: Ticket, receipt: Receipt) -> Result<(), Stale> {

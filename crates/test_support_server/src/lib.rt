@@ -15,5 +15,5 @@ pub use kernels::{Hooked, Hooks};
 pub use lines::{Lines, Writer};
 pub use operators::Operator;
 pub use stages::{Served, Setting, Stage, silent_log};
-pub use volumes::{BLOCKS, add_group, new_device, open};
+pub use volumes::{BLOCKS, add_group, new_device, open, open_new};
 pub use waits::{TURNS, sleep_until, turn_until};

@@ -10,9 +10,15 @@ use std::time::{Clock, Duration};
 const WAIT_MILLIS: u32 = 30_000;
 
 /// Lines that were written.
-#[derive(Drop)]
 pub struct Lines {
     text: Arc<Mutex<Vec<u8>>, Global>,
+}
+
+// By hand: a crate of tests that drops one would otherwise prove the derived one again, field by field.
+impl Drop for Lines {
+    fn drop(self) {
+        let Lines { text: _ } = self;
+    }
 }
 
 impl Lines {

@@ -62,6 +62,13 @@ pub fn open<D: Disk + Drop>(alloc: Global, disk: D) -> Option<(Journal<D>, Kerne
     }
 }
 
+/// A new volume, opened.
+pub fn open_new(alloc: Global) -> Option<(Journal<MemDisk>, Kernel)>
+    ensures { IfSome result (λ opened. IsReady opened.0) }
+{
+    open(alloc, new_device(alloc)?)
+}
+
 /// Makes a group that takes posts.
 pub fn add_group<K: Kern, R: Wait>(rt: &R, alloc: Global, kern: &K, name: &[u8]) -> Option<()> {
     let group = GroupRequest {

@@ -24,11 +24,21 @@ pub const COUNT: u32 = 1024;
 pub const HOST: &[u8] = b"news.example";
 
 /// A spool, and the octets of the blocks that batches have written.
-#[derive(Drop)]
 pub struct Stored {
     pub spool: Spool,
     octets: Vec<u8>,
     batch: BatchBuf,
+}
+
+// By hand: a crate of tests that drops one would otherwise prove the derived one again, field by field.
+impl Drop for Stored {
+    fn drop(self) {
+        let Stored {
+            spool: _,
+            octets: _,
+            batch: _,
+        } = self;
+    }
 }
 
 impl Stored {
@@ -54,6 +64,11 @@ impl Stored {
         self.spool.copy_dirty(&mut self.batch);
         lay(&mut self.octets, &self.batch);
         Some(self.batch.numbers().len())
+    }
+
+    /// The octets of the blocks, as the batches have written them.
+    pub fn octets(&self) -> &[u8] {
+        self.octets.as_slice()
     }
 
     /// Opens what the batches have written, in place of the spool. A refusal changes nothing.

@@ -88,20 +88,25 @@ fn answer_group(
     answer: &mut Answer,
 ) -> Result<(), RowError> {
     let serial = arguments.number()?;
-    let moment = moment_at(arguments.number()?)?;
-    let status = status_of(arguments.word()?)?;
-    let group = NewGroup {
-        name: Text::new(Vec::new(alloc)),
-        status,
-        description: Text::new(arguments.octets()?),
-        moment,
-    };
+    let group = read_new_group(alloc, arguments)?;
     let record = group_record(alloc, serial, &group)?;
     Ok(answer.octets(record.as_slice())?)
 }
 
+/// `MOMENT STATUS DESCRIPTION`.
+fn read_new_group(alloc: Global, arguments: &mut Arguments<'_>) -> Result<NewGroup, RowError> {
+    let moment = moment_at(arguments.number()?)?;
+    let status = status_of(arguments.word()?)?;
+    Ok(NewGroup {
+        name: Text::new(Vec::new(alloc)),
+        status,
+        description: Text::new(arguments.octets()?),
+        moment,
+    })
+}
+
 /// The status for which a word stands.
-pub fn status_of(word: &str) -> Result<Status, RowError> {
+fn status_of(word: &str) -> Result<Status, RowError> {
     match word {
         "y" => Ok(Status::Open),
         "n" => Ok(Status::Closed),
@@ -128,14 +133,22 @@ fn answer_article(
     answer: &mut Answer,
 ) -> Result<(), RowError> {
     let serial = arguments.number()?;
-    let moment = moment_at(arguments.number()?)?;
-    let text = arguments.octets()?;
-    let groups = read_names(alloc, arguments)?;
-    let envelope = Envelope { groups, moment };
+    let (envelope, text) = read_filing(alloc, arguments)?;
     match article(alloc, serial, &envelope, text.as_slice())? {
         Some(record) => Ok(answer.octets(record.as_slice())?),
         None => Err(RowError::Unreadable),
     }
+}
+
+/// `MOMENT TEXT GROUP ..`.
+fn read_filing(
+    alloc: Global,
+    arguments: &mut Arguments<'_>,
+) -> Result<(Envelope, Vec<u8>), RowError> {
+    let moment = moment_at(arguments.number()?)?;
+    let text = arguments.octets()?;
+    let groups = read_names(alloc, arguments)?;
+    Ok((Envelope { groups, moment }, text))
 }
 
 /// The names that the further arguments are.

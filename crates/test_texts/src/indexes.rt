@@ -9,7 +9,7 @@ use crate::files::read_names;
 use crate::moments::moment_at;
 use model::{Envelope, Names, NewGroup, Status, Text};
 use spool_groups::Group;
-use spool_index::{Index, Note};
+use spool_index::{Index, Lengths, Note};
 use std::alloc::{AllocError, Global};
 use test_support_data::{Answer, Area, Arguments, RowError};
 use text_names::is_wildmat;
@@ -55,7 +55,7 @@ impl Area for Indexes {
             "len" | "group_count" | "older_than" | "at" | "by_id" | "new_ids" => {
                 answer_whole(alloc, &self.index, call, arguments, answer)
             }
-            "kind" | "size" | "moment" | "groups" | "gone_at" | "is_id" => {
+            "kind" | "lengths" | "moment" | "groups" | "gone_at" | "is_id" => {
                 let serial = arguments.number()?;
                 answer_change(&self.index, call, serial, arguments, answer)
             }
@@ -97,22 +97,29 @@ fn make(alloc: Global, index: &mut Index, name: &[u8]) -> Result<bool, RowError>
     Ok(true)
 }
 
-/// `file ID SIZE LINES GROUP ..`: an article of this size in these groups. LINES are the sizes of its lines there, with
-/// a comma between them.
+/// `file ID TEXT HEADER LINES GROUP ..`: an article in these groups, whose text and header have so many octets. LINES are the
+/// sizes of its lines there, with a comma between them.
 fn file(
     alloc: Global,
     index: &mut Index,
     id: &[u8],
     arguments: &mut Arguments<'_>,
 ) -> Result<bool, RowError> {
-    let size = arguments.number()?;
+    let lengths = read_lengths(arguments)?;
     let sizes = read_sizes(alloc, arguments.word()?)?;
     let groups = read_names(alloc, arguments)?;
     let envelope = Envelope {
         groups,
         moment: moment_at(MOMENT)?,
     };
-    push_article(index, id, size, envelope, sizes.as_slice())
+    push_article(index, id, lengths, envelope, sizes.as_slice())
+}
+
+fn read_lengths(arguments: &mut Arguments<'_>) -> Result<Lengths, RowError> {
+    Ok(Lengths {
+        text: arguments.small()?,
+        header: arguments.small()?,
+    })
 }
 
 fn read_sizes(alloc: Global, word: &str) -> Result<Vec<u64>, RowError> {
@@ -130,7 +137,7 @@ fn read_sizes(alloc: Global, word: &str) -> Result<Vec<u64>, RowError> {
 fn push_article(
     index: &mut Index,
     id: &[u8],
-    size: u64,
+    lengths: Lengths,
     envelope: Envelope,
     sizes: &[u64],
 ) -> Result<bool, RowError> {
@@ -139,7 +146,7 @@ fn push_article(
     if count > MOST_GROUPS || count != sizes.len() || !small || !overviews_fit(index.groups()) {
         return Ok(false);
     }
-    index.push_article(id, size, envelope, sizes)?;
+    index.push_article(id, lengths, envelope, sizes)?;
     Ok(true)
 }
 
@@ -151,7 +158,11 @@ fn file_at(alloc: Global, index: &mut Index, id: &[u8], seconds: u64) -> Result<
         groups: Names::new(names),
         moment: moment_at(seconds)?,
     };
-    push_article(index, id, 100, envelope, &[10])
+    let lengths = Lengths {
+        text: 100,
+        header: 40,
+    };
+    push_article(index, id, lengths, envelope, &[10])
 }
 
 // Whether each overview is small enough for another article, as the filing of one requires.
@@ -219,7 +230,7 @@ fn answer_new_ids(
     Ok(answer.octets(found.as_slice())?)
 }
 
-/// What is asked of a change: `kind SERIAL`, `size SERIAL`, `moment SERIAL`, `groups SERIAL`: the number of groups that
+/// What is asked of a change: `kind SERIAL`, `lengths SERIAL`, `moment SERIAL`, `groups SERIAL`: the number of groups that
 /// an article was filed in, `gone_at SERIAL`, `is_id SERIAL ID`.
 fn answer_change(
     index: &Index,
@@ -230,13 +241,22 @@ fn answer_change(
 ) -> Result<(), RowError> {
     match call {
         "kind" => answer.word(kind(index, serial))?,
-        "size" => answer.found(index.size(serial))?,
+        "lengths" => answer_lengths(index.lengths(serial), answer)?,
         "moment" => answer.found(index.moment(serial))?,
         "groups" => answer.found(group_count(index, serial))?,
         "gone_at" => answer.found(index.gone_at(serial))?,
         _ => answer_is_id(index, serial, arguments.octets()?.as_slice(), answer)?,
     }
     Ok(())
+}
+
+/// The octets of an article and of its header.
+fn answer_lengths(lengths: Option<Lengths>, answer: &mut Answer) -> Result<(), AllocError> {
+    let Some(Lengths { text, header }) = lengths else {
+        return answer.word("none");
+    };
+    answer.number(u64::from(text))?;
+    answer.number(u64::from(header))
 }
 
 fn kind(index: &Index, serial: u64) -> &'static str {

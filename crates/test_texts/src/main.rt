@@ -15,7 +15,6 @@ mod name_texts;
 mod queues;
 mod released;
 mod script_lines;
-mod states;
 mod streams;
 
 use anyhow::{Result, anyhow};
@@ -30,7 +29,6 @@ use logged::LogLines;
 use name_texts::NameTexts;
 use queues::Queues;
 use script_lines::ScriptLines;
-use states::States;
 use std::alloc::Global;
 use std::io::{self, BufRead, BufReader, BufWriter, Write};
 use streams::Stream;
@@ -46,7 +44,6 @@ fn play_row<W: Write>(alloc: Global, row: &Row, texts: &Texts, output: &mut W) -
         "rnews" => play(alloc, &mut Batches, row, texts, output),
         "records" => play(alloc, &mut Files, row, texts, output),
         "networks" => play(alloc, &mut Callers, row, texts, output),
-        "reporting" => play(alloc, &mut States::new(), row, texts, output),
         "queues" => play(alloc, &mut Queues::new(alloc)?, row, texts, output),
         "outboxes" => play(alloc, &mut Boxes::new(alloc)?, row, texts, output),
         "index" => play(alloc, &mut Indexes::new(alloc), row, texts, output),

@@ -135,9 +135,7 @@ fn answer_dates(
     answer: &mut Answer,
 ) -> Result<(), RowError> {
     if call == "since" {
-        let date = arguments.octets()?;
-        let time = arguments.octets()?;
-        return answer_since(date.as_slice(), time.as_slice(), answer);
+        return answer_since(arguments, answer);
     }
     let moment = moment_at(arguments.number()?)?;
     answer.octets(date_reply(alloc, moment)?.as_slice())?;
@@ -145,8 +143,10 @@ fn answer_dates(
     Ok(())
 }
 
-fn answer_since(date: &[u8], time: &[u8], answer: &mut Answer) -> Result<(), RowError> {
-    match read_since(date, time, moment_at(NOW)?) {
+fn answer_since(arguments: &mut Arguments<'_>, answer: &mut Answer) -> Result<(), RowError> {
+    let date = arguments.octets()?;
+    let time = arguments.octets()?;
+    match read_since(date.as_slice(), time.as_slice(), moment_at(NOW)?) {
         Ok(seconds) => answer.signed(seconds)?,
         Err(SinceError::Bad) => answer.word("bad")?,
     }

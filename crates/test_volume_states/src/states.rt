@@ -8,10 +8,10 @@ use std::test::Fail;
 use test_support_spool::{Call, Sent};
 use volume_states::{Gone, GroupStatus, VolumeStatus};
 
-const HOST: &[u8] = b"news.example";
+pub(crate) const HOST: &[u8] = b"news.example";
 
 /// A group: its name, its lowest and its highest number, the number of articles, its status, the octets of its overview.
-type GroupRow = (&'static str, u64, u64, u64, Status, u32);
+pub(crate) type GroupRow = (&'static str, u64, u64, u64, Status, u32);
 
 /// The name of a row, the changes, the used blocks, the used inodes, the number of changes, what is gone, and the groups.
 type Row = (

@@ -4,7 +4,7 @@ ghost use Rattle.std.specs.Prelude.{IsTrue};
 ghost use Rattle.model.specs.Files.{HasRoom};
 
 use fs_blocks::{BLOCK_SIZE, Blocks};
-use journal_volume::{BATCH_BLOCKS, BatchBuf, Volume};
+use journal_volume::Volume;
 use spool_reading::ReadSpoolError;
 use std::alloc::Global;
 use std::test::Fail;
@@ -16,36 +16,8 @@ const INODES: u32 = 64;
 
 const COUNT: u32 = 1024;
 
-/// The octets of the empty file system: the bitmap marks its own two blocks, the block of the inodes and that of the
-/// slots.
-fn empty(alloc: Global) -> Result<Vec<u8>, Fail> {
-    let mut octets = vec![in alloc; 0; COUNT as usize * BLOCK_SIZE]?;
-    if let Some(marks) = octets.first_mut() {
-        *marks = 0x0f;
-    }
-    Ok(octets)
-}
-
-/// Replaces the octets of the blocks in a batch.
-fn lay(octets: &mut [u8], batch: &BatchBuf) {
-    for (number, image) in batch
-        .numbers()
-        .iter()
-        .zip(batch.images().chunks(BLOCK_SIZE))
-    {
-        let start = *number as usize * BLOCK_SIZE;
-        for (place, octet) in image.iter().enumerate() {
-            if let Some(replaced) = octets.get_mut(start.saturating_add(place)) {
-                *replaced = *octet;
-            }
-        }
-    }
-}
-
-/// The octets of the volume after some calls, whose answers are ignored.
+/// The octets of the volume after some calls, whose answers are ignored. Each call is a batch.
 pub(crate) fn octets_after(alloc: Global, calls: &[Call<'_>]) -> Result<Vec<u8>, Fail> {
-    let mut octets = empty(alloc)?;
-    let mut batch = BatchBuf::new(alloc)?;
     let Ok(mut stored) = Stored::new(alloc) else {
         return Err("no spool")?;
     };
@@ -53,13 +25,11 @@ pub(crate) fn octets_after(alloc: Global, calls: &[Call<'_>]) -> Result<Vec<u8>,
         if let Answer::Memory = make(alloc, &mut stored, *call) {
             return Err("memory")?;
         }
-        if stored.spool.dirty_len() > BATCH_BLOCKS {
+        if stored.carry().is_none() {
             return Err("too much at once")?;
         }
-        stored.spool.copy_dirty(&mut batch);
-        lay(&mut octets, &batch);
     }
-    Ok(octets)
+    Ok(stored.octets().to_vec(alloc)?)
 }
 
 /// Whether a volume has room for a spool.

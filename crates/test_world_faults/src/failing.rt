@@ -2,7 +2,7 @@
 
 use std::alloc::Global;
 use std::test::Fail;
-use test_support_batches::{
+use test_support_world::{
     Calls, Device, DiskCall, NotOpened, OpenError, Pick, Sim, SimError, batches, claims_all,
     claims_no_more, play, settling, shows,
 };

@@ -3,7 +3,7 @@
 use crate::failing::{crashed, way};
 use std::alloc::Global;
 use std::test::Fail;
-use test_support_batches::{
+use test_support_world::{
     Device, DiskCall, NotOpened, OpenError, Sim, SimError, batches, shows, with_open_segments,
 };
 

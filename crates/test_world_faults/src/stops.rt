@@ -4,7 +4,7 @@
 
 use std::alloc::Global;
 use std::test::Fail;
-use test_support_batches::{
+use test_support_world::{
     Calls, Device, Pick, Sim, SimError, batches, claims_committed, play, settling, shows,
 };
 
@@ -71,6 +71,14 @@ fn first_wrong(alloc: Global, epoch: u8, pick: Pick, gate: Gate) -> Result<Optio
     Ok(None)
 }
 
+/// Fails with the first step after which the opened changes are not the expected ones.
+fn are_right(alloc: Global, epoch: u8, pick: Pick, gate: Gate) -> Result<(), Fail> {
+    if let Some(step) = first_wrong(alloc, epoch, pick, gate)? {
+        return Err(step)?;
+    }
+    Ok(())
+}
+
 #[test]
 fn all_steps_of_the_script(rt: HostRuntime) -> Result<(), Fail> {
     let mut sim = Sim::new(rt.alloc())?;
@@ -83,100 +91,64 @@ fn all_steps_of_the_script(rt: HostRuntime) -> Result<(), Fail> {
 
 #[test]
 fn a_stop_after_each_step_that_keeps_the_old_octets(rt: HostRuntime) -> Result<(), Fail> {
-    assert_eq!(rt; first_wrong(rt.alloc(), 1, Pick::Old, Gate::Closed)?, None);
-    Ok(())
+    are_right(rt.alloc(), 1, Pick::Old, Gate::Closed)
 }
 
 #[test]
 fn a_stop_after_each_step_that_takes_the_new_octets(rt: HostRuntime) -> Result<(), Fail> {
-    assert_eq!(rt; first_wrong(rt.alloc(), 1, Pick::New, Gate::Open)?, None);
-    Ok(())
+    are_right(rt.alloc(), 1, Pick::New, Gate::Open)
 }
 
 #[test]
 fn a_stop_after_each_step_that_leaves_zeros(rt: HostRuntime) -> Result<(), Fail> {
-    assert_eq!(rt;
-        first_wrong(rt.alloc(), 1, Pick::Fill(0), Gate::Closed)?,
-        None
-    );
-    Ok(())
+    are_right(rt.alloc(), 1, Pick::Fill(0), Gate::Closed)
 }
 
 #[test]
 fn a_stop_after_each_step_that_leaves_ones(rt: HostRuntime) -> Result<(), Fail> {
-    assert_eq!(rt;
-        first_wrong(rt.alloc(), 1, Pick::Fill(1), Gate::Open)?,
-        None
-    );
-    Ok(())
+    are_right(rt.alloc(), 1, Pick::Fill(1), Gate::Open)
 }
 
 #[test]
 fn a_stop_after_each_step_that_leaves_twos(rt: HostRuntime) -> Result<(), Fail> {
-    assert_eq!(rt;
-        first_wrong(rt.alloc(), 1, Pick::Fill(2), Gate::Closed)?,
-        None
-    );
-    Ok(())
+    are_right(rt.alloc(), 1, Pick::Fill(2), Gate::Closed)
 }
 
 #[test]
 fn a_stop_after_each_step_that_leaves_other_octets(rt: HostRuntime) -> Result<(), Fail> {
-    assert_eq!(rt;
-        first_wrong(rt.alloc(), 1, Pick::Fill(0x4d), Gate::Closed)?,
-        None
-    );
-    Ok(())
+    are_right(rt.alloc(), 1, Pick::Fill(0x4d), Gate::Closed)
 }
 
 #[test]
 fn a_stop_after_each_step_that_keeps_the_old_octets_in_epoch_2(
     rt: HostRuntime,
 ) -> Result<(), Fail> {
-    assert_eq!(rt; first_wrong(rt.alloc(), 2, Pick::Old, Gate::Closed)?, None);
-    Ok(())
+    are_right(rt.alloc(), 2, Pick::Old, Gate::Closed)
 }
 
 #[test]
 fn a_stop_after_each_step_that_takes_the_new_octets_in_epoch_2(
     rt: HostRuntime,
 ) -> Result<(), Fail> {
-    assert_eq!(rt; first_wrong(rt.alloc(), 2, Pick::New, Gate::Open)?, None);
-    Ok(())
+    are_right(rt.alloc(), 2, Pick::New, Gate::Open)
 }
 
 #[test]
 fn a_stop_after_each_step_that_leaves_zeros_in_epoch_2(rt: HostRuntime) -> Result<(), Fail> {
-    assert_eq!(rt;
-        first_wrong(rt.alloc(), 2, Pick::Fill(0), Gate::Closed)?,
-        None
-    );
-    Ok(())
+    are_right(rt.alloc(), 2, Pick::Fill(0), Gate::Closed)
 }
 
 #[test]
 fn a_stop_after_each_step_that_leaves_ones_in_epoch_2(rt: HostRuntime) -> Result<(), Fail> {
-    assert_eq!(rt;
-        first_wrong(rt.alloc(), 2, Pick::Fill(1), Gate::Closed)?,
-        None
-    );
-    Ok(())
+    are_right(rt.alloc(), 2, Pick::Fill(1), Gate::Closed)
 }
 
 #[test]
 fn a_stop_after_each_step_that_leaves_twos_in_epoch_2(rt: HostRuntime) -> Result<(), Fail> {
-    assert_eq!(rt;
-        first_wrong(rt.alloc(), 2, Pick::Fill(2), Gate::Open)?,
-        None
-    );
-    Ok(())
+    are_right(rt.alloc(), 2, Pick::Fill(2), Gate::Open)
 }
 
 #[test]
 fn a_stop_after_each_step_that_leaves_other_octets_in_epoch_2(rt: HostRuntime) -> Result<(), Fail> {
-    assert_eq!(rt;
-        first_wrong(rt.alloc(), 2, Pick::Fill(0x4d), Gate::Closed)?,
-        None
-    );
-    Ok(())
+    are_right(rt.alloc(), 2, Pick::Fill(0x4d), Gate::Closed)
 }

@@ -7,7 +7,7 @@ use crate::tally::Tally;
 use crate::words::Words;
 use program_script::escaped;
 use std::alloc::{AllocError, Global};
-use test_support_batches::shows;
+use test_support_world::shows;
 
 /// Does what a row asks. Answers `None` if the row has no answer.
 pub(crate) fn answer(

@@ -19,6 +19,7 @@ use fs_layout::inodes::{FEWEST_DATA, MOST_INODES, first_data};
 pub use journal_layout::layout::MOST_BLOCKS;
 use journal_layout::layout::{FEWEST_BLOCKS, SEGMENTS, home_block, start_of};
 pub use laws::an_image_stands;
+pub use new_superblock::superblock;
 use std::alloc::{AllocError, Global};
 
 /// The number of octets of a label.

@@ -9,8 +9,8 @@ use journal_layout::layout::{BLOCK, FORMAT_2_AT, LABEL_AT, MAGIC, SEGMENTS, VERS
 use journal_layout::{gate_2_of, gate_3_of};
 use std::alloc::{AllocError, Global};
 
-/// The superblock of a volume of this format with this many blocks.
-pub(crate) fn superblock(
+/// The superblock of a volume of this format with this many blocks and eight segments (docs/FORMATS.md). Refused only for want of memory.
+pub fn superblock(
     alloc: Global,
     blocks: u32,
     label: &[u8],

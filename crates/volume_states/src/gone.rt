@@ -43,12 +43,12 @@ fn share_with(alloc: Global, index: &Index, serial: u64) -> Result<Gone, AllocEr
     if index.gone_at(serial).is_none() {
         return Ok(NOTHING);
     }
-    let (Some(size), Some(groups)) = (index.size(serial), index.groups_of(serial)) else {
+    let (Some(lengths), Some(groups)) = (index.lengths(serial), index.groups_of(serial)) else {
         return Ok(NOTHING);
     };
     let mut id = Vec::new(alloc);
     index.push_id(serial, &mut id)?;
-    share_of(alloc, &id, size, groups)
+    share_of(alloc, &id, lengths.text as u64, groups)
 }
 
 /// What an article counts for that is gone, with this message-id, a text of so many octets, and these groups in which

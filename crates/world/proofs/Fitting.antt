@@ -70,7 +70,7 @@ is_synchronous served h p le image stands =
 -- ---- what the journal admits
 
 -- an image of a volume whose blocks hold these changes, in no lower format than the journal has
-stands_for : {D : Type 0} (tells : Bool) (world : WorldView D) (blocks : List Octets) (p : ℕ) (image : Octets) → IsTied tells world
+pub stands_for : {D : Type 0} (tells : Bool) (world : WorldView D) (blocks : List Octets) (p : ℕ) (image : Octets) → IsTied tells world
     → length blocks ≡ length (kernel_of world).blocks
     → Holds (kernel_of world).host (kernel_of world).inodes blocks (take p (kernel_of world).spool)
     → StandsFor image world.journal.label blocks → world.journal.format ≤ format_number image

@@ -13,3 +13,4 @@ pub mod Settled
 pub mod Releases
 pub mod Refusing
 pub mod Reading
+pub mod Copying

@@ -7,3 +7,4 @@ pub mod Opening
 pub mod Lives
 pub mod Draining
 pub mod Reading
+pub mod Copying

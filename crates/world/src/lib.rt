@@ -20,6 +20,7 @@ ghost use Rattle.kernel.specs.Standing.{LeavesOpened, LeavesRefused};
 ghost use Rattle.world.specs.Images.{EachNow, EachSince, Fits, KeepsSpools, LeftFits, StandsForNone};
 ghost use Rattle.world.specs.Lives.{AreOneLife, Lived};
 ghost use Rattle.world.specs.Opening.{IsNew};
+ghost use Rattle.world.specs.Copying.{MayBeCopied};
 ghost use Rattle.world.specs.Reading.{AreRead};
 ghost use Rattle.world.specs.Tied.{IsWorld};
 ghost use Rattle.world.specs.World.{WorldView, kernel_of, with_served};
@@ -96,6 +97,13 @@ impl<D: Disk> World<D> {
         ensures { AreRead self.now.served }
     {
         self.served.kept();
+    }
+
+    /// Proof only: makes known to the caller what a copy of the device's blocks is that is made between two batches.
+    pub fn is_copied(&self)
+        ensures { MayBeCopied (D.device self.now.journal.disk).tells self.now }
+    {
+        self.kept();
     }
 
     /// Opens the device: all its changes are durable, and nothing has happened yet. So many sessions may exist at a time, and 4,096

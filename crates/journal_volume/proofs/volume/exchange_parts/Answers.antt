@@ -1,8 +1,9 @@
-use Rattle.std.proofs.Common.{◌≡◌, ◌≤◌, ℕ, ◌+◌, ◌-◌, ◌*◌, List, length, drop, take, sym, ◌∙◌, ap, arith}
+use Rattle.std.proofs.Common.{◌≡◌, ◌≤◌, ℕ, ◌+◌, ◌-◌, ◌*◌, ◌/◌, List, length, get_or, drop, take, sym, ◌∙◌, ap, subst, arith}
 use borrow.Rule.Slice.PartMut.{put_mid, mid_of}
 use Rattle.disk.specs.Image.{part, overwritten}
 use Rattle.disk.proofs.Images.{length-part}
-use Rattle.journal_volume.proofs.Exchanged.{exchanged_all, exchanged_back, exchanged_more, same_count}
+use Rattle.journal_volume.specs.Chunks.{HasOctets}
+use Rattle.journal_volume.proofs.Exchanged.{exchanged_all, exchanged_back, exchanged_more, same_count, same_made}
 use Rattle.journal_volume.proofs.PartsIn.{length-part_put, part_put, part_put_other, put_mid_is}
 use Rattle.journal_volume.proofs.volume.exchange_parts.Goals as goal
 
@@ -15,6 +16,14 @@ swap_part-requires-clause-there c =
       same_count l.place c.args.numbers.now c.args.blocks.now l.blocks c.args.octets.now l.octets l.invariant c.requires.whole
           c.requires.there c.requires.size c.requires.distinct,
     )
+
+pub swap_part-requires-clause-room : goal.swap_part-requires-clause-room
+swap_part-requires-clause-room c =
+    let l = c.loop-place in
+    let same = same_made l.place c.args.numbers.now c.args.blocks.now l.blocks c.args.octets.now l.octets l.invariant c.requires.whole
+    c.requires.there c.requires.size c.requires.distinct in
+    subst (λ (made : List ℕ). HasOctets made (get_or c.args.numbers.now l.place 0 / 16)) (sym same)
+    (c.requires.room l.place 0 c.loop-place-test.true)
 
 pub loop-place-preserved : goal.loop-place-preserved
 loop-place-preserved c =

@@ -13,9 +13,9 @@ returns-in-Line g c =
     let S = g.L.LookUps.changes c.args.spool.now in
     let made = g.L.Source.octets_of c.args.spool.now in
     let keeps = g.L.Source.keeps c.args.spool.now in
-    subst (λ (p : Awaits × Message). IfOk c.at_line.result (λ step. IsStep made keeps (said step)
-    (step_of host S c.args.session.now c.args.moment p.0 p.1)))
-    (λ i. (sym c.in-Line.is i, c.message-message.ensures i)) c.at_line.ensures
+    subst (λ (what : Awaits). IfOk c.at_line.result (λ step. IsStep made keeps (said step)
+    (step_of host S c.args.session.now c.args.moment what c.args.received)))
+    (sym c.in-Line.is) c.at_line.ensures
 
 pub returns-in-PostBlock : goal.returns-in-PostBlock
 returns-in-PostBlock g c =
@@ -43,4 +43,4 @@ returns g c =
     let t = c.args.moment in
     ok_step made keeps said c.at_nothing.result (step_of host S x t x.awaits c.args.received) (no_lines host S x t x.awaits c.args.received)
     (subst (λ (p : Awaits × Message). IfOk c.at_nothing.result (λ step. said step ≡ step_of host S x t p.0 p.1))
-    (λ i. (sym c.in-Nothing.is i, c.message-message.ensures i)) c.at_nothing.ensures)
+    (λ i. (sym c.in-Nothing.is i, c.message.ensures i)) c.at_nothing.ensures)

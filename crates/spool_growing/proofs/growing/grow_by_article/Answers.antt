@@ -194,7 +194,7 @@ returns-clause-grown c =
     c.in_ok-kept.ensures
     (c.in-Ok-push_article.ensures.ok host S text
     (subst (λ (e : Envelope). MayFile host S (record { text = text; envelope = e })) (sym c.in_ok-kept.ensures) may) c.id_of.ensures
-    (ap (λ (o : Octets). length o) c.text-text.ensures)
+    c.lengths_of-lengths.ensures
     (subst (λ (e : Envelope). AreLineSizes S text e.groups c.deref-3.result.now) (sym c.in_ok-kept.ensures) sizes) kept.indexed))
     (λ S indexed. ap (λ (n : ℕ). n + 1) (c.len-serial.ensures S indexed)) says
     (λ host S kept.
@@ -219,3 +219,6 @@ pub returns-clause-known : goal.returns-clause-known
 returns-clause-known c =
     subst (λ (bs : List Octets). IsKnown c.args.inodes c.seek_block.result bs) (c.apply.ensures.seen
     ∙ sym c.apply.ensures.cache) c.seek_block.ensures
+
+pub lengths_of-lengths-requires : goal.lengths_of-lengths-requires
+lengths_of-lengths-requires c = c.requires.ready.may.carried

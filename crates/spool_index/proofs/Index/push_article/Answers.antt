@@ -25,16 +25,18 @@ invariant_of-self-2 c =
           (map shown c.self.inside.groups.items))) c.self.invariant.0,
       subst (AreLatest c.push_latest.new.latest.items)
           (sym (c.in-Ok.ensures.items
-          ∙ ap (λ (ns : List Note). ns ++ note.Article c.new-own_id.result c.args.size c.args.envelope.groups c.args.envelope.moment ∷ [])
+          ∙ ap (λ (ns : List Note). ns
+          ++ note.Article c.new-own_id.result c.args.lengths c.args.envelope.groups c.args.envelope.moment ∷ [])
           c.in_ok-reserve.ensures.items))
           (c.push_latest.ensures c.self.inside.notes.items
           (subst (λ (ms : List ℕ). AreLatest ms c.self.inside.notes.items) (sym c.in_ok-reserve-2.ensures.items) c.self.invariant.1)),
       subst (λ (ns : List Note). AreUpTo (length ns) c.insert.new.self)
           (sym (c.in-Ok.ensures.items
-          ∙ ap (λ (ns : List Note). ns ++ note.Article c.new-own_id.result c.args.size c.args.envelope.groups c.args.envelope.moment ∷ [])
+          ∙ ap (λ (ns : List Note). ns
+          ++ note.Article c.new-own_id.result c.args.lengths c.args.envelope.groups c.args.envelope.moment ∷ [])
           c.in_ok-reserve.ensures.items))
           (added_up_to c.self.inside.ids c.insert.new.self c.self.inside.notes.items
-          (note.Article c.new-own_id.result c.args.size c.args.envelope.groups c.args.envelope.moment) c.args.id.now (c.len.result + 1)
+          (note.Article c.new-own_id.result c.args.lengths c.args.envelope.groups c.args.envelope.moment) c.args.id.now (c.len.result + 1)
           c.self.invariant.2 (omega (arith, c.len.ensures, c.self.inside.notes.ok))
           (ap Some (c.new-own_id.ensures ∙ c.in_ok-from_slice.ensures.items)) c.in_ok-insert.ensures.ok),
     )
@@ -50,9 +52,9 @@ returns-clause-ok c = λ host S text may key size sized is.
     (omega (arith, c.len.ensures, c.self.inside.notes.ok)) in
     article_indexed host S c.args.self.now _ (record { text = text; envelope = c.args.envelope }) c.args.id.now
     c.args.sizes.now
-    (note.Article c.new-own_id.result c.args.size c.args.envelope.groups c.args.envelope.moment) (c.len.result + 1) may is
+    (note.Article c.new-own_id.result c.args.lengths c.args.envelope.groups c.args.envelope.moment) (c.len.result + 1) may is
     (c.in-Ok.ensures.items ∙ ap (λ (ns : List Note). ns
-    ++ note.Article c.new-own_id.result c.args.size c.args.envelope.groups c.args.envelope.moment ∷ [])
+    ++ note.Article c.new-own_id.result c.args.lengths c.args.envelope.groups c.args.envelope.moment ∷ [])
     (c.in_ok-reserve.ensures.items ∙ ap (λ (x : IndexView). x.notes) c.self.view_is))
     (λ i. note.Article ((c.new-own_id.ensures ∙ c.in_ok-from_slice.ensures.items ∙ key) i)
     (size i) c.args.envelope.groups c.args.envelope.moment)
@@ -62,9 +64,9 @@ returns-clause-ok c = λ host S text may key size sized is.
     c.self.view_is)
     key
     (λ q. ap (λ (ns : List Note). serial_with c.insert.new.self ns q) (c.in-Ok.ensures.items ∙ ap (λ (ns : List Note). ns
-    ++ note.Article c.new-own_id.result c.args.size c.args.envelope.groups c.args.envelope.moment ∷ []) c.in_ok-reserve.ensures.items)
+    ++ note.Article c.new-own_id.result c.args.lengths c.args.envelope.groups c.args.envelope.moment ∷ []) c.in_ok-reserve.ensures.items)
     ∙ ids_added c.self.inside.ids c.insert.new.self c.self.inside.notes.items
-    (note.Article c.new-own_id.result c.args.size c.args.envelope.groups c.args.envelope.moment) c.args.id.now (c.len.result + 1)
+    (note.Article c.new-own_id.result c.args.lengths c.args.envelope.groups c.args.envelope.moment) c.args.id.now (c.len.result + 1)
     c.self.invariant.2 (omega (arith, c.len.ensures, c.self.inside.notes.ok))
     (ap Some (c.new-own_id.ensures ∙ c.in_ok-from_slice.ensures.items))
     (ap (λ (x : IndexView). serial_in x c.args.id.now) c.self.view_is ∙ is.ids_are c.args.id.now

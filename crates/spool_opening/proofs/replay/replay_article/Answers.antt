@@ -2,6 +2,7 @@ use Rattle.std.proofs.Common.{◌≡◌, ◌+◌, ℕ, List, ap, arith, length, 
 use Rattle.model.specs.Article.{id}
 use Rattle.model.specs.Files.{table}
 use Rattle.model.specs.declared.change.Filing.{Filing}
+use Rattle.spool_index.specs.Kept.{lengths_of}
 use Rattle.spool_index.proofs.Callers.{few_groups}
 use Rattle.spool_opening.proofs.Filed.{all_of_text, article_replayed, bounded, ends_below, filed_here, may_of_text}
 use Rattle.spool_opening.proofs.Filed.{no_cause_there, same_groups, sizes_of_text}
@@ -50,7 +51,7 @@ push_article-requires-clause-sizes g c =
     let small = rw c.in-Some.is at c.in_ok-sizes.ensures.small in
     omega (
       arith,
-      ap (λ (ns : List ℕ). length ns) c.as_slice-lengths.ensures.value,
+      ap (λ (ns : List ℕ). length ns) c.as_slice-lines.ensures.value,
       small.0,
       ap (λ (gs : List (List ℕ)). length gs) same,
     )
@@ -75,9 +76,10 @@ returns-clause-ok g c = λ R replayed its.
     let may_text = may_of_text c.args.host.now R c.in-Ok.article c.args.text.now e text may in
     let lines = rw c.in-Some.is at c.in_ok-sizes.ensures.lines in
     let both = lines R is serial (filed_here R c.in-Ok.article c.as_slice-filed.result.now filed) in
-    let indexed = c.in_ok-push_article.ensures.ok c.args.host.now R c.args.text.now may_text (c.id_of-id.ensures ∙ ap id text) refl
+    let indexed = c.in_ok-push_article.ensures.ok c.args.host.now R c.args.text.now may_text (c.id_of-id.ensures ∙ ap id text)
+    (c.lengths_of-lengths.ensures ∙ ap lengths_of text)
     (sizes_of_text R c.in-Ok.article c.args.text.now c.as_slice-filed.result.now e.groups c.in-Some.sizes.items
-    c.as_slice-lengths.result.now text same c.as_slice-lengths.ensures.value both.1) is in
+    c.as_slice-lines.result.now text same c.as_slice-lines.ensures.value both.1) is in
     article_replayed c.args.host.now c.args.inodes blocks R c.args.replay.now.index c.push_article.new.self c.args.replay.now.places
     c.push_change.new.self c.args.place (record { text = c.args.text.now; envelope = e }) c.requires.rule replayed its may_text
     (all_of_text (table c.args.inodes blocks) R c.in-Ok.article c.args.text.now c.as_slice-filed.result.now e.groups text same both.0)

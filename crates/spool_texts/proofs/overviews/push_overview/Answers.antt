@@ -1,18 +1,80 @@
-use Rattle.std.proofs.Common.{◌++◌, List, ℕ, ◌∙◌, ap, append_assoc}
+use Rattle.std.proofs.Common.{◌+◌, ◌++◌, ℕ, ◌∙◌, ap, arith}
 use Rattle.std.proofs.lemmas.Result.{on_ok_weaker}
-use Rattle.model.specs.Article.{overview_line}
-use Rattle.model.specs.Stream.{crlf, line}
-use Rattle.spool_texts.proofs.Appended.{appended}
+use Rattle.model.specs.Stream.{Octets, line}
+use Rattle.spool_texts.proofs.Copies.{copied, copies, number_high, renumbered}
 use Rattle.spool_texts.proofs.overviews.push_overview.Goals as goal
 
-pub returns : goal.returns
-returns g c =
-    let old = c.args.reply.now.items in
-    let mine = overview_line c.args.number c.deref.result.now in
-    let is = c.deref.ensures.value ∙ c.in_ok-text.ensures in
-    on_ok_weaker c.extend_from_slice.result (λ sent S indexed placed.
-    sent ∙ ap (λ (l : List ℕ). l ++ crlf) c.in_ok-push_line.ensures ∙ append_assoc old mine crlf
-    ∙ ap (λ (o : List ℕ). c.args.reply.now.items ++ line (overview_line c.args.number o)) (is
-    ∙ c.place_of-place.ensures.text S indexed placed))
-    (appended c.extend_from_slice.result c.push_line.new.line.items crlf c.extend_from_slice.new.self.items
-    c.extend_from_slice.ensures.items)
+pub line-start-requires-clause-here : goal.line-start-requires-clause-here
+line-start-requires-clause-here g c =
+    let has = c.requires.kept.has in
+    number_high has.changes c.args.serial c.first_filing-filed.result c.groups.result.now c.index-groups-filed.result
+    (c.groups.ensures.spool has.changes has.indexed) c.index-groups-filed.is (c.first_filing-filed.ensures has.changes has.indexed)
+
+pub offset_bounds-overviews-filed : goal.offset_bounds-overviews-filed
+offset_bounds-overviews-filed g c =
+    let blocks = g.B.Blocks.blocks c.args.blocks.now in
+    let has = c.requires.kept.has in
+    let r = copies c.args.inodes blocks c.requires.rule has.changes c.args.places.now c.args.serial c.first_filing-filed.result
+    c.overviews.result.now c.groups.result.now c.index-groups-filed.result c.overviews.ensures
+    (c.groups.ensures.spool has.changes has.indexed) c.index-groups-filed.is c.requires.kept.placed
+    (c.first_filing-filed.ensures has.changes has.indexed) in
+    omega (arith, r.overview.low, c.overviews.type_inv.1)
+
+pub bounds-overviews-filed : goal.bounds-overviews-filed
+bounds-overviews-filed g c =
+    let blocks = g.B.Blocks.blocks c.args.blocks.now in
+    let has = c.requires.kept.has in
+    let r = copies c.args.inodes blocks c.requires.rule has.changes c.args.places.now c.args.serial c.first_filing-filed.result
+    c.overviews.result.now c.groups.result.now c.index-groups-filed.result c.overviews.ensures
+    (c.groups.ensures.spool has.changes has.indexed) c.index-groups-filed.is c.requires.kept.placed
+    (c.first_filing-filed.ensures has.changes has.indexed) in
+    r.overview.low
+
+pub overflow_add-rest : goal.overflow_add-rest
+overflow_add-rest g c =
+    let blocks = g.B.Blocks.blocks c.args.blocks.now in
+    let has = c.requires.kept.has in
+    let r = copies c.args.inodes blocks c.requires.rule has.changes c.args.places.now c.args.serial c.first_filing-filed.result
+    c.overviews.result.now c.groups.result.now c.index-groups-filed.result c.overviews.ensures
+    (c.groups.ensures.spool has.changes has.indexed) c.index-groups-filed.is c.requires.kept.placed
+    (c.first_filing-filed.ensures has.changes has.indexed) in
+    let its = copied c.args.inodes blocks has.changes c.args.serial c.first_filing-filed.result c.overviews.result.now
+    c.index-groups-filed.result r c.line-start.result.0 c.line-start.result.1 (c.line-start.result.0 + c.digit_count.result)
+    c.line-start.ensures.from c.line-start.ensures.to (ap (λ (n : ℕ). c.line-start.result.0 + n) c.digit_count.ensures.count)
+    has.stored in
+    omega (arith, its.order)
+
+pub push_numbered-requires : goal.push_numbered-requires
+push_numbered-requires g c =
+    let blocks = g.B.Blocks.blocks c.args.blocks.now in
+    let has = c.requires.kept.has in
+    let r = copies c.args.inodes blocks c.requires.rule has.changes c.args.places.now c.args.serial c.first_filing-filed.result
+    c.overviews.result.now c.groups.result.now c.index-groups-filed.result c.overviews.ensures
+    (c.groups.ensures.spool has.changes has.indexed) c.index-groups-filed.is c.requires.kept.placed
+    (c.first_filing-filed.ensures has.changes has.indexed) in
+    let its = copied c.args.inodes blocks has.changes c.args.serial c.first_filing-filed.result c.overviews.result.now
+    c.index-groups-filed.result r c.line-start.result.0 c.line-start.result.1 (c.line-start.result.0 + c.digit_count.result)
+    c.line-start.ensures.from c.line-start.ensures.to (ap (λ (n : ℕ). c.line-start.result.0 + n) c.digit_count.ensures.count)
+    has.stored in
+    record {
+      room = c.requires.room;
+      rule = c.requires.rule;
+      below = r.overview.below;
+      file = r.overview.file;
+      order = its.order;
+      within = its.within;
+      short = its.short;
+    }
+
+pub returns-clause-ok : goal.returns-clause-ok
+returns-clause-ok g c =
+    let blocks = g.B.Blocks.blocks c.args.blocks.now in
+    on_ok_weaker c.push_numbered.result (λ is S indexed placed.
+    let r = copies c.args.inodes blocks c.requires.rule S c.args.places.now c.args.serial c.first_filing-filed.result
+    c.overviews.result.now c.groups.result.now c.index-groups-filed.result c.overviews.ensures (c.groups.ensures.spool S indexed)
+    c.index-groups-filed.is placed (c.first_filing-filed.ensures S indexed) in
+    is ∙ ap (λ (l : Octets). c.args.reply.now.items ++ line l)
+    (renumbered c.args.inodes blocks S c.args.serial c.first_filing-filed.result c.overviews.result.now
+    c.index-groups-filed.result r c.line-start.result.0 c.line-start.result.1 (c.line-start.result.0 + c.digit_count.result)
+    c.line-start.ensures.from c.line-start.ensures.to (ap (λ (n : ℕ). c.line-start.result.0 + n) c.digit_count.ensures.count)
+    c.args.number)) c.push_numbered.ensures.ok

@@ -1,35 +1,30 @@
-use Rattle.std.proofs.Common.{◌≡◌, ◌<◌, ℕ, ◌/◌, ◌%◌, [], List, length, get_or, sym, ◌∙◌, ap, subst, arith}
-use Rattle.journal_volume.specs.Chunks.{ChunksView, block_in, octets_of}
-use Rattle.journal_volume.proofs.InChunks.{get_or-view, index_there, length-view, was}
+use Rattle.std.proofs.Common.{◌<◌, [], length, get_or, sym, ◌∙◌, ap, arith}
+use Rattle.journal_volume.specs.Chunks.{ChunksView}
+use Rattle.journal_volume.proofs.InChunks.{in_none, in_slot, length-view, slot_there}
+use Rattle.journal_volume.proofs.InPieces.{zeros_are}
 use Rattle.journal_volume.proofs.chunks.Chunks.block.Goals as goal
 
-pub index-requires : goal.index-requires
-index-requires c =
-    let items = c.self.inside.chunks.items in
-    let count = c.self.inside.count in
-    let below : c.args.number < count =
-    omega (arith, c.requires, length-view count (octets_of items), ap (λ (v : ChunksView). length v.blocks) c.self.view_is) in
-    omega (arith, index_there count items c.self.invariant c.args.number below)
+pub place-requires : goal.place-requires
+place-requires c =
+    let s = c.self.inside in
+    omega (arith, c.requires, length-view s.made s.slots, ap (λ (v : ChunksView). length v.blocks) c.self.view_is)
 
-pub block_of_chunk-requires-clause-whole : goal.block_of_chunk-requires-clause-whole
-block_of_chunk-requires-clause-whole c =
-    let items = c.self.inside.chunks.items in
-    let count = c.self.inside.count in
-    let below : c.args.number < count =
-    omega (arith, c.requires, length-view count (octets_of items), ap (λ (v : ChunksView). length v.blocks) c.self.view_is) in
-    let read = c.as_slice-chunk.ensures.value
-    ∙ was count items c.self.invariant c.args.number below c.index.result.now c.index.ensures in
-    subst (λ (l : List ℕ). 0 < length l → length l ≡ 1048576) (sym read) (c.self.invariant.whole (c.args.number / 256))
+pub block-requires : goal.block-requires
+block-requires c = slot_there c.self.inside.made c.self.inside.slots c.self.invariant c.in-Some.slot c.in-Some.ensures.0
 
-pub returns-clause-octets : goal.returns-clause-octets
-returns-clause-octets c =
-    let items = c.self.inside.chunks.items in
-    let count = c.self.inside.count in
-    let below : c.args.number < count =
-    omega (arith, c.requires, length-view count (octets_of items), ap (λ (v : ChunksView). length v.blocks) c.self.view_is) in
-    let read = c.as_slice-chunk.ensures.value
-    ∙ was count items c.self.invariant c.args.number below c.index.result.now c.index.ensures in
-    c.block_of_chunk.ensures.octets
-    ∙ ap (λ (l : List ℕ). block_in l (c.args.number % 256)) read
-    ∙ sym (get_or-view count c.args.number (octets_of items) below)
-    ∙ ap (λ (v : ChunksView). get_or v.blocks c.args.number []) c.self.view_is
+pub returns-in-Some-clause-octets : goal.returns-in-Some-clause-octets
+returns-in-Some-clause-octets c =
+    let s = c.self.inside in
+    let n = c.args.number in
+    c.block.ensures.octets
+    ∙ sym (in_slot s.made s.slots c.self.invariant n c.in-Some.slot c.in-Some.ensures.0 c.in-Some.ensures.1)
+    ∙ ap (λ (v : ChunksView). get_or v.blocks n []) c.self.view_is
+
+pub returns-in-None-clause-octets : goal.returns-in-None-clause-octets
+returns-in-None-clause-octets c =
+    let s = c.self.inside in
+    let n = c.args.number in
+    let below : n < s.made.bound =
+    omega (arith, c.requires, length-view s.made s.slots, ap (λ (v : ChunksView). length v.blocks) c.self.view_is) in
+    zeros_are ∙ sym (in_none s.made s.slots c.self.invariant n below c.in-None.ensures)
+    ∙ ap (λ (v : ChunksView). get_or v.blocks n []) c.self.view_is

@@ -1,91 +1,46 @@
-use Rattle.std.proofs.Common.{◌≡◌, ◌<◌, ℕ, ◌/◌, List, length, sym, ◌∙◌, ap, subst, arith}
-use Rattle.journal_volume.specs.Chunks.{ChunksView, AreChunks, HasOctets, octets_of, view_of}
-use Rattle.journal_volume.proofs.InChunks.{index_there, length-view, was, kept_is, filled_are, filled_blocks, filled_room, filled_kept}
+use Rattle.std.proofs.Common.{◌<◌, length, ◌∙◌, ap, arith}
+use Rattle.journal_volume.specs.Chunks.{ChunksView}
+use Rattle.journal_volume.proofs.InChunks.{given_blocks, given_has, length-view, next_there}
 use Rattle.journal_volume.proofs.chunks.Chunks.make_room.Goals as goal
 
-pub index_mut-requires : goal.index_mut-requires
-index_mut-requires c =
-    let items = c.self.inside.chunks.items in
-    let count = c.self.inside.count in
-    let below : c.args.number < count =
-    omega (arith, c.requires, length-view count (octets_of items), ap (λ (v : ChunksView). length v.blocks) c.self.view_is) in
-    omega (arith, index_there count items c.self.invariant c.args.number below)
+pub place-requires : goal.place-requires
+place-requires c =
+    let s = c.self.inside in
+    omega (arith, c.requires, length-view s.made s.slots, ap (λ (v : ChunksView). length v.blocks) c.self.view_is)
 
-pub fill_up-requires : goal.fill_up-requires
-fill_up-requires c =
-    let items = c.self.inside.chunks.items in
-    let count = c.self.inside.count in
-    let below : c.args.number < count =
-    omega (arith, c.requires, length-view count (octets_of items), ap (λ (v : ChunksView). length v.blocks) c.self.view_is) in
-    let read = was count items c.self.invariant c.args.number below c.index_mut.result.now c.index_mut.ensures.value in
-    subst (λ (l : List ℕ). 0 < length l → length l ≡ 1048576) (sym read) (c.self.invariant.whole (c.args.number / 256))
+pub insert-requires-clause-below : goal.insert-requires-clause-below
+insert-requires-clause-below c =
+    let s = c.self.inside in
+    omega (arith, c.requires, length-view s.made s.slots, ap (λ (v : ChunksView). length v.blocks) c.self.view_is)
 
-pub invariant_of-self : goal.invariant_of-self
-invariant_of-self c =
-    let items = c.self.inside.chunks.items in
-    let count = c.self.inside.count in
-    let below : c.args.number < count =
-    omega (arith, c.requires, length-view count (octets_of items), ap (λ (v : ChunksView). length v.blocks) c.self.view_is) in
-    let same = kept_is count items c.self.invariant c.args.number below c.index_mut.result.now c.index_mut.ensures.value
-    c.fill_up.new.chunk c.in_err-fill_up.ensures.refused in
-    subst (λ (l : List (List ℕ)). AreChunks count l) (sym same) c.self.invariant
-
-pub returns-in_err-fill_up-clause-blocks : goal.returns-in_err-fill_up-clause-blocks
-returns-in_err-fill_up-clause-blocks c =
-    let items = c.self.inside.chunks.items in
-    let count = c.self.inside.count in
-    let below : c.args.number < count =
-    omega (arith, c.requires, length-view count (octets_of items), ap (λ (v : ChunksView). length v.blocks) c.self.view_is) in
-    let same = kept_is count items c.self.invariant c.args.number below c.index_mut.result.now c.index_mut.ensures.value
-    c.fill_up.new.chunk c.in_err-fill_up.ensures.refused in
-    ap (λ (l : List (List ℕ)). (view_of count l).blocks) same
-    ∙ ap (λ (v : ChunksView). v.blocks) c.self.view_is
-
-pub returns-in_err-fill_up-clause-kept : goal.returns-in_err-fill_up-clause-kept
-returns-in_err-fill_up-clause-kept c k made =
-    let items = c.self.inside.chunks.items in
-    let count = c.self.inside.count in
-    let below : c.args.number < count =
-    omega (arith, c.requires, length-view count (octets_of items), ap (λ (v : ChunksView). length v.blocks) c.self.view_is) in
-    let same = kept_is count items c.self.invariant c.args.number below c.index_mut.result.now c.index_mut.ensures.value
-    c.fill_up.new.chunk c.in_err-fill_up.ensures.refused in
-    subst (λ (l : List (List ℕ)). HasOctets (view_of count l).made k) (sym same)
-    (subst (λ (v : ChunksView). HasOctets v.made k) (sym c.self.view_is) made)
-
-pub invariant_of-self-2 : goal.invariant_of-self-2
-invariant_of-self-2 c =
-    let items = c.self.inside.chunks.items in
-    let count = c.self.inside.count in
-    let below : c.args.number < count =
-    omega (arith, c.requires, length-view count (octets_of items), ap (λ (v : ChunksView). length v.blocks) c.self.view_is) in
-    filled_are count items c.self.invariant c.args.number below c.index_mut.result.now c.index_mut.ensures.value c.fill_up.new.chunk
-    c.in_ok-fill_up.ensures.size c.fill_up.ensures.blocks
+pub make_room-requires : goal.make_room-requires
+make_room-requires c =
+    let s = c.self.inside in
+    let n = c.args.number in
+    let there : n < s.made.bound =
+    omega (arith, c.requires, length-view s.made s.slots, ap (λ (v : ChunksView). length v.blocks) c.self.view_is) in
+    omega (
+      arith,
+      next_there s.made s.slots c.self.invariant n there c.in_default.ensures,
+      c.self.invariant.size,
+      ap length c.as_slice.ensures,
+    )
 
 pub returns-clause-blocks : goal.returns-clause-blocks
 returns-clause-blocks c =
-    let items = c.self.inside.chunks.items in
-    let count = c.self.inside.count in
-    let below : c.args.number < count =
-    omega (arith, c.requires, length-view count (octets_of items), ap (λ (v : ChunksView). length v.blocks) c.self.view_is) in
-    filled_blocks count items c.self.invariant c.args.number below c.index_mut.result.now c.index_mut.ensures.value c.fill_up.new.chunk
-    c.in_ok-fill_up.ensures.size c.fill_up.ensures.blocks
+    let s = c.self.inside in
+    let n = c.args.number in
+    let there : n < s.made.bound =
+    omega (arith, c.requires, length-view s.made s.slots, ap (λ (v : ChunksView). length v.blocks) c.self.view_is) in
+    given_blocks s.made s.slots c.self.invariant n there c.in_default.ensures c.insert.new.self c.make_room.new.self c.insert.ensures.added
+    c.make_room.ensures.blocks
     ∙ ap (λ (v : ChunksView). v.blocks) c.self.view_is
 
 pub returns-clause-room : goal.returns-clause-room
 returns-clause-room c =
-    let items = c.self.inside.chunks.items in
-    let count = c.self.inside.count in
-    let below : c.args.number < count =
-    omega (arith, c.requires, length-view count (octets_of items), ap (λ (v : ChunksView). length v.blocks) c.self.view_is) in
-    filled_room count items c.self.invariant c.args.number below c.index_mut.result.now c.index_mut.ensures.value c.fill_up.new.chunk
-    c.in_ok-fill_up.ensures.size c.fill_up.ensures.blocks
-
-pub returns-clause-kept : goal.returns-clause-kept
-returns-clause-kept c k made =
-    let items = c.self.inside.chunks.items in
-    let count = c.self.inside.count in
-    let below : c.args.number < count =
-    omega (arith, c.requires, length-view count (octets_of items), ap (λ (v : ChunksView). length v.blocks) c.self.view_is) in
-    filled_kept count items c.self.invariant c.args.number below c.index_mut.result.now c.index_mut.ensures.value c.fill_up.new.chunk
-    c.in_ok-fill_up.ensures.size c.fill_up.ensures.blocks
-    k (subst (λ (v : ChunksView). HasOctets v.made k) (sym c.self.view_is) made)
+    let s = c.self.inside in
+    let n = c.args.number in
+    let there : n < s.made.bound =
+    omega (arith, c.requires, length-view s.made s.slots, ap (λ (v : ChunksView). length v.blocks) c.self.view_is) in
+    given_has s.made s.slots c.self.invariant n there c.in_default.ensures c.insert.new.self c.make_room.new.self c.insert.ensures.added
+    c.make_room.ensures.blocks

@@ -1,14 +1,7 @@
-use Rattle.std.proofs.Common.{ℕ, ◌+◌, ◌/◌, List, sym, ◌∙◌, ap, subst, arith}
-use Rattle.journal_volume.specs.Chunks.{AreChunks, view_of}
-use Rattle.journal_volume.proofs.InChunks.{none_are, zeros_in}
+use Rattle.journal_volume.proofs.InChunks.{none_are}
 use Rattle.journal_volume.proofs.chunks.Chunks.new.Goals as goal
-
-pub returns : goal.returns
-returns c =
-    ap (λ (l : List (List ℕ)). (view_of c.args.count l).blocks) c.in_ok-chunks.ensures
-    ∙ zeros_in c.args.count (c.args.count / 256 + 1)
 
 pub invariant_of-result : goal.invariant_of-result
 invariant_of-result c =
-    subst (λ (l : List (List ℕ)). AreChunks c.args.count l) (sym c.in_ok-chunks.ensures)
-    (none_are c.args.count (c.args.count / 256 + 1) (omega arith))
+    none_are c.in_ok-made.made c.in_ok-slots.slots c.args.count c.in_ok-made.ensures.valid c.in_ok-made.ensures.bound
+    c.in_ok-made.ensures.empty c.in_ok-slots.ensures

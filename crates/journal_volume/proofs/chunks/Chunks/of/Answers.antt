@@ -4,7 +4,7 @@ use Rattle.std.proofs.lemmas.Bool.{cases_eq}
 use Rattle.model.specs.Volume.{block, blocks_from}
 use Rattle.model.proofs.Blocks.{get_or-blocks_from}
 use Rattle.fs_blocks.proofs.Octets.{length-blocks_from}
-use Rattle.journal_volume.specs.Chunks.{zero_block}
+use Rattle.journal_volume.specs.Pieces.{zero_block}
 use Rattle.journal_volume.proofs.chunks.Chunks.of.Goals as goal
 
 pub loop-number-init : goal.loop-number-init

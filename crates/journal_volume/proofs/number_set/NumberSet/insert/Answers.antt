@@ -1,62 +1,48 @@
-use Rattle.std.proofs.Common.{◌<◌, ℕ, ◌+◌, List, ◌∷◌, [], ◌++◌, length, take, set, length-set, sym, ◌∙◌, ap, subst, arith}
+use Rattle.std.proofs.Common.{◌≡◌, ◌<◌, ℕ, ◌+◌, List, ◌∷◌, [], ◌++◌, length, set, sym, ap, subst, arith}
 use Rattle.std.specs.List.{Contains}
-use Rattle.std.proofs.lemmas.List.{take_more_set}
-use Rattle.journal_volume.specs.Numbers.{Numbers}
+use Rattle.journal_volume.specs.Numbers.{Numbers, IsIndex}
 use Rattle.journal_volume.proofs.Index.{has_room, inserted, members_below, members_distinct}
 use Rattle.journal_volume.proofs.number_set.NumberSet.insert.Goals as goal
 
-pub index_mut-requires : goal.index_mut-requires
-index_mut-requires c =
-    let there : c.args.number < length c.self.inside.places.items =
-    omega (arith, c.requires.below, ap (λ (s : Numbers). s.bound) c.self.view_is) in
-    let other = subst (λ (l : List ℕ). ¬ (Contains l c.args.number)) (sym (ap (λ (s : Numbers). s.members) c.self.view_is)) c.requires.other
-    in
-    let room = has_room c.self.inside.numbers.items c.self.inside.places.items c.self.inside.count c.self.invariant c.args.number there
-    other in
-    omega arith
+pub push_reserved-requires : goal.push_reserved-requires
+push_reserved-requires c =
+    let s = c.self.inside in
+    let there : c.args.number < s.bound = omega (arith, c.requires.below, ap (λ (v : Numbers). v.bound) c.self.view_is) in
+    let other = subst (λ (v : Numbers). ¬ (Contains v.members c.args.number)) (sym c.self.view_is) c.requires.other in
+    let room = has_room s.bound s.members.items s.places.items c.self.invariant.0 c.args.number there other in
+    omega (arith, room, c.self.invariant.1, s.members.ok.0)
 
-pub overflow_cast-self-inside : goal.overflow_cast-self-inside
-overflow_cast-self-inside c =
-    let there : c.args.number < length c.self.inside.places.items =
-    omega (arith, c.requires.below, ap (λ (s : Numbers). s.bound) c.self.view_is) in
-    let other = subst (λ (l : List ℕ). ¬ (Contains l c.args.number)) (sym (ap (λ (s : Numbers). s.members) c.self.view_is)) c.requires.other
-    in
-    let room = has_room c.self.inside.numbers.items c.self.inside.places.items c.self.inside.count c.self.invariant c.args.number there
-    other in
-    omega (arith, c.self.invariant.few, c.self.invariant.size)
+pub overflow_cast-len : goal.overflow_cast-len
+overflow_cast-len c =
+    let s = c.self.inside in
+    let there : c.args.number < s.bound = omega (arith, c.requires.below, ap (λ (v : Numbers). v.bound) c.self.view_is) in
+    let other = subst (λ (v : Numbers). ¬ (Contains v.members c.args.number)) (sym c.self.view_is) c.requires.other in
+    let room = has_room s.bound s.members.items s.places.items c.self.invariant.0 c.args.number there other in
+    omega (arith, room, c.self.invariant.0.few, c.len.ensures, c.push_reserved.ensures.len, s.members.ok.0)
 
 pub invariant_of-self : goal.invariant_of-self
 invariant_of-self c =
-    let there : c.args.number < length c.self.inside.places.items =
-    omega (arith, c.requires.below, ap (λ (s : Numbers). s.bound) c.self.view_is) in
-    let other = subst (λ (l : List ℕ). ¬ (Contains l c.args.number)) (sym (ap (λ (s : Numbers). s.members) c.self.view_is)) c.requires.other
-    in
-    inserted c.self.inside.numbers.items c.self.inside.places.items c.self.inside.count c.self.invariant c.args.number there other
-
-pub returns-clause-added : goal.returns-clause-added
-returns-clause-added c =
-    let there : c.args.number < length c.self.inside.places.items =
-    omega (arith, c.requires.below, ap (λ (s : Numbers). s.bound) c.self.view_is) in
-    let other = subst (λ (l : List ℕ). ¬ (Contains l c.args.number)) (sym (ap (λ (s : Numbers). s.members) c.self.view_is)) c.requires.other
-    in
-    let room = has_room c.self.inside.numbers.items c.self.inside.places.items c.self.inside.count c.self.invariant c.args.number there
-    other in
-    let size = length-set c.self.inside.places.items c.args.number (c.self.inside.count + 1)
-    ∙ ap (λ (s : Numbers). s.bound) c.self.view_is in
-    let added = take_more_set c.self.inside.numbers.items c.self.inside.count c.args.number room
-    ∙ ap (λ (s : Numbers). s.members ++ c.args.number ∷ []) c.self.view_is in
-    ap (λ (b : ℕ). record {
-      bound = b;
-      members = take (c.self.inside.count + 1) (set c.self.inside.numbers.items c.self.inside.count c.args.number);
-    }) size
-    ∙ ap (λ (l : List ℕ). record { bound = c.args.self.now.bound; members = l }) added
+    let s = c.self.inside in
+    let n = c.args.number in
+    let there : n < s.bound = omega (arith, c.requires.below, ap (λ (v : Numbers). v.bound) c.self.view_is) in
+    let other = subst (λ (v : Numbers). ¬ (Contains v.members n)) (sym c.self.view_is) c.requires.other in
+    let longer = c.reach.new.places.items in
+    let index = inserted s.bound s.members.items s.places.items c.self.invariant.0 n there other longer c.reach.ensures.same
+    c.reach.ensures.there in
+    let size : c.len.result ≡ length s.members.items + 1 = omega (arith, c.len.ensures, c.push_reserved.ensures.len, s.members.ok.0) in (
+      subst (λ (l : List ℕ). IsIndex s.bound l (set longer n c.len.result)) (sym c.push_reserved.ensures.items)
+          (subst (λ (m : ℕ). IsIndex s.bound (s.members.items ++ n ∷ []) (set longer n m)) (sym size) index),
+      omega (arith, c.self.invariant.1, c.push_reserved.ensures.capacity),
+      omega (arith, c.self.invariant.2, c.reach.ensures.room),
+    )
 
 pub returns-clause-valid : goal.returns-clause-valid
 returns-clause-valid c =
-    let there : c.args.number < length c.self.inside.places.items =
-    omega (arith, c.requires.below, ap (λ (s : Numbers). s.bound) c.self.view_is) in
-    let other = subst (λ (l : List ℕ). ¬ (Contains l c.args.number)) (sym (ap (λ (s : Numbers). s.members) c.self.view_is)) c.requires.other
-    in
-    let index = inserted c.self.inside.numbers.items c.self.inside.places.items c.self.inside.count c.self.invariant c.args.number there
-    other in
+    let s = c.self.inside in
+    let n = c.args.number in
+    let there : n < s.bound = omega (arith, c.requires.below, ap (λ (v : Numbers). v.bound) c.self.view_is) in
+    let other = subst (λ (v : Numbers). ¬ (Contains v.members n)) (sym c.self.view_is) c.requires.other in
+    let longer = c.reach.new.places.items in
+    let index = subst (λ (l : List ℕ). IsIndex s.bound l (set longer n (length s.members.items + 1))) (sym c.push_reserved.ensures.items)
+    (inserted s.bound s.members.items s.places.items c.self.invariant.0 n there other longer c.reach.ensures.same c.reach.ensures.there) in
     record { below = members_below _ _ _ index; distinct = members_distinct _ _ _ index }

@@ -1,6 +1,0 @@
-use Rattle.bench_files.specs.Files.{HasFiles}
-use Rattle.bench_files.proofs.filled.Given as goal
-
--- the volume stays a file system
-abbrev pub invariant-loop-number : goal.invariant-loop-number
-invariant-loop-number l = HasFiles l.volume.seen

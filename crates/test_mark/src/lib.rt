@@ -1,5 +1,0 @@
-//! Tests of the mark, over its public calls.
-#![tactic(auto)]
-
-#[cfg(test)]
-mod seats;

@@ -1,5 +1,0 @@
-//! The words of each refusal.
-#![tactic(auto)]
-
-#[cfg(test)]
-mod refusals;
