@@ -212,7 +212,8 @@ def each_refused_post_has_its_cause(volume):
                 caller.send(text + b"DATE\r\n")
                 assert (caller.line(), caller.line()[:3]) == ("441 Article not accepted", "111"), cause
                 expected += [cause, cause]
-            for cause, text in [*causes, ("otherid", article(2))]:
+            nowhere = article(2).replace(b"Newsgroups: x.a", b"Newsgroups: x.none")
+            for cause, text in [*causes, ("otherid", article(2)), ("otherid", nowhere)]:
                 assert caller.ask("IHAVE " + message_id(1)).startswith("335 "), cause
                 caller.send(text)
                 assert caller.line() == "437 Article rejected", cause

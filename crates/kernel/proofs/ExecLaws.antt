@@ -24,7 +24,7 @@ use Rattle.model.specs.declared.message.Message.{Message}
 use Rattle.model.specs.declared.message.Mark.{Mark}
 use Rattle.model.specs.declared.message.Mark.TheVariants as mark
 use Rattle.model.specs.declared.message.Mode.{Mode}
-use Rattle.session.specs.Served.{lacks_room_for}
+use Rattle.session.specs.Served.{lacks_room_for, refusal_in}
 use Rattle.spool.specs.View.{IsSpool, SpoolView}
 use Rattle.spool.specs.View as changed
 use Rattle.std.specs.Cmp.{both_ways}
@@ -337,10 +337,11 @@ module _ (k : Case) where
       → exec_refusal was k.sid k.message ≡ None → outcome.mark ≡ mark_for was k.seat.session k.message k.moment
       → Grows i.spool s (answer_in i.spool k.seat.session k.message k.moment outcome.mark).change
       → seat ≡ answered_by i.spool.host i.spool.changes k.message k.moment outcome.mark k.read → outcome.next ≡ mode_of seat.session.awaits
+      → outcome.refusal ≡ refusal_in i.spool.host i.spool.changes k.seat.session k.message outcome.mark
       → outcome.has_accepted ≡ is_some (answer_in i.spool k.seat.session k.message k.moment outcome.mark).change
       → Tested of_exec Memory (exec_refusal old k.sid k.message) old (with_one s seat) (Ok outcome)
       (Execs old (with_one s seat) k.sid k.message k.moment)
-  done old s seat outcome v passes marked grows told next accepts =
+  done old s seat outcome v passes marked grows told next why accepts =
       let new : KernelView = with_one s seat in
       let is = answered_seat seat outcome.mark told in
       let same : seat.number ≡ k.seat.number = ap (λ (x : Seat). x.number) is in
@@ -356,6 +357,7 @@ module _ (k : Case) where
         executed = executes i.spool s i.durable i.in_flight i.halted i.most i.joined (seen_in i) k.at k.seat seat k.message k.moment
             outcome.mark
             k.rise k.place grows is;
+        refusal = why;
         accepted = accepts;
         next = next ∙ (sym read ∙ ap (mode_at new) (same ∙ k.number));
       }))

@@ -20,6 +20,7 @@ use Rattle.model.specs.declared.message.Mark.TheVariants as mark
 use Rattle.model.specs.declared.message.Mode.{Mode}
 use Rattle.model.specs.declared.message.Mode.TheVariants as mode
 use Rattle.model.specs.declared.session.Session.{Session}
+use Rattle.session.specs.Served.{refusal_in}
 use Rattle.spool.specs.Refusals.{has_number}
 use Rattle.kernel_outbox.specs.Queue.{ReadyEntry, buffered as octets_held}
 use Rattle.kernel_seats.specs.declared.Outcome.{Outcome}
@@ -218,12 +219,14 @@ released kernel = record kernel { seats = (ready kernel.durable 65536 kernel.sea
 abbrev pub released_of : KernelView → List ReadyEntry → ℕ → KernelView
 released_of kernel entries number = record kernel { seats = (ready_of kernel.durable entries number kernel.seats).seats }
 
--- what exec does to a session that exists: it answers what is read next, the mark, and whether a change was accepted
+-- what exec does to a session that exists: it answers what is read next, the mark, whether a change was accepted, and why an article
+-- isn't filed
 pub record Execs (old new : KernelView) (number : ℕ) (m : Message) (t : ℕ) (outcome : Outcome) : Type 0 where
   pub seat : Seat
   pub is_there : seat_of old number ≡ Some seat
   pub mark_is : outcome.mark ≡ mark_for old seat.session m t
   pub executed : Executed old new seat m t outcome.mark
+  pub refusal : outcome.refusal ≡ refusal_in old.host old.spool seat.session m outcome.mark
   pub accepted : outcome.has_accepted ≡ is_some (answer old.host old.spool seat.session m t outcome.mark).change
   pub next : outcome.next ≡ mode_at new number
 

@@ -35,6 +35,7 @@ use kernel_shared::{AdminError, ExecError, ExpireError, JoinError, MOST_SESSIONS
 pub use label::{Label, read_label};
 use model::{Mark, Message, Mode, Moment};
 use session_lookups::LookUps;
+use session_posting::Refusal;
 use session_received::Received;
 use spool::AddError;
 pub use spool::Spool;
@@ -165,7 +166,8 @@ impl Kernel {
     }
 
     /// Answers a message at once: its reply is held with its dependency, and its change is accepted at the given moment.
-    /// The result is what the session sends next, which is `None` if it sends nothing more, and the mark of the message.
+    /// The result is what the session sends next, which is `None` if it sends nothing more, the mark of the message, and why its article
+    /// is not filed.
     /// Refused as `NoSession` (E10), `LaterOut` (E9), `LaterDirty` (E8, only while the kernel is not halted) or `Memory`
     /// (E2), tested in that order; a refusal changes nothing. This reads the message and then makes the call
     /// of `exec_received`.
@@ -214,6 +216,7 @@ impl Kernel {
             return Ok(Outcome {
                 next: None,
                 mark: Mark::Stopped,
+                refusal: Some(Refusal::Stopped),
                 has_accepted: false,
             });
         }

@@ -26,7 +26,8 @@ pub record Answers (old new : KernelView) (number : ℕ) (m : Message) (t : ℕ)
     (answered : ExecOutcome) : Type 0 where
   pub served : KernelView
   pub has_accepted : Bool
-  pub executed : Execs old served number m t (record { next = answered.next; mark = answered.mark; has_accepted = has_accepted })
+  pub executed : Execs old served number m t
+      (record { next = answered.next; mark = answered.mark; refusal = answered.refusal; has_accepted = has_accepted })
   pub accepted : answered.accepted ≡ if has_accepted then Some (length served.spool) else None
   pub given : Gives served new number before after answered.is_held
 

@@ -3,7 +3,6 @@
 
 mod few;
 mod locked;
-mod obstacles;
 mod turns;
 
 pub use locked::Locked;

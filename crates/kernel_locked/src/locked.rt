@@ -12,7 +12,6 @@ ghost use Rattle.text_names.specs.Requests.{group_of};
 ghost use Rattle.kernel_locked.specs.Locked.{Answers, Copies, Gives, IsCounted, IsFoundAt};
 
 use crate::few::{are_few, asked_since};
-use crate::obstacles::obstacle_in;
 use crate::turns::Turns;
 use copy_portions::Portion;
 use journal_volume::BatchBuf;
@@ -21,9 +20,9 @@ use kernel_expiring::{AgedGroup, GonePart, aged_group, gone_part};
 use kernel_outbox::ReadyBuf;
 use kernel_shared::{
     AdminError, Admitted, ExecError, ExecOutcome, ExpireError, Expired, JoinError, Kern,
-    KernelCounts, Obstacle, Receipt, Stale, Ticket,
+    KernelCounts, Receipt, Stale, Ticket,
 };
-use model::{Command, Message, Mode, Moment, Text};
+use model::{Command, Message, Mode, Moment};
 use session_lookups::LookUps;
 use session_received::Received;
 use std::alloc::Global;
@@ -116,6 +115,7 @@ fn answer_in(
     let Outcome {
         next,
         mark,
+        refusal,
         has_accepted,
     } = kernel.exec_received(alloc, sid, received, moment)?;
     let accepted = if has_accepted {
@@ -127,6 +127,7 @@ fn answer_in(
     Ok(ExecOutcome {
         next,
         mark,
+        refusal,
         accepted,
         is_held,
     })
@@ -271,10 +272,6 @@ impl Kern for Locked {
             self.long.end(rt);
         }
         answered
-    }
-
-    fn obstacle<R: Wait>(&self, rt: &R, id: Option<&[u8]>, groups: &[Text]) -> Option<Obstacle> {
-        obstacle_in(self.kernel.lock(rt).spool(), id, groups)
     }
 
     fn asks_for_few<R: Wait>(&self, rt: &R, received: &Received<'_>, moment: Moment) -> bool {

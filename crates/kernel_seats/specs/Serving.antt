@@ -16,5 +16,6 @@ pub record SeatServed (host : Octets) (S : Spool) (lacks : Change → Bool) (add
   pub mark : outcome.mark ≡ served.mark_in host S lacks before.session m t
   pub seat : after ≡ answered_by host S m t outcome.mark before
   pub spool : served.Grows adds stays (answer host S before.session m t outcome.mark).change
+  pub refusal : outcome.refusal ≡ served.refusal_in host S before.session m outcome.mark
   pub accepted : outcome.has_accepted ≡ is_some (answer host S before.session m t outcome.mark).change
   pub next : outcome.next ≡ mode_of after.session.awaits

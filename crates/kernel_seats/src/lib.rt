@@ -23,6 +23,7 @@ use kernel_outbox::{Outgoing, Queue, ReadyBuf, Source};
 use model::{Awaits, Mark, Mode, Moment, Session};
 use session::{Served, serve};
 use session_lookups::ChangeSpool;
+use session_posting::Refusal;
 use session_received::Received;
 use session_replies::{Answered, push_greeting, stopped};
 use std::alloc::{AllocError, Global};
@@ -34,6 +35,8 @@ pub struct Outcome {
     /// What the session sends next; `None` if it was closed.
     pub next: Option<Mode>,
     pub mark: Mark,
+    /// Why the message's article is not filed. `None` if it is, or if the message has none.
+    pub refusal: Option<Refusal>,
     /// Whether a change was accepted; it is the last one then.
     pub has_accepted: bool,
 }
@@ -129,12 +132,14 @@ impl Seat {
         let Served {
             answered,
             mark,
+            refusal,
             has_accepted,
         } = serve(alloc, spool, &self.session, received, moment)?;
         let next = adopt(&mut self.session, &mut self.queue, answered);
         Ok(Outcome {
             next,
             mark,
+            refusal,
             has_accepted,
         })
     }

@@ -9,7 +9,8 @@ use copy_portions::Portion;
 use journal_volume::BatchBuf;
 use kernel_expiring::{AgedGroup, GonePart};
 use kernel_outbox::ReadyBuf;
-use model::{Mark, Mode, Moment, Text};
+use model::{Mark, Mode, Moment};
+use session_posting::Refusal;
 use session_received::Received;
 use std::alloc::Global;
 use std::sync::Wait;
@@ -27,28 +28,12 @@ pub struct ExecOutcome {
     /// What the session sends next; `None` if it was closed.
     pub next: Option<Mode>,
     pub mark: Mark,
+    /// Why the message's article is not filed. `None` if it is, or if the message has none.
+    pub refusal: Option<Refusal>,
     /// The serial of the message's change, if one was accepted. The change is durable once so many are.
     pub accepted: Option<u64>,
     /// Outputs of the session are still held.
     pub is_held: bool,
-}
-
-/// The command that a block follows.
-#[derive(Clone, Copy, Debug, PartialEq, Eq)]
-pub enum Asked {
-    Post,
-    Ihave,
-}
-
-/// What of the accepted changes keeps an article from being filed.
-#[derive(Clone, Copy, Debug, PartialEq, Eq)]
-pub enum Obstacle {
-    /// An article with its message-id was filed, even if it is gone.
-    Repeat,
-    /// None of its groups exists.
-    NoGroup,
-    /// One of its groups takes no posts.
-    Closed,
 }
 
 /// What a kernel holds at one moment.
@@ -90,9 +75,6 @@ pub trait Kern {
         into: &mut ReadyBuf,
     ) -> Result<ExecOutcome, ExecError>
         requires { length into.old < 4096 };
-
-    /// What keeps an article with this message-id, if it has one, and these groups from being filed now.
-    fn obstacle<R: Wait>(&self, rt: &R, id: Option<&[u8]>, groups: &[Text]) -> Option<Obstacle>;
 
     /// Whether the answer to a line that asks for new articles at this moment surely fits one release, if it is answered now.
     /// Nothing changes.

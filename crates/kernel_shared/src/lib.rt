@@ -22,6 +22,6 @@ pub use closing::{Closing, Look};
 pub use errors::{AdminError, ExecError, ExpireError, JoinError, Stale};
 pub use hands::Hand;
 pub use hooks::{Hooks, NoHooks};
-pub use kern::{Asked, ExecOutcome, Kern, KernelCounts, MOST_SESSIONS, Obstacle, SESSIONS};
+pub use kern::{ExecOutcome, Kern, KernelCounts, MOST_SESSIONS, SESSIONS};
 pub use receipts::{Halted, Receipt, Told, halt, halt_if_clean, tell};
 pub use ticket::Ticket;

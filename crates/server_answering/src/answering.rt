@@ -8,8 +8,8 @@ use crate::caller_reading::{Incoming, Socket};
 use crate::counts::Counted;
 use crate::leaving::{Awaited, end_of};
 use crossbeam_channel::{Receiver, Sender};
-use kernel_shared::{Asked, Bells, ExecError, ExecOutcome, Hooks, Kern};
-use model::{Command, Message, Mode, Moment};
+use kernel_shared::{Bells, ExecError, ExecOutcome, Hooks, Kern};
+use model::{Message, Mode, Moment};
 use server_accepting::{Caller, Doors, Parting, identify, part, see_off};
 use server_attending::Verdicts;
 use server_logging::{
@@ -277,7 +277,7 @@ impl<'a, 'b, R: Wait + Clock, K: Kern, H: Hooks> SessionThread<'a, 'b, R, K, H> 
 
     /// Has a message answered, and tries again after each refusal that asks for that. Otherwise answers why the session ends.
     /// The message is read for each try.
-    pub(crate) fn have_answered(&mut self, message: &Message) -> Result<Answered, Ending> {
+    pub(crate) fn have_answered(&mut self, message: &Message) -> Result<ExecOutcome, Ending> {
         let Shared {
             rt,
             alloc,
@@ -288,14 +288,13 @@ impl<'a, 'b, R: Wait + Clock, K: Kern, H: Hooks> SessionThread<'a, 'b, R, K, H> 
             let noted = bells.later.count();
             let moment = self.moments.now(*rt, self.log);
             let received = Received::of(*alloc, message);
-            let asked = asked_by(&received);
             let answered = self
                 .writer
                 .answer(self.shared, &mut self.hand, received, moment);
             match answered {
-                Ok(outcome) => {
-                    note(bells, message, outcome.next);
-                    return Ok(Answered { outcome, asked });
+                Ok(answered) => {
+                    note(bells, message, answered.next);
+                    return Ok(answered);
                 }
                 Err(Unanswered::NoPlace) => self.await_place()?,
                 Err(Unanswered::Refused(error)) => {
@@ -346,21 +345,6 @@ impl<'a, 'b, R: Wait + Clock, K: Kern, H: Hooks> SessionThread<'a, 'b, R, K, H> 
             self.writer.wait_for_release(*rt, &mut self.hand);
         }
         Ok(())
-    }
-}
-
-/// What came of a message, and the command that it was, if an article follows it.
-#[derive(Clone, Copy)]
-pub(crate) struct Answered {
-    pub(crate) outcome: ExecOutcome,
-    pub(crate) asked: Asked,
-}
-
-/// The command of a line after which an article is awaited.
-fn asked_by(received: &Received<'_>) -> Asked {
-    match received.command() {
-        Some(Command::Ihave(_)) => Asked::Ihave,
-        _ => Asked::Post,
     }
 }
 

@@ -1,9 +1,9 @@
 //! How a session's thread leaves its caller's blocks to the thread that flushes.
 
-use crate::answering::{Answered, SessionThread, ending_of};
+use crate::answering::{SessionThread, ending_of};
 use crate::counts::Counted;
 use crate::http::is_http;
-use kernel_shared::{Asked, ExecOutcome, Hooks, Kern};
+use kernel_shared::{ExecOutcome, Hooks, Kern};
 use model::{Message, Mode};
 use server_attending::Offered;
 use server_logging::{Ending, PostRefusal};
@@ -18,8 +18,6 @@ pub(crate) struct Awaited {
     session: u64,
     /// What its caller sends next. `None` if it was closed.
     pub(crate) mode: Option<Mode>,
-    /// The command of the line before it, or before the block that was left.
-    asked: Asked,
     /// A block was left, and its thread has not asked what became of it.
     has_left: bool,
 }
@@ -30,13 +28,12 @@ impl Awaited {
         Awaited {
             session,
             mode,
-            asked: Asked::Post,
             has_left: false,
         }
     }
 
-    /// A block was answered.
-    fn after_block(self, answered: ExecOutcome) -> Awaited {
+    /// A message was answered.
+    fn after(self, answered: ExecOutcome) -> Awaited {
         Awaited::at_start(self.session, answered.next)
     }
 }
@@ -74,30 +71,20 @@ impl<'a, 'b, R: Wait + Clock, K: Kern, H: Hooks> SessionThread<'a, 'b, R, K, H> 
         message: Message,
         counts: &mut Counted,
     ) -> Result<Awaited, Ending> {
-        let Answered { outcome, asked } = match settled.mode {
-            Some(Mode::Block) => self.have_judged(&message, settled)?,
+        let answered = match settled.mode {
+            Some(Mode::Block) => self.have_judged(&message, settled.session)?,
             Some(Mode::Line) | None => self.have_answered(&message)?,
         };
-        counts.note(settled.mode.unwrap_or(Mode::Line), outcome);
-        Ok(Awaited {
-            session: settled.session,
-            mode: outcome.next,
-            asked,
-            has_left: false,
-        })
+        counts.note(settled.mode.unwrap_or(Mode::Line), answered);
+        Ok(settled.after(answered))
     }
 
-    /// Has a post or a transfer answered that is awaited, and tells the log of it.
-    fn have_judged(&mut self, message: &Message, awaited: Awaited) -> Result<Answered, Ending> {
-        let Awaited { session, asked, .. } = awaited;
-        let offered = Offered {
-            session,
-            asked,
-            message,
-        };
+    /// Has a post or a transfer of a session answered that is awaited, and tells the log of it.
+    fn have_judged(&mut self, message: &Message, session: u64) -> Result<ExecOutcome, Ending> {
+        let offered = Offered { session, message };
         let answered = self.have_answered(message);
         match answered {
-            Ok(answered) => self.verdicts.tell(self.shared, offered, answered.outcome),
+            Ok(answered) => self.verdicts.tell(self.shared, offered, answered),
             Err(ending) => {
                 if let Some(cause) = refusal_of(ending) {
                     self.verdicts.tell_refused(self.shared, session, cause);
@@ -110,13 +97,9 @@ impl<'a, 'b, R: Wait + Clock, K: Kern, H: Hooks> SessionThread<'a, 'b, R, K, H> 
     /// Leaves a block, unless the session holds an output or has something to write. The block is given back then.
     fn leave(&mut self, block: Message, settled: Awaited) -> Result<Awaited, Message> {
         let moment = self.moments.now(self.shared.rt, self.log);
-        let untold = self.writer.leave(
-            self.shared.rt,
-            &mut self.hand,
-            block,
-            settled.asked,
-            moment,
-        )?;
+        let untold = self
+            .writer
+            .leave(self.shared.rt, &mut self.hand, block, moment)?;
         untold.tell(self.shared.bells);
         Ok(Awaited {
             mode: Some(Mode::Line),
@@ -137,12 +120,12 @@ impl<'a, 'b, R: Wait + Clock, K: Kern, H: Hooks> SessionThread<'a, 'b, R, K, H> 
         }
         let answered = match self.writer.take_back(self.shared.rt, &mut self.hand) {
             None => return Err(Ending::Failed),
-            Some(TakenBack::Block(block)) => self.have_judged(&block, awaited)?.outcome,
+            Some(TakenBack::Block(block)) => self.have_judged(&block, awaited.session)?,
             Some(TakenBack::Filed(Ok(answered))) => answered,
             Some(TakenBack::Filed(Err(error))) => return Err(ending_of(error)),
         };
         counts.note(Mode::Block, answered);
-        Ok(awaited.after_block(answered))
+        Ok(awaited.after(answered))
     }
 }
 

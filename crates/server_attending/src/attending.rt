@@ -121,7 +121,6 @@ pub fn file_left<R: Wait + Clock, K: Kern, H: Hooks>(
         };
         let offered = Offered {
             session: left.session,
-            asked: left.asked,
             message: &left.block,
         };
         match left.answer {

@@ -1,8 +1,8 @@
 //! What the log tells of each post and each transfer.
 
-use kernel_shared::{Asked, ExecOutcome, Kern};
-use model::{Mark, Message};
-use server_judging::{Finding, by_obstacle, find, id_of};
+use kernel_shared::ExecOutcome;
+use model::Message;
+use server_judging::{id_of, of_refusal};
 use server_logging::{Log, LogEvent, PostRefusal, RefusedPost, TakenPost};
 use server_releasing::Shared;
 use std::alloc::AllocError;
@@ -13,8 +13,6 @@ use std::time::Clock;
 #[derive(Clone, Copy)]
 pub struct Offered<'a> {
     pub session: u64,
-    /// The command that the message follows.
-    pub asked: Asked,
     pub message: &'a Message,
 }
 
@@ -28,29 +26,21 @@ pub struct Verdicts<'a> {
 
 impl<'a> Verdicts<'a> {
     /// Tells of a post or a transfer that was answered. Of one that was taken the log tells once it is durable. No thread
-    /// holds the kernel meanwhile, but for a look at what keeps an article from being filed. A log that leaves such lines out
-    /// counts them.
-    pub fn tell<R: Wait + Clock, K: Kern, G>(
+    /// holds the kernel meanwhile. A log that leaves such lines out counts them.
+    pub fn tell<R: Wait + Clock, K, G>(
         &self,
         shared: &Shared<'_, R, K, G>,
         offered: Offered<'_>,
         answered: ExecOutcome,
     ) {
-        match answered.accepted {
-            Some(serial) => {
-                self.log.count_taken(shared.rt);
-                if !self.log.is_quiet() {
-                    self.tell_taken(shared, offered, serial);
-                }
+        if let Some(serial) = answered.accepted {
+            self.log.count_taken(shared.rt);
+            if !self.log.is_quiet() {
+                self.tell_taken(shared, offered, serial);
             }
-            None => {
-                let cause = self.cause_of(shared, offered, answered.mark);
-                self.tell_refused(
-                    shared,
-                    offered.session,
-                    cause.unwrap_or(PostRefusal::Memory),
-                );
-            }
+        }
+        if let Some(why) = answered.refusal {
+            self.tell_refused(shared, offered.session, of_refusal(why));
         }
     }
 
@@ -97,30 +87,5 @@ impl<'a> Verdicts<'a> {
     ) -> Result<String, AllocError> {
         let id = id_of(shared.alloc, self.host, serial, text)?;
         String::from_utf8_lossy(shared.alloc, id.as_slice())
-    }
-
-    /// Why one was refused that got this mark. What was accepted is looked at now: a group that was made since then may be
-    /// there by now.
-    fn cause_of<R: Wait, K: Kern, G>(
-        &self,
-        shared: &Shared<'_, R, K, G>,
-        offered: Offered<'_>,
-        mark: Mark,
-    ) -> Result<PostRefusal, AllocError> {
-        let Shared {
-            rt,
-            alloc,
-            kern,
-            ..
-        } = shared;
-        let Offered { asked, message, .. } = offered;
-        match find(*alloc, self.host, asked, message, mark)? {
-            Finding::Refused(cause) => Ok(cause),
-            Finding::Article(article) => {
-                let groups = article.groups(*alloc)?;
-                let obstacle = kern.obstacle(*rt, article.id(), &groups);
-                Ok(by_obstacle(asked, obstacle))
-            }
-        }
     }
 }

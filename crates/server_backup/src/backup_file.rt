@@ -45,13 +45,8 @@ impl<'a> Backups<'a> {
                 self.name(rt, alloc, path)?;
                 Ok(changes)
             }
-            Err(NoBackup::Halted) => {
-                // the server's end waits for this answer, and removes the file after it
-                let (removed, _answer) = unbounded(alloc)?;
-                let path = String::from_str(alloc, path)?;
-                let _ = self.ask(rt, FileWork::Remove { path, removed });
-                Err(NoBackup::Halted)
-            }
+            // a server that ends removes the file itself
+            Err(NoBackup::Halted) => Err(NoBackup::Halted),
             Err(refused) => {
                 let _ = self.remove(rt, alloc, path);
                 Err(refused)

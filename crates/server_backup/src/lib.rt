@@ -10,5 +10,5 @@ mod portions;
 
 pub use backup_file::{Backups, path_of};
 pub use backup_plan::BackupPlan;
-pub use file_work::FileWork;
+pub use file_work::{FileWork, Parts};
 pub use no_backup::NoBackup;

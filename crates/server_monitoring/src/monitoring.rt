@@ -3,7 +3,7 @@
 use crossbeam_channel::Receiver;
 use disk_file::{are_one, make_anew};
 use kernel_shared::{Kern, halt};
-use server_backup::FileWork;
+use server_backup::{FileWork, Parts};
 use server_logging::{Cause, EventCounts, Log, LogEvent};
 use server_metrics::{CommitTimes, Metrics, SessionStates, VolumeCounts, text};
 use server_releasing::{Shared, Writers};
@@ -235,7 +235,8 @@ impl<'a> Watch<'a> {
     }
 
     /// Looks at once, then every fifteen seconds and when the operator asks how the server is, and for the last time after `end` was
-    /// called. Each time it looks at the volume's file, writes the file for a monitor, and does what backups ask for. Once the path of
+    /// called. Each time it looks at the volume's file, writes the file for a monitor, and does what backups ask for. The last time it
+    /// removes the files of backups that are under way. Once the path of
     /// the volume's file names another one or none, or the file has another length, it halts the kernel and sets `is_replaced`, unless
     /// the log was told before why the server fails.
     pub fn look_all<R: Files<File = File> + Wait + Clock, K: Kern, G>(
@@ -243,14 +244,16 @@ impl<'a> Watch<'a> {
         shared: &Shared<'_, R, K, G>,
     ) {
         let mut written = Written::nothing();
+        let mut parts = Parts::new(shared.alloc);
         for _ in shared.rt.forever() {
             let is_last = self.has_ended.load(Ordering::SeqCst);
             self.look_at_file(shared);
             if let Some(monitor) = self.monitor {
                 write(shared, monitor, &mut written);
             }
-            self.carry_out_all(shared);
+            self.carry_out_all(shared, &mut parts);
             if is_last {
+                parts.remove_all(shared.rt);
                 return;
             }
             shared
@@ -261,12 +264,16 @@ impl<'a> Watch<'a> {
     }
 
     /// Does what backups ask for about their files.
-    fn carry_out_all<R: Files<File = File> + Wait, K, G>(&self, shared: &Shared<'_, R, K, G>) {
+    fn carry_out_all<R: Files<File = File> + Wait, K, G>(
+        &self,
+        shared: &Shared<'_, R, K, G>,
+        parts: &mut Parts,
+    ) {
         for _ in shared.rt.forever() {
             let Ok(work) = self.works.try_recv(shared.rt) else {
                 return;
             };
-            work.carry_out(shared.rt, shared.alloc);
+            work.carry_out(shared.rt, shared.alloc, parts);
         }
     }
 

@@ -1,7 +1,7 @@
 //! The octets of one session that have left the kernel, on their way into its socket.
 
 use kernel_outbox::{RELEASE_ENTRIES, RELEASE_OCTETS, ReadyBuf};
-use kernel_shared::{Asked, ExecError, ExecOutcome, Hooks, Kern};
+use kernel_shared::{ExecError, ExecOutcome, Hooks, Kern};
 use model::{Message, Moment};
 use server_delivering::{Taking, Written, deliver, deliver_at_once};
 use server_places::Held;
@@ -41,11 +41,10 @@ pub struct Delivery {
     pub cut: Option<Cut>,
 }
 
-/// A block that a session's thread has left to the thread that flushes, the command that it follows, and when it came.
+/// A block that a session's thread has left to the thread that flushes, and when it came.
 #[derive(Drop)]
 pub struct LeftBlock {
     pub block: Message,
-    pub asked: Asked,
     pub moment: Moment,
 }
 

@@ -7,7 +7,7 @@
 
 use crate::answerable::Answerable;
 use crate::{Hand, ReplyWriter, Shared};
-use kernel_shared::{Asked, Bells, ExecError, ExecOutcome, Hooks, Kern};
+use kernel_shared::{Bells, ExecError, ExecOutcome, Hooks, Kern};
 use model::{Message, Moment};
 use server_outgoing::{LeftBlock, Patience, Turn};
 use session_received::Received;
@@ -40,8 +40,6 @@ pub enum TakenBack {
 pub struct FiledBlock {
     pub session: u64,
     pub block: Message,
-    /// The command that it follows.
-    pub asked: Asked,
     pub answer: Result<ExecOutcome, ExecError>,
 }
 
@@ -53,7 +51,6 @@ impl ReplyWriter {
         rt: &R,
         hand: &mut Hand,
         block: Message,
-        asked: Asked,
         moment: Moment,
     ) -> Result<Untold, Message> {
         let mut turn = self.desk.turn(rt, hand);
@@ -61,11 +58,7 @@ impl ReplyWriter {
             turn.end_before_send();
             return Err(block);
         }
-        let left = LeftBlock {
-            block,
-            asked,
-            moment,
-        };
+        let left = LeftBlock { block, moment };
         let left = turn.outgoing().leave(left);
         turn.note_left(left.is_ok());
         turn.end_before_send();
@@ -145,11 +138,10 @@ impl ReplyWriter {
         let outgoing = turn.outgoing();
         outgoing.note_filed(answer);
         shared.write(outgoing, Patience::None);
-        let LeftBlock { block, asked, .. } = left;
+        let LeftBlock { block, .. } = left;
         Some(FiledBlock {
             session: outgoing.sid,
             block,
-            asked,
             answer,
         })
     }

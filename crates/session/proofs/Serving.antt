@@ -14,6 +14,7 @@ use Rattle.model.specs.declared.session.Awaits.{Awaits}
 use Rattle.model.specs.declared.session.Awaits.TheVariants as awaits
 use Rattle.model.specs.declared.session.Session.{Session}
 use Rattle.session_replies.specs.Answered.{Answered, answered}
+use Rattle.session_posting.specs.declared.refusals.Refusal.TheVariants.{Full}
 use Rattle.session.specs.Served.{Grows, IsServed, lacks_room_for, mark_in}
 use Rattle.session.specs.declared.Served.{Served}
 use Rattle.kernel_outbox.specs.declared.made_lines.Lines.{Lines}
@@ -77,7 +78,7 @@ module _ (host : Octets) (S : Spool) (x : Session) (m : Message) (t : ℕ) where
 
 -- the answer where there is no room
 abbrev pub full_served : Answered → Served
-full_served answered = record { answered = answered; mark = mark.Full; has_accepted = false }
+full_served answered = record { answered = answered; mark = mark.Full; refusal = Some Full; has_accepted = false }
 
 pub is_full_served : (host : Octets) (S : Spool) (made : Lines → Octets) (keeps : Lines → Type 0) (lacks : Change → Bool)
     (adds : Change → Type 0) (stays : Type 0) (x : Session) (m : Message) (t : ℕ) (k : Mark) (c : Change)
@@ -89,6 +90,7 @@ is_full_served host S made keeps lacks adds stays x m t k c is makes room same =
   kept = tt;
   next = ap (λ (a : Answer). a.next) (sym (full_is host S x m t));
   reads = sym (full_reads host S x m t);
+  refusal = refl;
   accepted = ap is_some (sym (ap (λ (a : Answer). a.change) (full_is host S x m t) ∙ full_none host S x m t));
   spool = subst (Grows adds stays) (sym (ap (λ (a : Answer). a.change) (full_is host S x m t) ∙ full_none host S x m t)) same;
 }

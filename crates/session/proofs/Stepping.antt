@@ -4,7 +4,6 @@ use Rattle.std.specs.Prelude.{Option, Some, None, Result, Ok, Err, IfOk, IfSome,
 use Rattle.std.proofs.lemmas.Bool.{false≢true}
 use Rattle.model.specs.Stream.{Octets}
 use Rattle.model.specs.Answer.{answer, awaiting, is_long, is_long_as_stored, is_long_by, post_answer, post_outcome, says, served}
-use Rattle.model.specs.Answer.{transfer_answer, transfer_outcome}
 use Rattle.model.specs.Reads.{outcome_reads, reads, served_reads}
 use Rattle.model.specs.Replies.{not_accepted}
 use Rattle.model.specs.Spool.{Spool}
@@ -18,15 +17,22 @@ use Rattle.model.specs.declared.session.Awaits.TheVariants as awaits
 use Rattle.kernel_outbox.specs.Lines.{with_lines}
 use Rattle.kernel_outbox.specs.declared.made_lines.Lines.{Lines}
 use Rattle.model.specs.declared.session.Session.{Session}
-use Rattle.session_posting.specs.Outcomes.{Replied, post_said, said_served, then_line}
+use Rattle.session_posting.specs.Outcomes.{Replied, post_said, said_of, said_served, then_line, transfer_said}
+use Rattle.session_posting.specs.Refusals.{awaited_refusal, post_refusal}
 use Rattle.session_replies.specs.Answered.{Answered, Answers, answered, made_answer}
+use Rattle.session.specs.Served.{refusal_in}
 use Rattle.session.specs.Steps.{IsStep, step_of}
 
 module _ (host : Octets) (S : Spool) (x : Session) (t : ℕ) (m : Message) where
   -- by whether it is an article that is too long
   abbrev by_length : Bool → Replied
-  by_length b = if b then record { answered = answered (says (awaiting x awaits.Line) not_accepted) 0; mark = mark.Long }
-      else said_served (answered (served host S x t x.awaits m) (served_reads host S x t x.awaits m))
+  by_length b = if b
+      then record {
+        answered = answered (says (awaiting x awaits.Line) not_accepted) 0;
+        mark = mark.Long;
+        refusal = awaited_refusal host S x.awaits m;
+      }
+      else said_of (awaited_refusal host S x.awaits m) (answered (served host S x t x.awaits m) (served_reads host S x t x.awaits m))
 
   answer_by : (b : Bool) → (by_length b).answered.answer ≡ answer host S x m t (by_length b).mark
   unfolding answer
@@ -41,6 +47,10 @@ module _ (host : Octets) (S : Spool) (x : Session) (t : ℕ) (m : Message) where
   mark_by : (b : Bool) → (by_length b).mark ≡ (if b then mark.Long else mark.Served)
   mark_by true = refl
   mark_by false = refl
+
+  refusal_by : (b : Bool) → (by_length b).refusal ≡ refusal_in host S x m (by_length b).mark
+  refusal_by true = refl
+  refusal_by false = refl
 
   -- a step has no lines
   lines_by : (b : Bool) → (by_length b).answered.lines ≡ None
@@ -57,6 +67,9 @@ module _ (host : Octets) (S : Spool) (x : Session) (t : ℕ) (m : Message) where
     pub step_mark : s.mark ≡ (if is_long host S x m then mark.Long else mark.Served)
     unfolding is_long
     step_mark = is.mark ∙ mark_by (is_long_by host S x.awaits m)
+
+    pub step_refusal : s.refusal ≡ refusal_in host S x m s.mark
+    step_refusal = is.refusal ∙ refusal_by (is_long_by host S x.awaits m) ∙ ap (refusal_in host S x m) (sym is.mark)
 
 -- ---- steps without lines, and with them
 
@@ -79,6 +92,7 @@ plain_step made keeps s step is none =
         kept = subst (λ (ls : Option Lines). IfSome ls keeps) (sym lines) tt;
       };
       mark = ap (λ (r : Replied). r.mark) is;
+      refusal = ap (λ (r : Replied). r.refusal) is;
       unlined = λ some. lines;
     }
 
@@ -92,8 +106,14 @@ pub no_lines : (host : Octets) (S : Spool) (x : Session) (t : ℕ) (what : Await
 no_lines host S x t what m = go (is_long_by host S what m)
   where
     go : (b : Bool) → (let r : Replied =
-        if b then record { answered = answered (says (awaiting x awaits.Line) not_accepted) 0; mark = mark.Long }
-        else said_served (answered (served host S x t what m) (served_reads host S x t what m)) in r.answered.lines ≡ None)
+        if b
+        then record {
+          answered = answered (says (awaiting x awaits.Line) not_accepted) 0;
+          mark = mark.Long;
+          refusal = awaited_refusal host S what m;
+        }
+        else said_of (awaited_refusal host S what m) (answered (served host S x t what m) (served_reads host S x t what m)) in
+        r.answered.lines ≡ None)
     go true = refl
     go false = refl
 
@@ -104,6 +124,7 @@ pub line_step : (made : Lines → Octets) (keeps : Lines → Type 0) (s : Replie
 line_step made keeps s a its n is none same = record {
   answers = subst (λ (r : Replied). Answers made keeps r.answered its n) (sym same) is;
   mark = ap (λ (r : Replied). r.mark) same;
+  refusal = ap (λ (r : Replied). r.refusal) same;
   unlined = λ some.
       let nothing : s.answered.answer.change ≡ None = ap (λ (r : Replied). r.answered.answer.change) same
       ∙ ap (λ (b : Answer). b.change) is.answer_is ∙ none in
@@ -118,13 +139,19 @@ makes_one f (Some x) some = refl
 -- What is said of a posted article is its step.
 module _ (host : Octets) (S : Spool) (x : Session) (t : ℕ) (text : Octets) where
   abbrev said_by : Bool → Replied
-  said_by b = if b then record { answered = answered (then_line x not_accepted None) 0; mark = mark.Long }
-      else said_served (answered (post_answer host S x t text) (outcome_reads S (post_outcome host S text)))
+  said_by b = if b
+      then record { answered = answered (then_line x not_accepted None) 0; mark = mark.Long; refusal = post_refusal host S text }
+      else said_of (post_refusal host S text) (answered (post_answer host S x t text) (outcome_reads S (post_outcome host S text)))
 
   abbrev step_by : Bool → Replied
-  step_by b = if b then record { answered = answered (says (awaiting x awaits.Line) not_accepted) 0; mark = mark.Long }
-      else said_served (answered (served host S x t awaits.PostBlock (message.Block text))
-      (served_reads host S x t awaits.PostBlock (message.Block text)))
+  step_by b = if b
+      then record {
+        answered = answered (says (awaiting x awaits.Line) not_accepted) 0;
+        mark = mark.Long;
+        refusal = awaited_refusal host S awaits.PostBlock (message.Block text);
+      }
+      else said_of (awaited_refusal host S awaits.PostBlock (message.Block text))
+      (answered (served host S x t awaits.PostBlock (message.Block text)) (served_reads host S x t awaits.PostBlock (message.Block text)))
 
   posted_by : (b : Bool) → said_by b ≡ step_by b
   unfolding served served_reads
@@ -136,7 +163,6 @@ module _ (host : Octets) (S : Spool) (x : Session) (t : ℕ) (text : Octets) whe
 
 -- What is said of a carried article is its step.
 pub transfer_step : (host : Octets) (S : Spool) (x : Session) (t : ℕ) (id text : Octets)
-    → said_served (answered (transfer_answer S x t id text) (outcome_reads S (transfer_outcome S id text)))
-    ≡ step_of host S x t (awaits.IhaveBlock id) (message.Block text)
+    → transfer_said S x t id text ≡ step_of host S x t (awaits.IhaveBlock id) (message.Block text)
 unfolding served served_reads
 transfer_step host S x t id text = refl

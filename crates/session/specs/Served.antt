@@ -14,6 +14,9 @@ use Rattle.kernel_outbox.specs.declared.made_lines.Lines.{Lines}
 use Rattle.session_replies.specs.Answered.{reply_of}
 use Rattle.session_lookups.specs.declared.change_spool.FilingError.{FilingError}
 use Rattle.session_lookups.specs.declared.change_spool.FilingError.TheVariants as error
+use Rattle.session_posting.specs.Refusals.{awaited_refusal}
+use Rattle.session_posting.specs.declared.refusals.Refusal.{Refusal}
+use Rattle.session_posting.specs.declared.refusals.Refusal.TheVariants as refusal
 use Rattle.session.specs.declared.Served.{Served}
 
 -- whether there is no room for the change of an answer, if it makes one
@@ -27,6 +30,13 @@ mark_in host S lacks x m t =
     if is_long host S x m then mark.Long
     else if lacks_room_for lacks (answer host S x m t mark.Served).change then mark.Full
     else mark.Served
+
+-- why the article of a message isn't filed, by the message's mark
+abbrev pub refusal_in : Octets → Spool → Session → Message → Mark → Option Refusal
+refusal_in host S x m mark.Served = awaited_refusal host S x.awaits m
+refusal_in host S x m mark.Long = awaited_refusal host S x.awaits m
+refusal_in host S x m mark.Full = Some refusal.Full
+refusal_in host S x m mark.Stopped = Some refusal.Stopped
 
 -- the change of an answer was filed, or there is none and the spool is as it was
 abbrev pub Grows : (Change → Type 0) → Type 0 → Option Change → Type 0
@@ -46,5 +56,6 @@ pub record IsServed (host : Octets) (S : Spool) (made : Lines → Octets) (keeps
   pub kept : IsKept keeps (reply_of served.answered)
   pub next : served.answered.answer.next ≡ (answer host S x m t served.mark).next
   pub reads : served.answered.reads ≡ reads host S x m t served.mark
+  pub refusal : served.refusal ≡ refusal_in host S x m served.mark
   pub accepted : served.has_accepted ≡ is_some (answer host S x m t served.mark).change
   pub spool : Grows adds stays (answer host S x m t served.mark).change

@@ -13,7 +13,7 @@ mod steps;
 
 use model::{Mark, Moment, Session, lawful_stays};
 use session_lookups::{ChangeSpool, FilingError};
-use session_posting::{Accepted, Step, Stored};
+use session_posting::{Accepted, Refusal, Step, Stored};
 use session_received::Received;
 use session_replies::{Answered, full};
 use std::alloc::{AllocError, Global};
@@ -25,6 +25,8 @@ pub struct Served {
     /// counts its own change among those that it reads
     pub answered: Answered,
     pub mark: Mark,
+    /// Why the message's article is not filed. `None` if it is, or if the message has none.
+    pub refusal: Option<Refusal>,
     /// Whether the message's change was filed; it is the spool's last one then.
     pub has_accepted: bool,
 }
@@ -51,11 +53,13 @@ pub fn serve<S: ChangeSpool>(
     let Step {
         answered,
         accepted,
+        refusal,
         mark,
     } = step(alloc, spool, session, received, moment)?;
     let served = Served {
         answered,
         mark,
+        refusal,
         has_accepted: accepted.is_some(),
     };
     let Some(accepted) = accepted else {
@@ -66,6 +70,7 @@ pub fn serve<S: ChangeSpool>(
         Err(FilingError::Full) => Ok(Served {
             answered: full(alloc, session)?,
             mark: Mark::Full,
+            refusal: Some(Refusal::Full),
             has_accepted: false,
         }),
         Err(FilingError::Memory) => Err(AllocError),

@@ -1,6 +1,6 @@
 //! Messages, by what the session awaits.
 
-ghost use Rattle.std.specs.Prelude.{◌≡◌, IfOk, None};
+ghost use Rattle.std.specs.Prelude.{◌≡◌, IfOk, None, Some};
 ghost use Rattle.model.specs.Answer.{awaiting, line_answer, says};
 ghost use Rattle.session_grammar.specs.Arguments.{IsParsed};
 ghost use Rattle.model.specs.Reads.{line_reads};
@@ -8,14 +8,16 @@ ghost use Rattle.model.specs.declared.session.Awaits.TheVariants as waits;
 ghost use Rattle.session_replies.specs.Answered.{Answers, answered};
 ghost use Rattle.model.specs.Replies.{syntax_error};
 ghost use Rattle.session_replies.specs.Replies.{sent};
-ghost use Rattle.session_posting.specs.Outcomes.{said, said_served};
+ghost use Rattle.session_posting.specs.Outcomes.{said, said_of, said_served};
 ghost use Rattle.session.specs.Steps.{IsStep, step_of};
+ghost use Rattle.model.specs.declared.cause.Cause.TheVariants.{Long};
+ghost use Rattle.session_posting.specs.declared.refusals.Refusal.TheVariants as too_long;
 
 use crate::commands::command;
-use model::{Awaits, Mark, Message, Moment, Parsed, Session};
+use model::{Awaits, Cause, Mark, Message, Moment, Parsed, Session};
 use session_grammar::arguments_are_in_grammar;
 use session_lookups::LookUps;
-use session_posting::{Step, ihave_block, post_block};
+use session_posting::{Refusal, Step, ihave_block, post_block};
 use session_received::Received;
 use session_replies::{Answered, Reply, ends, says_line};
 use std::alloc::{AllocError, Global};
@@ -28,6 +30,7 @@ fn served<'m>(answered: Answered) -> Step<'m>
     Step {
         answered,
         accepted: None,
+        refusal: None,
         mark: Mark::Served,
     }
 }
@@ -130,9 +133,13 @@ pub(crate) fn at_ihave<'m, L: LookUps>(
 
 /// The answer to an article that is too long to be read.
 fn refused<'m>(alloc: Global, session: &Session, which: Reply) -> Result<Step<'m>, AllocError>
-    ensures { IfOk result (λ step. said step ≡ said_served (answered (says (awaiting session.now waits.Line) (sent which)) 0)) }
+    ensures { IfOk result (λ step. said step
+        ≡ said_of (Some (too_long.Text Long)) (answered (says (awaiting session.now waits.Line) (sent which)) 0)) }
 {
-    Ok(served(ends(alloc, session, which, Awaits::Line)?))
+    Ok(Step {
+        refusal: Some(Refusal::Text(Cause::Long)),
+        ..served(ends(alloc, session, which, Awaits::Line)?)
+    })
 }
 
 /// The answer where nothing more is awaited.

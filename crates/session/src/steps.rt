@@ -8,6 +8,7 @@ ghost use Rattle.model.specs.declared.message.Mark.TheVariants as mark;
 ghost use Rattle.kernel_outbox.specs.Lines.{IsKept};
 ghost use Rattle.session_posting.specs.Outcomes.{said};
 ghost use Rattle.session_replies.specs.Answered.{made_answer, reply_of};
+ghost use Rattle.session.specs.Served.{refusal_in};
 ghost use Rattle.session.specs.Steps.{IsStep, step_of};
 
 use crate::messages::{at_ihave, at_line, at_nothing, at_post};
@@ -34,6 +35,8 @@ pub(crate) fn step<'m, L: LookUps>(
     ensures unlined { IfOk result (λ step. IsSome step.accepted → step.answered.lines ≡ None) }
     ensures reads { IfOk result (λ step. step.answered.reads ≡ reads (L.host_of spool.now)
         (L.changes spool.now) session.now received.entry moment step.mark) }
+    ensures refusal { IfOk result (λ step. step.refusal ≡ refusal_in (L.host_of spool.now)
+        (L.changes spool.now) session.now received.entry step.mark) }
     ensures mark { IfOk result (λ step. step.mark ≡ if answers.is_long (L.host_of spool.now)
         (L.changes spool.now) session.now received.entry then mark.Long else mark.Served) }
 {

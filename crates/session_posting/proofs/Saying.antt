@@ -9,11 +9,13 @@ use Rattle.model.specs.Replies.{not_accepted}
 use Rattle.model.specs.Spool.{Spool}
 use Rattle.model.specs.declared.cause.Cause.{Cause}
 use Rattle.model.specs.declared.cause.Cause.TheVariants as causes
+use Rattle.model.specs.declared.message.Mark.{Mark}
 use Rattle.model.specs.declared.message.Mark.TheVariants as mark
 use Rattle.model.specs.declared.session.Session.{Session}
 use Rattle.model.proofs.Fronts.{first_none}
 use Rattle.session_replies.specs.Answered.{answered}
-use Rattle.session_posting.specs.Outcomes.{mark_by, post_said, posted_by, then_line}
+use Rattle.session_posting.specs.Outcomes.{Replied, mark_by, post_said, posted_by, then_line}
+use Rattle.session_posting.specs.declared.refusals.Refusal.TheVariants as refusal
 
 -- ---- causes
 
@@ -67,40 +69,44 @@ other_parts None false c other is = let one : c ≡ causes.Long = cc in absurd (
 
 -- ---- what is said
 
-pub said_ok : (host : Octets) (S : Spool) (x : Session) (t : ℕ) (text : Octets) → cause (Posted host (length S + 1)) text ≡ None
-    → post_said host S x t text ≡ record { answered = posted_by host S x t text; mark = mark.Served }
-unfolding post_outcome
-said_ok host S x t text is =
-    let none = but_none (Posted host (length S + 1)) text is in
-    let short = stored_short (Posted host (length S + 1)) text is in
-    rw (none, short) refl
+module _ (host : Octets) (S : Spool) (x : Session) (t : ℕ) (text : Octets) where
+  abbrev origin : Origin
+  origin = Posted host (length S + 1)
 
-pub said_long : (host : Octets) (S : Spool) (x : Session) (t : ℕ) (text : Octets)
-    → cause (Posted host (length S + 1)) text ≡ Some causes.Long
-    → post_said host S x t text ≡ record { answered = answered (then_line x not_accepted None) 0; mark = mark.Long }
-unfolding cause
-said_long host S x t text is =
-    let parts = long_parts (cause_but_long (Posted host (length S + 1)) text) (is_short (as_stored (Posted host (length S + 1)) text))
-    (but_never_long (Posted host (length S + 1)) text) is in
-    rw (parts.0, parts.1) refl
+  pub said_ok : cause origin text ≡ None → post_said host S x t text ≡ posted_by host S x t text
+  unfolding post_outcome
+  said_ok is =
+      let none = but_none origin text is in
+      let short = stored_short origin text is in
+      rw (is, none, short) refl
 
-pub said_bad : (host : Octets) (S : Spool) (x : Session) (t : ℕ) (text : Octets) (c : Cause)
-    → cause (Posted host (length S + 1)) text ≡ Some c → (c ≡ causes.Long → ⊥)
-    → post_said host S x t text ≡ record { answered = answered (then_line x not_accepted None) 0; mark = mark.Served }
-unfolding cause post_outcome
-said_bad host S x t text c is other =
-    let some = other_parts (cause_but_long (Posted host (length S + 1)) text) (is_short (as_stored (Posted host (length S + 1)) text)) c
-    other is in
-    rw some refl
+  -- an answer that refuses a text for this cause, with this mark
+  abbrev said_with : Cause → Mark → Replied
+  said_with c mark = record { answered = answered (then_line x not_accepted None) 0; mark = mark; refusal = Some (refusal.Text c) }
 
-pub said_refused : (host : Octets) (S : Spool) (x : Session) (t : ℕ) (text : Octets) (c : Cause)
-    → cause (Posted host (length S + 1)) text ≡ Some c
-    → post_said host S x t text ≡ record { answered = answered (then_line x not_accepted None) 0; mark = mark_by c }
-said_refused host S x t text causes.Octets is = said_bad host S x t text causes.Octets is (λ same. absurd (cc))
-said_refused host S x t text causes.NoEnd is = said_bad host S x t text causes.NoEnd is (λ same. absurd (cc))
-said_refused host S x t text causes.Field is = said_bad host S x t text causes.Field is (λ same. absurd (cc))
-said_refused host S x t text causes.Twice is = said_bad host S x t text causes.Twice is (λ same. absurd (cc))
-said_refused host S x t text causes.Missing is = said_bad host S x t text causes.Missing is (λ same. absurd (cc))
-said_refused host S x t text causes.Id is = said_bad host S x t text causes.Id is (λ same. absurd (cc))
-said_refused host S x t text causes.Groups is = said_bad host S x t text causes.Groups is (λ same. absurd (cc))
-said_refused host S x t text causes.Long is = said_long host S x t text is
+  in_parts : (c : Cause) → cause origin text ≡ Some c
+      → option_or (cause_but_long origin text) (cond (is_short (as_stored origin text)) None (Some causes.Long)) ≡ Some c
+  unfolding cause
+  in_parts c is = is
+
+  said_long : cause origin text ≡ Some causes.Long → post_said host S x t text ≡ said_with causes.Long mark.Long
+  said_long is =
+      let parts = long_parts (cause_but_long origin text) (is_short (as_stored origin text)) (but_never_long origin text)
+      (in_parts causes.Long is) in
+      rw (parts.0, parts.1, is) refl
+
+  said_other : (c : Cause) → cause origin text ≡ Some c → (c ≡ causes.Long → ⊥) → post_said host S x t text ≡ said_with c mark.Served
+  unfolding post_outcome
+  said_other c is other =
+      let some = other_parts (cause_but_long origin text) (is_short (as_stored origin text)) c other (in_parts c is) in
+      rw (some, is) refl
+
+  pub said_refused : (c : Cause) → cause origin text ≡ Some c → post_said host S x t text ≡ said_with c (mark_by c)
+  said_refused causes.Octets is = said_other causes.Octets is (λ same. absurd (cc))
+  said_refused causes.NoEnd is = said_other causes.NoEnd is (λ same. absurd (cc))
+  said_refused causes.Field is = said_other causes.Field is (λ same. absurd (cc))
+  said_refused causes.Twice is = said_other causes.Twice is (λ same. absurd (cc))
+  said_refused causes.Missing is = said_other causes.Missing is (λ same. absurd (cc))
+  said_refused causes.Id is = said_other causes.Id is (λ same. absurd (cc))
+  said_refused causes.Groups is = said_other causes.Groups is (λ same. absurd (cc))
+  said_refused causes.Long is = said_long is

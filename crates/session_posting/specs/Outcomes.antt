@@ -21,13 +21,16 @@ use Rattle.session_posting.specs.declared.filed_groups.Closed.TheVariants as clo
 use Rattle.session_posting.specs.declared.posts.Step.{Step}
 use Rattle.session_posting.specs.declared.filed_groups.Outcome.{Outcome}
 use Rattle.session_posting.specs.declared.filed_groups.Outcome.TheVariants as outcome
+use Rattle.session_posting.specs.declared.refusals.Refusal.{Refusal}
+use Rattle.session_posting.specs.declared.refusals.Refusal.TheVariants as refusal
+use Rattle.session_posting.specs.Refusals.{post_refusal, refusal_by, transfer_refusal}
 
--- a refusal states what it reads
+-- a refusal states why, and what it reads
 abbrev pub told : Spool → answers.Outcome → Outcome
-told S answers.not_an_article = outcome.Refused 0
-told S (answers.id_here a) = outcome.Refused a.serial
-told S answers.no_group_here = outcome.Refused 0
-told S (answers.group_closed g) = outcome.Refused (last_naming S g)
+told S answers.not_an_article = outcome.Refused refusal.OtherId 0
+told S (answers.id_here a) = outcome.Refused refusal.Repeat a.serial
+told S answers.no_group_here = outcome.Refused refusal.NoGroup 0
+told S (answers.group_closed g) = outcome.Refused refusal.Closed (last_naming S g)
 told S (answers.accepted here) = outcome.Accepted here
 
 -- the first of these groups that prevents the filing
@@ -39,10 +42,11 @@ closed_among closed.Take S names = None
 abbrev pub then_line : Session → Octets → Option Change → Answer
 then_line x reply c = record { reply = reply; next = answers.awaiting x awaits.Line; change = c }
 
--- what a message is answered, with what the answer reads and the change that it makes, and its mark
+-- what a message is answered, with what the answer reads and the change that it makes; its mark; and why its article isn't filed
 pub record Replied : Type 0 where
   pub answered : Answered
   pub mark : Mark
+  pub refusal : Option Refusal
 
 -- a step, with the change that files its article
 abbrev pub said : Step → Replied
@@ -53,34 +57,43 @@ said s = record {
     lines = s.answered.lines;
   };
   mark = s.mark;
+  refusal = s.refusal;
 }
 
--- an answer that is served
-abbrev pub said_served : Answered → Replied
-said_served answered = record { answered = answered; mark = mark.Served }
+-- an answer that is served to a message with an article, which for this reason isn't filed
+abbrev pub said_of : Option Refusal → Answered → Replied
+said_of why answered = record { answered = answered; mark = mark.Served; refusal = why }
 
--- the answer to a posted article with what it reads, and its mark
+-- one to a message without an article
+abbrev pub said_served : Answered → Replied
+said_served answered = said_of None answered
+
+-- the answer to a posted article with what it reads, its mark, and why it isn't filed
 abbrev pub post_said : Octets → Spool → Session → ℕ → Octets → Replied
 post_said host S x t text =
-    if answers.is_long_as_stored host S text then record { answered = answered (then_line x not_accepted None) 0; mark = mark.Long }
-    else record {
-      answered = answered (answers.post_answer host S x t text) (outcome_reads S (answers.post_outcome host S text));
-      mark = mark.Served;
-    }
+    if answers.is_long_as_stored host S text
+    then record { answered = answered (then_line x not_accepted None) 0; mark = mark.Long; refusal = post_refusal host S text }
+    else said_of (post_refusal host S text)
+    (answered (answers.post_answer host S x t text) (outcome_reads S (answers.post_outcome host S text)))
+
+-- the answer to a carried article with what it reads, and why it isn't filed
+abbrev pub transfer_said : Spool → Session → ℕ → Octets → Octets → Replied
+transfer_said S x t id text = said_of (transfer_refusal S id text)
+    (answered (answers.transfer_answer S x t id text) (outcome_reads S (answers.transfer_outcome S id text)))
 
 -- the answer to a post that is an article
-abbrev pub posted_by : Octets → Spool → Session → ℕ → Octets → Answered
+abbrev pub posted_by : Octets → Spool → Session → ℕ → Octets → Replied
 posted_by host S x t text =
     let what = answers.spool_outcome (answers.same_id S text) (answers.groups_here S text)
     (closed_among closed.Refuse S (groups_of text)) in
-    answered (answers.article_answer (answers.awaiting x awaits.Line) received not_accepted (injected host (length S + 1) t text) t what)
-    (outcome_reads S what)
+    said_of (refusal_by what) (answered (answers.article_answer (answers.awaiting x awaits.Line) received not_accepted (injected host (length S + 1) t text) t what)
+    (outcome_reads S what))
 
 -- the outcome of an article whose existing groups are these, and the last serial that names one that prevents the
 -- filing
 abbrev pub outcome_by : List Octets → Option ℕ → Outcome
-outcome_by [] shut = outcome.Refused 0
-outcome_by (g ∷ here) (Some n) = outcome.Refused n
+outcome_by [] shut = outcome.Refused refusal.NoGroup 0
+outcome_by (g ∷ here) (Some n) = outcome.Refused refusal.Closed n
 outcome_by (g ∷ here) None = outcome.Accepted (g ∷ here)
 
 -- the mark of a post that is refused for this cause

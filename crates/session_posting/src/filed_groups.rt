@@ -6,6 +6,7 @@ ghost use Rattle.model.specs.Article.{groups_of};
 ghost use Rattle.model.specs.Spool.{is_here, last_naming};
 ghost use Rattle.session_posting.specs.Outcomes.{closed_among, outcome_by, told};
 
+use crate::refusals::Refusal;
 use model::{Names, Text};
 use session_lookups::{LookUps, counts_of, find_group};
 use std::alloc::{AllocError, Global};
@@ -14,8 +15,8 @@ use text_article::Article;
 /// The outcome of an article.
 #[derive(Drop)]
 pub enum Outcome {
-    /// It is not filed. The reason for this lies within the changes up to this serial.
-    Refused(u64),
+    /// It is not filed for this reason, which lies within the changes up to this serial.
+    Refused(Refusal, u64),
     /// It is filed in these groups.
     Accepted(Names),
 }
@@ -94,7 +95,7 @@ pub fn filing<L: LookUps>(
         (closed_among closed (L.changes spool.now) (groups_of article.now)))) }
 {
     match same_id(spool, article) {
-        Some(serial) => Ok(Outcome::Refused(serial)),
+        Some(serial) => Ok(Outcome::Refused(Refusal::Repeat, serial)),
         None => by_groups(alloc, spool, article, closed),
     }
 }
@@ -123,10 +124,10 @@ fn made_outcome(here: Vec<Text>, in_the_way: Option<u64>) -> Outcome
     ensures { result ≡ outcome_by here.items in_the_way }
 {
     if here.is_empty() {
-        return Outcome::Refused(0);
+        return Outcome::Refused(Refusal::NoGroup, 0);
     }
     match in_the_way {
-        Some(serial) => Outcome::Refused(serial),
+        Some(serial) => Outcome::Refused(Refusal::Closed, serial),
         None => Outcome::Accepted(Names::new(here)),
     }
 }

@@ -6,7 +6,9 @@ mod accepted;
 mod filed_groups;
 mod offers;
 mod posts;
+mod refusals;
 
 pub use accepted::{Accepted, Stored};
 pub use offers::{ihave, post};
 pub use posts::{Step, ihave_block, post_block};
+pub use refusals::Refusal;

@@ -1,16 +1,16 @@
 //! The articles that follow POST and IHAVE.
 
-ghost use Rattle.std.specs.Prelude.{◌≡◌, ◌+◌, IfOk, None, length, not, option_map};
+ghost use Rattle.std.specs.Prelude.{◌≡◌, ◌+◌, IfOk, None, Some, length, not};
 ghost use Rattle.model.specs.Answer as answers;
 ghost use Rattle.model.specs.Article.{Carried, Posted as PostedTo, cause};
-ghost use Rattle.model.specs.Reads.{outcome_reads};
 ghost use Rattle.session_replies.specs.Answered.{answered};
 ghost use Rattle.session_replies.specs.Replies.{sent};
 ghost use Rattle.session_posting.specs.Accepted.{change_of};
-ghost use Rattle.session_posting.specs.Outcomes.{mark_by, post_said, posted_by, said, said_served, then_line};
+ghost use Rattle.session_posting.specs.Outcomes.{mark_by, post_said, posted_by, said, said_of, said_served, then_line, transfer_said};
 
 use crate::accepted::{Accepted, Stored};
 use crate::filed_groups::{Closed, Outcome, filing};
+use crate::refusals::Refusal;
 use model::{Awaits, Cause, Envelope, Mark, Moment, Session};
 use session_lookups::LookUps;
 use session_replies::{Answered, Reply, ends};
@@ -24,25 +24,52 @@ pub struct Step<'t> {
     pub answered: Answered,
     /// the article, if one is accepted
     pub accepted: Option<Accepted<'t>>,
+    /// why an article is not accepted, if the message has one
+    pub refusal: Option<Refusal>,
     /// `Long` if a posted article is refused because it would be too long as it is stored, else `Served`
     pub mark: Mark,
 }
 
-/// A reply after which a line is awaited, and the article that it accepts.
-fn answer<'t>(
+/// A reply after which a line is awaited.
+fn reply(alloc: Global, session: &Session, which: Reply, reads: u64) -> Result<Answered, AllocError>
+    ensures { IfOk result (λ said. said ≡ answered (then_line session.now (sent which) None) reads) }
+{
+    Ok(ends(alloc, session, which, Awaits::Line)?.reading(reads))
+}
+
+/// A reply to an article that is accepted.
+fn accept<'t>(
     alloc: Global,
     session: &Session,
     which: Reply,
-    accepted: Option<Accepted<'t>>,
+    accepted: Accepted<'t>,
     reads: u64,
 ) -> Result<Step<'t>, AllocError>
     ensures { IfOk result (λ step. said step
-        ≡ said_served (answered (then_line session.now (sent which) (option_map change_of accepted.entry)) reads)) }
+        ≡ said_served (answered (then_line session.now (sent which) (Some (change_of accepted.entry))) reads)) }
 {
-    let answered = ends(alloc, session, which, Awaits::Line)?;
     Ok(Step {
-        answered: answered.reading(reads),
-        accepted,
+        answered: reply(alloc, session, which, reads)?,
+        accepted: Some(accepted),
+        refusal: None,
+        mark: Mark::Served,
+    })
+}
+
+/// A reply to an article that is not accepted, and why.
+fn refuse<'t>(
+    alloc: Global,
+    session: &Session,
+    which: Reply,
+    why: Refusal,
+    reads: u64,
+) -> Result<Step<'t>, AllocError>
+    ensures { IfOk result (λ step. said step ≡ said_of (Some why) (answered (then_line session.now (sent which) None) reads)) }
+{
+    Ok(Step {
+        answered: reply(alloc, session, which, reads)?,
+        accepted: None,
+        refusal: Some(why),
         mark: Mark::Served,
     })
 }
@@ -65,10 +92,10 @@ pub fn post_block<'t, L: LookUps>(
     match Article::of(reading, Origin::Posted { host, serial }) {
         Ok(article) => taken(alloc, spool, session, article, serial, moment),
         Err(cause) => {
-            let refusal = answer(alloc, session, Reply::NotAccepted, None, 0)?;
+            let refused = refuse(alloc, session, Reply::NotAccepted, Refusal::Text(cause), 0)?;
             Ok(Step {
                 mark: mark_of(cause),
-                ..refusal
+                ..refused
             })
         }
     }
@@ -96,17 +123,17 @@ fn taken<'t, L: LookUps>(
     requires serial { serial ≡ length (L.changes spool.now) + 1 }
     requires cause { cause (PostedTo (L.host_of spool.now) serial) article ≡ None }
     ensures { IfOk result (λ step. said step
-        ≡ said_served (posted_by (L.host_of spool.now) (L.changes spool.now) session.now moment article.entry)) }
+        ≡ posted_by (L.host_of spool.now) (L.changes spool.now) session.now moment article.entry) }
 {
     match filing(alloc, spool, &article, Closed::Refuse)? {
-        Outcome::Refused(reads) => answer(alloc, session, Reply::NotAccepted, None, reads),
+        Outcome::Refused(why, reads) => refuse(alloc, session, Reply::NotAccepted, why, reads),
         Outcome::Accepted(groups) => {
             let stored = article.injected(alloc, serial, spool.host(), moment)?;
             let accepted = Accepted {
                 text: Stored::Posted(stored),
                 envelope: Envelope { groups, moment },
             };
-            answer(alloc, session, Reply::Received, Some(accepted), serial)
+            accept(alloc, session, Reply::Received, accepted, serial)
         }
     }
 }
@@ -122,13 +149,11 @@ pub fn ihave_block<'t, L: LookUps>(
     reading: Reading<'t>,
     moment: Moment,
 ) -> Result<Step<'t>, AllocError>
-    ensures { IfOk result (λ step. said step
-        ≡ said_served (answered (answers.transfer_answer (L.changes spool.now) session.now moment id.now reading.entry)
-        (outcome_reads (L.changes spool.now) (answers.transfer_outcome (L.changes spool.now) id.now reading.entry)))) }
+    ensures { IfOk result (λ step. said step ≡ transfer_said (L.changes spool.now) session.now moment id.now reading.entry) }
 {
     match Article::of(reading, Origin::Carried) {
         Ok(article) => given(alloc, spool, session, id, article, moment),
-        Err(_) => answer(alloc, session, Reply::Rejected, None, 0),
+        Err(cause) => refuse(alloc, session, Reply::Rejected, Refusal::Text(cause), 0),
     }
 }
 
@@ -142,22 +167,20 @@ fn given<'t, L: LookUps>(
     moment: Moment,
 ) -> Result<Step<'t>, AllocError>
     requires { cause Carried article ≡ None }
-    ensures { IfOk result (λ step. said step
-        ≡ said_served (answered (answers.transfer_answer (L.changes spool.now) session.now moment id.now article.entry)
-        (outcome_reads (L.changes spool.now) (answers.transfer_outcome (L.changes spool.now) id.now article.entry)))) }
+    ensures { IfOk result (λ step. said step ≡ transfer_said (L.changes spool.now) session.now moment id.now article.entry) }
 {
     if !has_id(&article, id) {
-        return answer(alloc, session, Reply::Rejected, None, 0);
+        return refuse(alloc, session, Reply::Rejected, Refusal::OtherId, 0);
     }
     match filing(alloc, spool, &article, Closed::Take)? {
-        Outcome::Refused(reads) => answer(alloc, session, Reply::Rejected, None, reads),
+        Outcome::Refused(why, reads) => refuse(alloc, session, Reply::Rejected, why, reads),
         Outcome::Accepted(groups) => {
             let accepted = Accepted {
                 text: Stored::Carried(article),
                 envelope: Envelope { groups, moment },
             };
             let serial = spool.len() + 1;
-            answer(alloc, session, Reply::Transferred, Some(accepted), serial)
+            accept(alloc, session, Reply::Transferred, accepted, serial)
         }
     }
 }

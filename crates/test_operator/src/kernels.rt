@@ -6,9 +6,9 @@ use kernel_expiring::{AgedArticles, AgedGroup, GonePart};
 use kernel_outbox::ReadyBuf;
 use kernel_shared::{
     AdminError, Admitted, ExecError, ExecOutcome, ExpireError, Expired, JoinError, Kern,
-    KernelCounts, Obstacle, Receipt, Stale, Ticket,
+    KernelCounts, Receipt, Stale, Ticket,
 };
-use model::{Mode, Moment, Text};
+use model::{Mode, Moment};
 use session_received::Received;
 use std::alloc::Global;
 use std::sync::Wait;
@@ -87,10 +87,6 @@ impl Kern for Counting {
         _into: &mut ReadyBuf,
     ) -> Result<ExecOutcome, ExecError> {
         Err(ExecError::NoSession)
-    }
-
-    fn obstacle<R: Wait>(&self, _rt: &R, _id: Option<&[u8]>, _groups: &[Text]) -> Option<Obstacle> {
-        None
     }
 
     fn asks_for_few<R: Wait>(&self, _rt: &R, _received: &Received<'_>, _moment: Moment) -> bool {

@@ -8,9 +8,9 @@ use kernel_locked::Locked;
 use kernel_outbox::ReadyBuf;
 use kernel_shared::{
     AdminError, Admitted, ExecError, ExecOutcome, ExpireError, Expired, JoinError, Kern,
-    KernelCounts, Obstacle, Receipt, Stale, Ticket,
+    KernelCounts, Receipt, Stale, Ticket,
 };
-use model::{Mode, Moment, Text};
+use model::{Mode, Moment};
 use session_received::Received;
 use std::alloc::Global;
 use std::sync::Wait;
@@ -51,10 +51,6 @@ impl<'a> Kern for Side<'a> {
         let answered = self.inner.answer(rt, alloc, sid, received, moment, into);
         self.stop.pass(rt, Point::AfterAnswer);
         answered
-    }
-
-    fn obstacle<R: Wait>(&self, rt: &R, id: Option<&[u8]>, groups: &[Text]) -> Option<Obstacle> {
-        self.inner.obstacle(rt, id, groups)
     }
 
     fn asks_for_few<R: Wait>(&self, rt: &R, received: &Received<'_>, moment: Moment) -> bool {

@@ -8,7 +8,7 @@ use journal::Journal;
 use journal_volume::BatchBuf;
 use kernel::Kernel;
 use kernel_locked::Locked;
-use kernel_shared::{Asked, Asking, Bells, Closing, Hooks, Kern, Receipt, SESSIONS, Ticket};
+use kernel_shared::{Asking, Bells, Closing, Hooks, Kern, Receipt, SESSIONS, Ticket};
 use model::{Message, Moment, Status, Text};
 use server_flusher::commit_batch;
 use server_metrics::LongestTime;
@@ -283,7 +283,7 @@ impl<'a, R: Wait + Clock, K: Kern, H: Hooks> Session<'a, R, K, H> {
         let text = text(self.shared.alloc, number).ok()?;
         let block = Message::Block(Text::new(text));
         self.writer()
-            .leave(self.rt(), &mut Hand::new(), block, Asked::Post, moment()?)
+            .leave(self.rt(), &mut Hand::new(), block, moment()?)
             .ok()
     }
 

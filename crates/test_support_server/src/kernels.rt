@@ -8,9 +8,9 @@ use kernel_locked::Locked;
 use kernel_outbox::ReadyBuf;
 use kernel_shared::{
     AdminError, Admitted, ExecError, ExecOutcome, ExpireError, Expired, JoinError, Kern,
-    KernelCounts, Obstacle, Receipt, Stale, Ticket,
+    KernelCounts, Receipt, Stale, Ticket,
 };
-use model::{Message, Mode, Moment, Text};
+use model::{Message, Mode, Moment};
 use session_received::Received;
 use std::alloc::Global;
 use std::sync::Wait;
@@ -77,10 +77,6 @@ impl<H: Hooks> Kern for Hooked<H> {
             Some(error) => Err(error),
             None => self.inner.answer(rt, alloc, sid, received, moment, into),
         }
-    }
-
-    fn obstacle<R: Wait>(&self, rt: &R, id: Option<&[u8]>, groups: &[Text]) -> Option<Obstacle> {
-        self.inner.obstacle(rt, id, groups)
     }
 
     fn asks_for_few<R: Wait>(&self, rt: &R, received: &Received<'_>, moment: Moment) -> bool {

@@ -8,6 +8,8 @@ use Rattle.kernel_seats.specs.Lined.{LinedSeat, RiseAbove, SeatIsLined, all_seen
 use Rattle.kernel_seats.proofs.Seeing.{find_seen}
 use Rattle.kernel_seats.specs.Seats.{Seat, answered_by}
 use Rattle.kernel_seats.proofs.SeatLaws.{lined_answered, seen_answered}
+use Rattle.session.specs.Served.{refusal_in}
+use Rattle.session_posting.specs.declared.refusals.Refusal.TheVariants.{Stopped}
 use Rattle.spool.specs.View.{SpoolView}
 use Rattle.spool_texts.specs.Parts.{HasLines, lines_of}
 use Rattle.kernel_outbox.specs.Lines.{plain}
@@ -166,10 +168,11 @@ returns-then-self c =
     let told : seen made c.stop.new.self ≡ answered_by s.host s.changes c.args.received c.args.moment mark.Stopped (seen made before) =
     ap (seen made) same ∙ seen_answered made reply s.host s.changes c.args.received c.args.moment mark.Stopped before refl in
     left_so k c.args.self.now _ _ _ (as_kept k c.self.inside.spool c.stop.new.self (map-set (seen made) items c.in-Some.at c.stop.new.self))
-    (done k c.args.self.now s (seen made c.stop.new.self) (record { next = None; mark = mark.Stopped; has_accepted = false })
+    (done k c.args.self.now s (seen made c.stop.new.self)
+    (record { next = None; mark = mark.Stopped; refusal = Some Stopped; has_accepted = false })
     c.self.view_is passes (stopped_mark k c.if-self.true)
     (stopped_stays s k.seat.session c.args.received c.args.moment) told
-    (stopped_mode s c.args.received c.args.moment (seen made before) (seen made c.stop.new.self) told)
+    (stopped_mode s c.args.received c.args.moment (seen made before) (seen made c.stop.new.self) told) refl
     (stopped_accepts s k.seat.session c.args.received c.args.moment))
 
 pub returns-then-is_late : goal.returns-then-is_late
@@ -315,5 +318,6 @@ returns c =
     let kept = as_kept k now c.serve.new.self (seen_set s now change items c.in-Some.at c.serve.new.self grows c.self.invariant.lined) in
     left_so k c.args.self.now _ _ _ kept
     (done k c.args.self.now now (seen (lines_of now.changes) c.serve.new.self) c.in-Ok-serve.outcome c.self.view_is passes
-    (marked ∙ served_mark k c.if-self.false) grows told r.next (r.accepted
+    (marked ∙ served_mark k c.if-self.false) grows told r.next
+    (r.refusal ∙ ap (λ (x : Seat). refusal_in s.host s.changes x.session c.args.received c.in-Ok-serve.outcome.mark) k.same) (r.accepted
     ∙ ap (λ (x : Seat). is_some (answer_in s x.session c.args.received c.args.moment c.in-Ok-serve.outcome.mark).change) k.same))

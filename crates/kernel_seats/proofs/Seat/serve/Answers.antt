@@ -36,12 +36,13 @@ returns-clause-ok g c =
     c.reserve.ensures.held c.adopt-next.ensures.given c.adopt-next.ensures.held said.next said.reads in
     subst (λ (was : LinedSeat). SeatServed host S (g.S.ChangeSpool.lacks_room s) (g.S.ChangeSpool.adds s c.serve.new.spool)
     (c.serve.new.spool ≡ s) (seen made was) (seen made after) m t
-    (record { next = c.adopt-next.result; mark = served.mark; has_accepted = served.has_accepted }))
+    (record { next = c.adopt-next.result; mark = served.mark; refusal = served.refusal; has_accepted = served.has_accepted }))
     c.self.view_is
     (record {
       mark = said.mark;
       seat = ap (seen made) now ∙ seen_answered made (reply_of served.answered) host S m t served.mark before said.reply;
       spool = said.spool;
+      refusal = said.refusal;
       accepted = said.accepted;
       next = c.adopt-next.ensures.mode ∙ ap (λ (x : Session). mode_of x.awaits) (sym c.adopt-next.ensures.session);
     })

@@ -6,8 +6,8 @@ use Rattle.model.specs.Names.{is_host}
 use Rattle.model.specs.Replies.{not_accepted, received}
 use Rattle.model.specs.Spool.{filing_of}
 use Rattle.model.specs.declared.change.Change.TheVariants.{Article}
-use Rattle.session_replies.specs.Answered.{Answered, answered}
-use Rattle.session_posting.specs.Outcomes.{closed_among, said, said_served, then_line}
+use Rattle.session_replies.specs.Answered.{answered}
+use Rattle.session_posting.specs.Outcomes.{Replied, closed_among, said, said_served, then_line}
 use Rattle.session_posting.specs.declared.filed_groups.Closed.TheVariants as closed
 use Rattle.session_posting.proofs.Telling.{accepted_said, refused_said}
 use Rattle.session_posting.proofs.posts.taken.Goals as goal
@@ -18,10 +18,10 @@ returns-in-Refused g c =
     let text = c.args.article in
     let what = spool_outcome (same_id S text) (groups_here S text) (closed_among closed.Refuse S (groups_of text)) in
     let stored = injected (g.L.LookUps.host_of c.args.spool.now) (length S + 1) c.args.moment text in
-    subst (λ (a : Answered). IfOk c.answer.result (λ step. said step ≡ said_served a))
-    (refused_said S c.args.session.now received not_accepted stored c.args.moment c.in-Refused.reads what (sym c.in-Refused.is
-    ∙ c.in_ok-reads.ensures))
-    c.answer.ensures
+    subst (λ (s : Replied). IfOk c.refuse.result (λ step. said step ≡ s))
+    (refused_said S c.args.session.now received not_accepted stored c.args.moment c.in-Refused.why c.in-Refused.reads what
+    (sym c.in-Refused.is ∙ c.in_ok-why.ensures))
+    c.refuse.ensures
 
 pub returns : goal.returns
 returns g c =
@@ -32,11 +32,11 @@ returns g c =
     let what = spool_outcome (same_id S text) (groups_here S text) (closed_among closed.Refuse S (groups_of text)) in
     let stored = injected (g.L.LookUps.host_of c.args.spool.now) (length S + 1) t text in
     let octets = c.in_ok-stored-in-Accepted.ensures ∙ (λ i. injected (c.host.ensures i) (c.requires.serial i) t text) in
-    subst (λ (a : Answered). IfOk c.answer-in-Accepted.result (λ step. said step ≡ said_served a))
-    ((λ i. answered (then_line x received (Some (Article (filing_of (octets i) c.in-Accepted.groups t))))
-    (c.requires.serial i))
-    ∙ accepted_said S x received not_accepted stored t c.in-Accepted.groups what (sym c.in-Accepted.is ∙ c.in_ok-reads.ensures))
-    c.answer-in-Accepted.ensures
+    subst (λ (s : Replied). IfOk c.accept.result (λ step. said step ≡ s))
+    ((λ i. said_served (answered (then_line x received (Some (Article (filing_of (octets i) c.in-Accepted.groups t))))
+    (c.requires.serial i)))
+    ∙ accepted_said S x received not_accepted stored t c.in-Accepted.groups what (sym c.in-Accepted.is ∙ c.in_ok-why.ensures))
+    c.accept.ensures
 
 pub injected-requires-clause-cause : goal.injected-requires-clause-cause
 injected-requires-clause-cause g c =

@@ -1,5 +1,5 @@
 use Rattle.std.proofs.Common.{rules}
-use Rattle.session_posting.proofs.posts.answer.Goals as goal
+use Rattle.session_posting.proofs.posts.refuse.Goals as goal
 
 pub returns : goal.returns
 returns c = search rules
