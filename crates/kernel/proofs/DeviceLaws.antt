@@ -1,7 +1,7 @@
 -- An opening, and what it leaves of the device.
 use Rattle.std.proofs.Common.{◌≡◌, ◌≢◌, ◌⊎◌, inl, inr, ⊎_elim, Bool, ℕ, ◌+◌, ◌≤◌, ◌%◌, ◌^◌, List, length, refl, ap, sym, ◌∙◌, subst, arith}
 use Rattle.std.proofs.Math.Nat.{mod-add-mod}
-use Rattle.std.specs.Prelude.{IsTrue}
+use Rattle.std.specs.Prelude.{IsTrue, None, [], false}
 use Rattle.disk.proofs.Devices.{elapses_then}
 use Rattle.disk.specs.Device.{Device}
 use Rattle.journal.specs.Journal.{Admits, IsIdle, JournalView}
@@ -10,9 +10,11 @@ use Rattle.journal.specs.Opening.{home_writes}
 use Rattle.journal.specs.declared.JournalError.{JournalError}
 use Rattle.journal.specs.declared.JournalError.TheVariants as journal
 use Rattle.journal.specs.declared.Next.TheVariants.{Commit, Idle}
-use Rattle.kernel.specs.Kernel.{KernelView}
 use Rattle.kernel.specs.Label.{IsNoLabel}
-use Rattle.kernel.specs.Opening.{CostsUpgrade, HasFailed, IsDamaged, IsOpened, IsStill, IsUnsynced, ReadsAndUpgrades, upgrade_calls}
+use Rattle.kernel.specs.Opening.{CostsUpgrade, HasBlocks, HasFailed, IsDamaged, IsLoaded, IsOpened, IsSpoolOf, IsStill, IsUnsynced}
+use Rattle.kernel.specs.Opening.{ReadsAndUpgrades, upgrade_calls}
+use Rattle.kernel.specs.Stored.{kernel_of}
+use Rattle.kernel.specs.declared.kernel_opening.LoadedBlocks.{LoadedBlocks}
 use Rattle.kernel.specs.declared.kernel_opening.OpenError.{OpenError}
 use Rattle.kernel.specs.declared.kernel_opening.OpenError.TheVariants as open_errors
 use Rattle.model.specs.Layout.{AreOfFormat, HoldsIn, IsLabel}
@@ -21,6 +23,7 @@ use Rattle.model.specs.Spool.{Spool}
 use Rattle.model.specs.SpoolFiles.{files_of}
 use Rattle.model.specs.Stream.{Octets}
 use Rattle.model.specs.Volume.{StandsFor, format_number, open_segments}
+use Rattle.spool.specs.View.{SpoolView}
 use Rattle.kernel.specs.Costs.{CostsToOpen}
 use Rattle.kernel.specs.Standing.{IsDamagedVolume, IsNoNewsVolume, LeavesOpened, LeavesRefused, open_error}
 
@@ -86,37 +89,71 @@ costs_both content format first one two is opens upgrades = record {
 of_third : (S : Spool) (format : ℕ) → format ≡ 3 → AreOfFormat format (files_of S)
 of_third S format is first = absurd (omega (arith, is, first))
 
--- the kernel stands in the blocks of the journal that the opening left
-pub still_opened : {D : Type 0} (device : D → Device) (one two : JournalView D) (kernel : KernelView) → IsOpened device one kernel
-    → ReadsAndUpgrades device one two → two.format ≡ 3 → IsOpened device two kernel
-still_opened device one two kernel k r format = record {
-  fresh = k.fresh;
-  labelled = subst (λ (t : Octets × ℕ). IsLabel t.0 t.1 kernel.inodes kernel.host)
-      (λ i. (sym r.same.label i, sym r.same.size i)) k.labelled;
-  size = k.size ∙ sym r.same.size;
+-- ---- the spool in loaded blocks
+
+module _ {D : Type 0} (device : D → Device) (j : JournalView D) (b : LoadedBlocks) (has : HasBlocks device j b)
+    (host : Octets) (named : host ≡ b.host.items) where
+  pub loaded_so : (spool : SpoolView) → IsSpoolOf b.format host b.inodes b.volume.cache spool → IsLoaded device j spool
+  loaded_so spool is = record {
+    labelled = subst (λ (t : ℕ × Octets). IsLabel j.label j.size t.0 t.1)
+        (λ i. (sym is.inodes_are i, sym (is.host_is ∙ named) i)) has.labelled;
+    size = ap length is.blocks_are ∙ has.size;
+    blocks = λ tells. is.blocks_are ∙ has.blocks tells;
+    clean = is.clean;
+    holds = subst (λ (f : ℕ). HoldsIn f spool.host spool.inodes spool.blocks spool.changes) has.format is.holds;
+  }
+
+  pub damaged_so : ((S : Spool) → HoldsIn b.format host b.inodes b.volume.cache S → ⊥) → IsDamaged device j
+  damaged_so none = record {
+    inodes = b.inodes;
+    host = b.host.items;
+    labelled = has.labelled;
+    holds_none = λ tells S holds. none S (subst (λ (t : ℕ × (Octets × List Octets)). HoldsIn t.0 t.1.0 b.inodes t.1.1 S)
+        (λ i. (sym has.format i, (sym named i, sym (has.blocks tells) i))) holds);
+  }
+
+-- the spool stands in the blocks of the journal that the opening left
+pub still_loaded : {D : Type 0} (device : D → Device) (one two : JournalView D) (spool : SpoolView) → IsLoaded device one spool
+    → ReadsAndUpgrades device one two → two.format ≡ 3 → IsLoaded device two spool
+still_loaded device one two spool l r format = record {
+  labelled = subst (λ (t : Octets × ℕ). IsLabel t.0 t.1 spool.inodes spool.host)
+      (λ i. (sym r.same.label i, sym r.same.size i)) l.labelled;
+  size = l.size ∙ sym r.same.size;
   blocks = λ tells. let one_tells : IsTrue (device one.disk).tells = subst IsTrue r.time.tells tells in
-      k.blocks one_tells ∙ sym (r.blocks one_tells);
-  holds = k.holds;
-  no_pack = λ few. absurd (omega (arith, format, few));
-  of_format = of_third kernel.spool two.format format;
+      l.blocks one_tells ∙ sym (r.blocks one_tells);
+  clean = l.clean;
+  holds = record {
+    held = l.holds.held;
+    no_pack = λ few. absurd (omega (arith, format, few));
+    of_format = of_third spool.changes two.format format;
+  };
 }
 
-pub stands_opened : {D : Type 0} (device : D → Device) (first : D) (one : JournalView D) (kernel : KernelView) → Opens device first one
-    → IsOpened device one kernel → IsTrue (device first).tells → Stands kernel.host (device first).content kernel.spool
-stands_opened device first one kernel o k tells =
-    let same : kernel.blocks ≡ one.blocks = k.blocks (subst IsTrue (sym o.time.tells) tells) in
+pub stands_loaded : {D : Type 0} (device : D → Device) (first : D) (one : JournalView D) (spool : SpoolView) → Opens device first one
+    → IsLoaded device one spool → IsTrue (device first).tells → Stands spool.host (device first).content spool.changes
+stands_loaded device first one spool o l tells =
+    let same : spool.blocks ≡ one.blocks = l.blocks (subst IsTrue (sym o.time.tells) tells) in
     record {
       label = one.label;
-      inodes = kernel.inodes;
-      blocks = kernel.blocks;
+      inodes = spool.inodes;
+      blocks = spool.blocks;
       volume = subst (StandsFor (device first).content one.label) (sym same) (o.stands tells);
-      labelled = subst (λ n. IsLabel one.label n kernel.inodes kernel.host) (sym k.size) k.labelled;
-      held = record {
-        held = k.holds;
-        no_pack = λ few. k.no_pack (omega (arith, o.format tells, few));
-        of_format = subst (λ (f : ℕ). AreOfFormat f (files_of kernel.spool)) (sym (o.format tells)) k.of_format;
-      };
+      labelled = subst (λ n. IsLabel one.label n spool.inodes spool.host) (sym l.size) l.labelled;
+      held = subst (λ (f : ℕ). HoldsIn f spool.host spool.inodes spool.blocks spool.changes) (sym (o.format tells)) l.holds;
     }
+
+-- and so does the kernel of that spool
+pub kernel_opened : {D : Type 0} (device : D → Device) (j : JournalView D) (spool : SpoolView) (most : ℕ)
+    → IsLoaded device j spool → IsOpened device j (kernel_of spool (length spool.changes) None false most 0 [])
+kernel_opened device j spool most l = record {
+  fresh = record { durable = refl; in_flight = refl; halted = refl; dirty = l.clean; joined = refl; seats = refl };
+  labelled = l.labelled;
+  size = l.size;
+  blocks = l.blocks;
+  holds = l.holds.held;
+  no_pack = l.holds.no_pack;
+  of_format = l.holds.of_format;
+}
 
 pub no_volume : (content : Octets) → IsNoVolume content → IsNoNewsVolume content
 no_volume content never label blocks inodes host volume labelled = never label blocks volume

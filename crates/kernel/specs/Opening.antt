@@ -5,13 +5,26 @@ use Rattle.journal.specs.Journal.{Admits, HasWholeBlocks, IsIdle, IsSameBatch, J
 use Rattle.journal.specs.Opening.{IsMore}
 use Rattle.journal.specs.Upgrading.{IsSameButFormat}
 use Rattle.model.specs.Stream.{Octets}
-use Rattle.model.specs.Files.{files_in, table}
+use Rattle.model.specs.Files.{HasRoom, files_in, table}
 use Rattle.model.specs.Layout.{AreOfFormat, Holds, HoldsIn, IsLabel}
 use Rattle.model.specs.Packs.{HasNoPack}
 use Rattle.model.specs.Spool.{Spool}
 use Rattle.model.specs.SpoolFiles.{files_of}
 use Rattle.spool.specs.View.{SpoolView}
 use Rattle.kernel.specs.Kernel.{KernelView}
+use Rattle.kernel.specs.declared.kernel_opening.LoadedBlocks.{LoadedBlocks}
+
+-- ---- the logical blocks
+
+-- the logical blocks of a journal, with what its label says of them; none has changed since
+pub record HasBlocks {D : Type 0} (device : D → Device) (journal : JournalView D) (loaded : LoadedBlocks) : Type 0 where
+  pub labelled : IsLabel journal.label journal.size loaded.inodes loaded.host.items
+  pub format : loaded.format ≡ journal.format
+  pub size : length loaded.volume.cache ≡ journal.size
+  pub blocks : IsTrue (device journal.disk).tells → loaded.volume.cache ≡ journal.blocks
+  pub seen : loaded.volume.seen ≡ loaded.volume.cache
+  pub clean : loaded.volume.dirty ≡ []
+  pub room : HasRoom loaded.inodes loaded.volume.cache
 
 -- ---- the spool
 

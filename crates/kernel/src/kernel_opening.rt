@@ -1,16 +1,16 @@
-//! Opens the kernel, or the spool alone, in the logical blocks of a journal.
+//! Opens the spool in the logical blocks of a journal.
 
-ghost use Rattle.std.specs.Prelude.{◌≡◌, ◌≢◌, ◌⊎◌, ◌≤◌, [], false, IfErr, IfOk, IsTrue, MatchResult, OnOk, min};
-ghost use Rattle.journal.specs.Journal.{IsIdle, IsReady};
+ghost use Rattle.std.specs.Prelude.{◌≡◌, ◌≢◌, ◌⊎◌, ◌≤◌, [], IfErr, IfOk, IsTrue, MatchResult, OnOk};
+ghost use Rattle.journal.specs.Journal.{IsReady};
 ghost use Rattle.model.specs.Files.{HasRoom};
 ghost use Rattle.model.specs.Layout.{HoldsIn};
 ghost use Rattle.model.specs.Names.{is_host};
 ghost use Rattle.model.specs.Spool.{Spool as Changes};
 ghost use Rattle.kernel.specs.Label.{IsNoLabel};
-ghost use Rattle.kernel.specs.Opening.{CostsUpgrade, HasFailed, IsDamaged, IsLoaded, IsOpened, IsSpoolOf, IsStill, IsUnsynced};
+ghost use Rattle.kernel.specs.Opening.{CostsUpgrade, HasBlocks, HasFailed, IsDamaged, IsLoaded, IsSpoolOf, IsStill, IsUnsynced};
 ghost use Rattle.kernel.specs.Opening.{OnlyReads, ReadsAndUpgrades};
 
-use crate::{Kernel, read_label};
+use crate::read_label;
 use disk::Disk;
 use fs_blocks::Blocks;
 use journal::{Journal, JournalError};
@@ -20,7 +20,7 @@ use spool::Spool;
 use std::alloc::Global;
 use thiserror::Error;
 
-/// Why a kernel was not opened.
+/// Why a volume was not opened.
 #[derive(Clone, Copy, Debug, Drop, PartialEq, Eq, Error)]
 pub enum OpenError {
     /// The device failed, and the journal is halted.
@@ -36,45 +36,26 @@ pub enum OpenError {
     Damaged,
 }
 
-impl Kernel {
-    /// Opens the kernel in the logical blocks: all its changes are durable, and there is no session. It may have so many, and
-    /// `MOST_SESSIONS` at most. The journal must be idle and not halted, as after its opening. A volume of format 1 or 2 is
-    /// checked as one, and then made one of format 3. Apart from that and from reads of the device the journal stays as it
-    /// was. Only `Fault` halts it, and `Memory` if the upgrade's sync was refused.
-    ///
-    /// `NotAVolume` (E3) if the label is not valid, `Fault` (E1) if the device fails, `Damaged` (E5) if the blocks hold
-    /// no lawful spool of the label's host in the files of the volume's format, and `Memory` (E2) if an
-    /// allocation was refused. Nothing is written if the answer is E3 or E5.
-    pub fn open<D: Disk>(
-        alloc: Global,
-        journal: &mut Journal<D>,
-        most: usize,
-    ) -> Result<Kernel, OpenError>
-        requires idle { IsIdle journal.old }
-        requires running { journal.old.halted ≡ false }
-        ensures ok { IfOk result (IsOpened D.device journal.old) }
-        ensures most { IfOk result (λ kernel. kernel.most ≡ min most 4096) }
-        ensures format { OnOk result (journal.new.format ≡ 3) }
-        ensures reads { ReadsAndUpgrades D.device journal.old journal.new }
-        ensures cost { OnOk result (CostsUpgrade journal.old.format (D.device journal.old.disk) (D.device journal.new.disk)) }
-        ensures judged { IfErr result (λ error. (error ≡ OpenError.NotAVolume) ⊎ (error ≡ OpenError.Damaged)
-            → OnlyReads D.device journal.old journal.new) }
-        ensures still { MatchResult result (λ kernel. IsStill D.device journal.old journal.new)
-            (λ error. error ≢ OpenError.Fault
-            → IsStill D.device journal.old journal.new
-            ⊎ ((error ≡ OpenError.Memory) × IsTrue D.sync_grows × IsUnsynced D.device journal.old journal.new)) }
-        ensures fault { IfErr result (λ error. error ≡ OpenError.Fault → HasFailed D.device journal.old journal.new) }
-        ensures no_label { IfErr result (λ error. error ≡ OpenError.NotAVolume → IsNoLabel journal.old.label journal.old.size) }
-        ensures damaged { IfErr result (λ error. error ≡ OpenError.Damaged → IsDamaged D.device journal.old) }
-    {
-        let spool = open_spool(alloc, journal)?;
-        Ok(Kernel::new(alloc, spool, most))
-    }
+/// The logical blocks of a volume under its label, of which nothing was read yet.
+#[derive(Drop)]
+pub struct LoadedBlocks {
+    pub host: Vec<u8>,
+    pub inodes: u32,
+    pub format: u32,
+    pub volume: Volume,
 }
 
-/// Opens the spool in the logical blocks, as `Kernel::open` does for a kernel: it does the same to the journal, and is
-/// refused for the same causes.
-pub fn open_spool<D: Disk>(alloc: Global, journal: &mut Journal<D>) -> Result<Spool, OpenError>
+/// Opens the spool in the logical blocks. The journal must be idle and not halted, as after its opening. A volume of format 1 or 2 is
+/// checked as one, and then made one of format 3. Apart from that and from reads of the device the journal stays as it
+/// was. Only `Fault` halts it, and `Memory` if the upgrade's sync was refused.
+///
+/// `NotAVolume` (E3) if the label is not valid, `Fault` (E1) if the device fails, `Damaged` (E5) if the blocks hold
+/// no lawful spool of the label's host in the files of the volume's format, and `Memory` (E2) if an
+/// allocation was refused. Nothing is written if the answer is E3 or E5.
+pub(crate) fn open_spool<D: Disk>(
+    alloc: Global,
+    journal: &mut Journal<D>,
+) -> Result<Spool, OpenError>
     requires ready { IsReady journal.old }
     ensures ok { IfOk result (IsLoaded D.device journal.old) }
     ensures ready { OnOk result (IsReady journal.new) }
@@ -99,7 +80,7 @@ pub fn open_spool<D: Disk>(alloc: Global, journal: &mut Journal<D>) -> Result<Sp
     Ok(spool)
 }
 
-// The spool in the logical blocks. The device is only read.
+/// The spool in the logical blocks. The device is only read.
 fn read<D: Disk>(alloc: Global, journal: &mut Journal<D>) -> Result<Spool, OpenError>
     requires { IsReady journal.old }
     ensures ok { IfOk result (IsLoaded D.device journal.old) }
@@ -110,6 +91,31 @@ fn read<D: Disk>(alloc: Global, journal: &mut Journal<D>) -> Result<Spool, OpenE
     ensures fault { IfErr result (λ error. error ≡ OpenError.Fault → HasFailed D.device journal.old journal.new) }
     ensures no_label { IfErr result (λ error. error ≡ OpenError.NotAVolume → IsNoLabel journal.old.label journal.old.size) }
     ensures damaged { IfErr result (λ error. error ≡ OpenError.Damaged → IsDamaged D.device journal.old) }
+{
+    let LoadedBlocks {
+        host,
+        inodes,
+        format,
+        volume,
+    } = load_blocks(alloc, journal)?;
+    spool_in(alloc, Text::new(host), inodes, format, volume)
+}
+
+/// Loads the logical blocks of a journal that was just opened. The device is only read. Refused as `NotAVolume` (E3) if the label is not
+/// valid, as `Fault` (E1), or as `Memory` (E2); whether the blocks hold a spool isn't looked at.
+pub fn load_blocks<D: Disk>(
+    alloc: Global,
+    journal: &mut Journal<D>,
+) -> Result<LoadedBlocks, OpenError>
+    requires { IsReady journal.old }
+    ensures ok { IfOk result (HasBlocks D.device journal.old) }
+    ensures ready { OnOk result (IsReady journal.new) }
+    ensures reads { OnlyReads D.device journal.old journal.new }
+    ensures still { MatchResult result (λ loaded. IsStill D.device journal.old journal.new) (λ error. error ≢ OpenError.Fault
+        → IsStill D.device journal.old journal.new) }
+    ensures fault { IfErr result (λ error. error ≡ OpenError.Fault → HasFailed D.device journal.old journal.new) }
+    ensures no_label { IfErr result (λ error. error ≡ OpenError.NotAVolume → IsNoLabel journal.old.label journal.old.size) }
+    ensures unread { IfErr result (λ error. error ≢ OpenError.Damaged) }
 {
     // what the journal keeps, which the loads need
     prove!(journal.is_idle());
@@ -128,7 +134,12 @@ fn read<D: Disk>(alloc: Global, journal: &mut Journal<D>) -> Result<Spool, OpenE
         Ok(volume) => {
             // for the proof: each block is whole
             let _count = volume.len();
-            spool_in(alloc, Text::new(host), inodes, format, volume)
+            Ok(LoadedBlocks {
+                host,
+                inodes,
+                format,
+                volume,
+            })
         }
         Err(journal_loading::LoadError::Fault) => Err(OpenError::Fault),
         Err(journal_loading::LoadError::Memory) => Err(OpenError::Memory),

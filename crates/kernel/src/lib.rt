@@ -23,11 +23,11 @@ mod device_opening;
 mod kernel_opening;
 mod label;
 
-pub use device_opening::{Opened, Refused, open};
+pub use device_opening::{Opened, OpenedSpool, Refused, open, open_journal, open_with_spool};
 use fs_layout::inodes::bitmap_blocks;
 use journal_volume::BATCH_BLOCKS;
 pub use journal_volume::BatchBuf;
-pub use kernel_opening::{OpenError, open_spool};
+pub use kernel_opening::{LoadedBlocks, OpenError, load_blocks};
 use kernel_outbox::ReadyBuf;
 pub use kernel_seats::Outcome;
 use kernel_seats::{Seat, position, release, release_of};

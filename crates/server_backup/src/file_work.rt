@@ -85,7 +85,8 @@ impl Parts {
         let part = part_of(alloc, path)?;
         self.paths.reserve(1)?;
         let disk = FileDisk::make(rt, part.as_str(), octets, None)?;
-        self.paths.push(part)?;
+        // there is room for it
+        let _ = self.paths.push(part);
         Ok(disk)
     }
 

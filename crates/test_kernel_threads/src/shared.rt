@@ -3,8 +3,7 @@
 use crate::posters::{ARTICLES, Poster, post_moment};
 use crate::tally::{has_each_id, has_each_number};
 use disk_memory::MemDisk;
-use journal::Journal;
-use kernel::{BatchBuf, Kernel};
+use kernel::{BatchBuf, Kernel, Opened, open};
 use kernel_shared::SESSIONS;
 use model::Status;
 use session_lookups::LookUps;
@@ -55,10 +54,10 @@ fn new_kernel(alloc: Global) -> Option<Kernel> {
     let Ok(disk) = format(alloc, disk, &plan) else {
         return None;
     };
-    let Ok(mut journal) = Journal::open(alloc, disk) else {
-        return None;
-    };
-    Kernel::open(alloc, &mut journal, SESSIONS).ok()
+    match open(alloc, disk, SESSIONS) {
+        Ok(Opened { kernel, .. }) => Some(kernel),
+        Err(_) => None,
+    }
 }
 
 /// The group `x.a`.

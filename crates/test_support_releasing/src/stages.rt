@@ -6,7 +6,7 @@ use crate::callers::Caller;
 use disk_memory::MemDisk;
 use journal::Journal;
 use journal_volume::BatchBuf;
-use kernel::Kernel;
+use kernel::{Kernel, Opened, open};
 use kernel_locked::Locked;
 use kernel_shared::{Asking, Bells, Closing, Hooks, Kern, Receipt, SESSIONS, Ticket};
 use model::{Message, Moment, Status, Text};
@@ -173,11 +173,10 @@ fn new_kernel(alloc: Global, blocks: u64, inodes: u64) -> Option<(Kernel, Journa
     let Ok(disk) = format(alloc, disk, &plan) else {
         return None;
     };
-    let Ok(mut journal) = Journal::open(alloc, disk) else {
-        return None;
-    };
-    let kernel = Kernel::open(alloc, &mut journal, SESSIONS).ok()?;
-    Some((kernel, journal))
+    match open(alloc, disk, SESSIONS) {
+        Ok(Opened { journal, kernel }) => Some((kernel, journal)),
+        Err(_) => None,
+    }
 }
 
 /// A group that takes posts.

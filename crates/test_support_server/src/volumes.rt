@@ -6,7 +6,7 @@ ghost use Rattle.journal.specs.Journal.{IsReady};
 use disk::Disk;
 use disk_memory::MemDisk;
 use journal::Journal;
-use kernel::Kernel;
+use kernel::{Kernel, Opened};
 use kernel_shared::{Kern, SESSIONS};
 use model::{Moment, Status};
 use std::alloc::Global;
@@ -53,11 +53,8 @@ pub fn new_device(alloc: Global) -> Option<MemDisk> {
 pub fn open<D: Disk + Drop>(alloc: Global, disk: D) -> Option<(Journal<D>, Kernel)>
     ensures { IfSome result (λ opened. IsReady opened.0) }
 {
-    let Ok(mut journal) = Journal::open(alloc, disk) else {
-        return None;
-    };
-    match Kernel::open(alloc, &mut journal, SESSIONS) {
-        Ok(kernel) => Some((journal, kernel)),
+    match kernel::open(alloc, disk, SESSIONS) {
+        Ok(Opened { journal, kernel }) => Some((journal, kernel)),
         Err(_) => None,
     }
 }

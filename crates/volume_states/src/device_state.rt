@@ -9,7 +9,7 @@ ghost use Rattle.kernel.specs.Label.{IsNoLabel};
 ghost use Rattle.model.specs.Files.{HasRoom};
 ghost use Rattle.model.specs.Layout.{HoldsIn};
 ghost use Rattle.model.specs.Spool.{Spool};
-ghost use Rattle.kernel.specs.Standing.{LeavesRefused, open_error};
+ghost use Rattle.kernel.specs.Standing.{LeavesRefused};
 ghost use Rattle.volume_states.specs.State.{IsStatusOf};
 ghost use Rattle.volume_states.specs.Told.{IsStateIn, IsStateOf};
 
@@ -17,8 +17,8 @@ use crate::VolumeStatus;
 use crate::contents::volume_status;
 use disk::Disk;
 use fs_blocks::Blocks;
-use journal::{Journal, JournalError};
-use kernel::{OpenError, Refused, read_label};
+use journal::Journal;
+use kernel::{LoadedBlocks, OpenError, Refused, load_blocks, open_journal};
 use std::alloc::Global;
 
 /// A device that was examined, and the state of the volume on it.
@@ -52,16 +52,7 @@ pub fn state_on<D: Disk>(alloc: Global, disk: D) -> Result<Examined<D>, Refused<
     // What a refusal leaves.
     ensures refusal { IfErr result (λ refused. LeavesRefused D.device disk refused.disk refused.error) }
 {
-    let mut journal = match Journal::open(alloc, disk) {
-        Ok(journal) => journal,
-        Err(refused) => {
-            let journal::Refused { disk, error } = refused;
-            return Err(Refused {
-                disk,
-                error: journal_error(error),
-            });
-        }
-    };
+    let mut journal = open_journal(alloc, disk)?;
     match state_in(alloc, &mut journal) {
         Ok(state) => Ok(Examined {
             disk: journal.into_disk(),
@@ -86,28 +77,13 @@ fn state_in<D: Disk>(alloc: Global, journal: &mut Journal<D>) -> Result<VolumeSt
         → IsStill D.device journal.old journal.new) }
     ensures fault { IfErr result (λ error. error ≡ OpenError.Fault → HasFailed D.device journal.old journal.new) }
 {
-    // what the journal keeps, which the loads need
-    prove!(journal.is_idle());
-    let Some(label) = read_label(journal.label(), journal.blocks()) else {
-        return Err(OpenError::NotAVolume);
-    };
-    let inodes = label.inodes as u32;
-    let Ok(host) = label.host.to_vec(alloc) else {
-        return Err(OpenError::Memory);
-    };
-    let format = journal.format_number();
-    let loaded = journal_loading::open(alloc, journal);
-    // for the proof: what the journal keeps
-    let _idle = journal.is_idle();
-    match loaded {
-        Ok(volume) => {
-            // for the proof: each block is whole
-            let _count = volume.len();
-            state_over(alloc, &volume, inodes, format, &host)
-        }
-        Err(journal_loading::LoadError::Fault) => Err(OpenError::Fault),
-        Err(journal_loading::LoadError::Memory) => Err(OpenError::Memory),
-    }
+    let LoadedBlocks {
+        host,
+        inodes,
+        format,
+        volume,
+    } = load_blocks(alloc, journal)?;
+    state_over(alloc, &volume, inodes, format, &host)
 }
 
 /// The state of the volume of a host in the blocks of a volume of this format.
@@ -127,17 +103,5 @@ fn state_over<B: Blocks>(
         Ok(status) => Ok(status),
         Err(spool_reading::ReadSpoolError::Memory) => Err(OpenError::Memory),
         Err(spool_reading::ReadSpoolError::Damaged) => Err(OpenError::Damaged),
-    }
-}
-
-/// Why the journal was not opened, as an opening reports it.
-fn journal_error(error: JournalError) -> OpenError
-    ensures { result ≡ open_error error }
-{
-    match error {
-        JournalError::Fault => OpenError::Fault,
-        JournalError::Memory => OpenError::Memory,
-        JournalError::NotAVolume => OpenError::NotAVolume,
-        JournalError::Halted => OpenError::Memory,
     }
 }

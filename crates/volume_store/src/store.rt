@@ -7,7 +7,6 @@ ghost use Rattle.kernel.specs.Kernel.{most_dirty};
 ghost use Rattle.model.specs.Files.{free_blocks, free_inodes};
 ghost use Rattle.model.specs.Lawful.{MayFile, MayFollow};
 ghost use Rattle.model.specs.declared.change.Change.TheVariants as changed;
-ghost use Rattle.kernel.specs.Standing as standing;
 ghost use Rattle.text_rnews.specs.LineEnds as ends;
 ghost use Rattle.volume_store.specs.Adding.{IsAdded};
 ghost use Rattle.volume_store.specs.Filing.{Becomes};
@@ -26,7 +25,7 @@ use crate::transfer::file_text;
 use disk::Disk;
 use journal::{Journal, JournalError};
 use journal_volume::BatchBuf;
-use kernel::{OpenError, Refused, most_dirty, open_spool};
+use kernel::{OpenError, OpenedSpool, Refused, most_dirty, open_with_spool};
 use model::{Change, Filing, Moment};
 use session_lookups::{FilingError, LookUps};
 use spool::{AddError, ExpireError, Spool};
@@ -69,14 +68,7 @@ impl<D: Disk> Model for Store<D> {
 impl<D: Disk> Store<D> {
     ghost use Rattle.kernel.specs.Standing.{LeavesOpened, LeavesRefused};
 
-    /// Opens a device whose volume no server serves; all its changes are durable. A volume of format 1 or 2 is made
-    /// one of format 3. The first good sync comes before every write. A crash before that sync leaves what a crash at the start
-    /// might have left, and one after it the volume that a read gives, in the format that was or in format 3.
-    ///
-    /// A refusal keeps to this too, and it returns the device. `Fault` (E1) if the device failed. `Memory` (E2) if it did
-    /// not, and an allocation was refused; then a read gives what it gave before, or the same volume. `NotAVolume` (E3) if
-    /// the device holds no volume with a label of its size. `Damaged` (E5) if it holds one, but no lawful spool of the
-    /// label's host in the files of its format.
+    /// Opens a device whose volume no server serves, as `open_with_spool` does and with its refusals; all its changes are durable.
     pub fn open(alloc: Global, disk: D) -> Result<Store<D>, Refused<D>>
         ensures ok { IfOk result (IsOpened D.device disk) }
         ensures opening { IfOk result (λ store. LeavesOpened D.device disk store.journal.disk) }
@@ -88,32 +80,15 @@ impl<D: Disk> Store<D> {
                 error: OpenError::Memory,
             });
         };
-        let mut journal = match Journal::open(alloc, disk) {
-            Ok(journal) => journal,
-            Err(refused) => {
-                let journal::Refused { disk, error } = refused;
-                return Err(Refused {
-                    disk,
-                    error: open_error(error),
-                });
-            }
-        };
-        match open_spool(alloc, &mut journal) {
-            Ok(spool) => {
-                // for the proof: what a crash leaves
-                let _idle = journal.is_idle();
-                Ok(Store {
-                    durable: spool.len(),
-                    journal,
-                    spool,
-                    batch,
-                })
-            }
-            Err(error) => Err(Refused {
-                disk: journal.into_disk(),
-                error,
-            }),
-        }
+        let OpenedSpool { journal, spool } = open_with_spool(alloc, disk)?;
+        // for the proof: what a crash leaves
+        let _idle = journal.is_idle();
+        Ok(Store {
+            durable: spool.len(),
+            journal,
+            spool,
+            batch,
+        })
     }
 }
 
@@ -307,15 +282,5 @@ impl<D: Disk> Store<D> {
             durable: _,
         } = self;
         journal.into_disk()
-    }
-}
-
-fn open_error(error: JournalError) -> OpenError
-    ensures { result ≡ standing.open_error error }
-{
-    match error {
-        JournalError::Fault => OpenError::Fault,
-        JournalError::NotAVolume => OpenError::NotAVolume,
-        JournalError::Memory | JournalError::Halted => OpenError::Memory,
     }
 }
