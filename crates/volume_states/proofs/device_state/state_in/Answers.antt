@@ -1,4 +1,4 @@
-use Rattle.std.proofs.Common.{ℕ, List, sym, subst}
+use Rattle.std.proofs.Common.{ℕ, ◌∙◌, List, sym, subst}
 use Rattle.std.proofs.lemmas.Result.{IfErr-weaker, IfOk-weaker}
 use Rattle.kernel.proofs.DeviceLaws.{damaged_so}
 use Rattle.model.specs.Files.{HasRoom}
