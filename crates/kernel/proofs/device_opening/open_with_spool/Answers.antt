@@ -14,7 +14,8 @@ returns-in-Err-clause-refusal g c =
     c.in-Err.ensures.no_label c.in-Err.ensures.damaged)
 
 pub returns-in-Ok-clause-loaded : goal.returns-in-Ok-clause-loaded
-returns-in-Ok-clause-loaded g c = still_loaded g.D.Disk.device c.in_ok-journal.journal c.open_spool.new.journal c.in-Ok.spool c.in-Ok.ensures.ok
+returns-in-Ok-clause-loaded g c =
+    still_loaded g.D.Disk.device c.in_ok-journal.journal c.open_spool.new.journal c.in-Ok.spool c.in-Ok.ensures.ok
     c.open_spool.ensures.reads c.in-Ok.ensures.format
 
 pub returns-in-Ok-clause-spool : goal.returns-in-Ok-clause-spool
