@@ -7,7 +7,8 @@ has each octet that it had, and the new one isn't there or is whole.
 In `newsd sim` a line whose request is refused answers `E2 Memory`. All is as before then, as a probe shows that is played next. Where the
 same line is played again, its answer, and what the probe shows then, are those of a run that was refused nothing. A refused opening leaves
 nothing open, and a device that opens to what it held. Where a line can't be read or printed for want of memory, the program ends as
-`newsd: E2 Memory`. Lines that need no memory answer as ever with every request refused.
+`newsd: E2 Memory`. Lines that need no memory answer as ever with every request refused. Once a device has failed a session is told that the
+service ends, whatever its message says: so that answer comes, too, where only the message couldn't be read.
 
 There each refusal happens in a copy of the process, which the library of refusing.c makes, so that a script is played once. Every request
 of a script is refused. What the device has is probed in every eighth copy."""
@@ -34,6 +35,8 @@ LARGE_PAGES = {"GLIBC_TUNABLES": "glibc.malloc.hugetlb=1"}
 REFUSAL = "E2 Memory\n"
 CLOSED = "E4 Halted\n"
 ENDED = "newsd: E2 Memory\n"
+FAULT = "E1 Fault\n"
+NO_SESSION = "E10 NoSession\n"
 
 # the words of lines that need no memory; over a cache the device's calls do
 NEED_NONE = {"take", "told", "leave", "fail", "dev"}
@@ -222,6 +225,13 @@ class Judge:
         """Whether the line was refused, and was done when it was played again."""
         return copy.has_printed(self.before[copy.line] + REFUSAL + self.answer(copy.line) + self.probe(copy, copy.line + 1))
 
+    def has_told_the_end(self, copy):
+        """Whether a session was told that the service ends although its message wasn't read; it is closed where the line is played again."""
+        if self.word(copy) != "exec" or FAULT not in self.before[copy.line]:
+            return False
+        again = NO_SESSION if copy.kind == "a" else ""
+        return copy.has_printed(self.before[copy.line + 1] + again + self.probe(copy, copy.line + 1))
+
     def has_closed(self, copy):
         """Whether nothing is open after a refused opening, and the device opens to what it held."""
         closed = self.before[copy.line] + REFUSAL
@@ -242,6 +252,8 @@ class Judge:
             return "needed no memory" if self.has_done(copy) else None
         if self.has_ended(copy):
             return "ended"
+        if self.has_told_the_end(copy):
+            return "told of the end"
         if copy.kind == "a":
             return "done again" if self.has_done_again(copy) else None
         if self.word(copy) == "crash":
