@@ -12,8 +12,11 @@ use test_support_server::{Caller, GREETING, SERVICE_ENDS, sleep_until};
 /// The most articles of a caller that posts until the server ends. The volume has room for those of four callers.
 const ARTICLES: u64 = 12;
 
-/// The operator stops the server once this many were acknowledged.
+/// The operator stops the server once this many were acknowledged, and all callers were greeted: who comes after the stop is refused.
 pub(crate) const LEAST: u64 = 10;
+
+/// The callers that post.
+const POSTERS: u64 = 4;
 
 /// Such an article, before and after the number in its message-id.
 const FRONT: &str =
@@ -86,6 +89,7 @@ impl<'a, R: Net<Listener = TcpListener, Stream = TcpStream> + Threads + Wait + C
         if !caller.reads(GREETING) {
             return false;
         }
+        let _ = self.props.greeted.fetch_add(1, Ordering::SeqCst);
         for number in 0..ARTICLES {
             match post(&mut caller, self.alloc, number_of(name, number)) {
                 Some(true) => self.note_post(),
@@ -112,7 +116,7 @@ impl<'a, R: Net<Listener = TcpListener, Stream = TcpStream> + Threads + Wait + C
     /// Counts an article that was acknowledged.
     fn note_post(&self) {
         let before = self.props.posted.fetch_add(1, Ordering::SeqCst);
-        if before.wrapping_add(1) >= LEAST {
+        if before.wrapping_add(1) >= LEAST && self.props.greeted.load(Ordering::SeqCst) == POSTERS {
             self.props.is_due.store(true, Ordering::SeqCst);
         }
     }

@@ -24,6 +24,8 @@ pub(crate) enum Callers {
 pub(crate) struct Props {
     /// The number of articles that were acknowledged to their callers.
     pub(crate) posted: AtomicU64,
+    /// The number of posting callers that were greeted.
+    pub(crate) greeted: AtomicU64,
     /// The operator's last lines are due.
     pub(crate) is_due: Arc<AtomicBool, Global>,
     /// The number of releases that have begun.
@@ -40,6 +42,7 @@ impl Props {
     pub(crate) fn new(alloc: Global) -> Result<Props, AllocError> {
         Ok(Props {
             posted: AtomicU64::new(0),
+            greeted: AtomicU64::new(0),
             is_due: Arc::new(alloc, AtomicBool::new(false))?,
             releases: AtomicU64::new(0),
             is_held: AtomicBool::new(false),
