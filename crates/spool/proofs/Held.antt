@@ -1,8 +1,9 @@
 -- What blocks that hold a spool leave free, and the change that they get.
 use Rattle.std.proofs.Common.{◌≡◌, ℕ, List, [], ◌∷◌, ◌++◌, refl, sym, subst}
-use Rattle.std.specs.Prelude.{replicate, OnErr, Result, Ok, Err, None}
+use Rattle.std.specs.Prelude.{replicate, OnErr, OnOk, Result, Ok, Err, None}
 use Rattle.model.specs.Stream.{Octets}
 use Rattle.model.specs.Files.{HasRoom, IsFileSystem, table}
+use Rattle.model.specs.Lawful.{MayFollow}
 use Rattle.model.specs.Spool.{Spool, entries, groups}
 use Rattle.model.specs.SpoolFiles.{files_of}
 use Rattle.model.specs.declared.change.Change.{Change}
@@ -17,7 +18,8 @@ use Rattle.journal_volume.specs.Volume.{VolumeView}
 use Rattle.spool.specs.Kept.{CanStand, StandsIn, spool_set}
 use Rattle.spool_growing.specs.Kept.{IsHeld, IsKept}
 use Rattle.spool.specs.View.{Adds, SpoolView}
-use Rattle.spool_growing.specs.Growing.{Dirties}
+use Rattle.spool_growing.specs.declared.kept.Kept.{Kept}
+use Rattle.spool_growing.specs.Growing.{IsGrown}
 
 -- ---- the fields of a spool that is used whole
 
@@ -32,24 +34,26 @@ pub kept_stands : (host : Octets) (inodes : ℕ) (v : VolumeView) (i : IndexView
 kept_stands host inodes v i p S T kept =
     subst (λ (R : Spool). IsKept host inodes v i p R) (sym (the_changes host inodes v.cache S kept.is T)) kept
 
-pub kept_same : (host : Octets) (inodes : ℕ) (v w : VolumeView) (i j : IndexView) (p q : FilePlaces) (S : Spool) → w ≡ v → j ≡ i → q ≡ p
-    → IsKept host inodes v i p S → IsKept host inodes w j q S
-kept_same host inodes v w i j p q S same_v same_i same_p kept =
-    subst (λ (x : VolumeView). IsKept host inodes x j q S) (sym same_v)
-    (subst (λ (x : IndexView). IsKept host inodes v x q S) (sym same_i)
-    (subst (λ (x : FilePlaces). IsKept host inodes v i x S) (sym same_p) kept))
-
-pub kept_view : (host : Octets) (inodes : ℕ) (v w : VolumeView) (S : StandsIn host inodes v.cache) (R : StandsIn host inodes w.cache)
-    → w ≡ v → R.changes ≡ S.changes
-    → ◌≡◌ {A = SpoolView} (record { host = host; inodes = inodes; changes = R.changes; blocks = w.cache; dirty = w.dirty; sound = R.held })
-    (record { host = host; inodes = inodes; changes = S.changes; blocks = v.cache; dirty = v.dirty; sound = S.held })
-kept_view host inodes v w S R same changes = λ i. record {
+-- the spool as its callers see it
+abbrev pub view_of : (host : Octets) (k : Kept) → StandsIn host k.inodes k.volume.cache → SpoolView
+view_of host k S = record {
   host = host;
-  inodes = inodes;
+  inodes = k.inodes;
+  changes = S.changes;
+  blocks = k.volume.cache;
+  dirty = k.volume.dirty;
+  sound = S.held;
+}
+
+pub kept_view : (host : Octets) (k l : Kept) (S : StandsIn host k.inodes k.volume.cache) (R : StandsIn host l.inodes l.volume.cache)
+    → l ≡ k → R.changes ≡ S.changes → view_of host l R ≡ view_of host k S
+kept_view host k l S R same changes = λ i. record {
+  host = host;
+  inodes = (same i).inodes;
   changes = changes i;
-  blocks = (same i).cache;
-  dirty = (same i).dirty;
-  sound = is_prop→PathP (λ j. ∥ IsHeld host inodes (same j).cache (changes j) ∥₁) (λ j. ∥∥₁_prop) R.held S.held i;
+  blocks = (same i).volume.cache;
+  dirty = (same i).volume.dirty;
+  sound = is_prop→PathP (λ j. ∥ IsHeld host (same j).inodes (same j).volume.cache (changes j) ∥₁) (λ j. ∥∥₁_prop) R.held S.held i;
 }
 
 pub cleaned : (host : Octets) (inodes : ℕ) (v w : VolumeView) (i : IndexView) (p : FilePlaces) (S : Spool) → w ≡ record v { dirty = [] }
@@ -60,20 +64,23 @@ cleaned host inodes v w i p S same kept =
     subst (λ (x : VolumeView). IsKept host inodes x i p S) (sym same) clean
 
 -- the spool with the change
-pub added : (host : Octets) (inodes : ℕ) (v w : VolumeView) (S : StandsIn host inodes v.cache) (R : StandsIn host inodes w.cache)
-    (c : Change) (old : SpoolView)
-    → record { host = host; inodes = inodes; changes = S.changes; blocks = v.cache; dirty = v.dirty; sound = S.held } ≡ old
-    → R.changes ≡ S.changes ++ c ∷ [] → Dirties v.cache w.cache v.dirty w.dirty
-    → Adds old (record { host = host; inodes = inodes; changes = R.changes; blocks = w.cache; dirty = w.dirty; sound = R.held }) c
-added host inodes v w S R c old view changes dirties =
-    subst (λ (x : SpoolView). Adds x (record {
-      host = host;
-      inodes = inodes;
-      changes = R.changes;
-      blocks = w.cache;
-      dirty = w.dirty;
-      sound = R.held;
-    }) c) view (record { host = refl; inodes = refl; changes = changes; dirties = dirties })
+pub added : (host : Octets) (k l : Kept) (S : StandsIn host k.inodes k.volume.cache) (R : StandsIn host l.inodes l.volume.cache)
+    (c : Change) (old : SpoolView) → view_of host k S ≡ old → R.changes ≡ S.changes ++ c ∷ [] → IsGrown k l c
+    → Adds old (view_of host l R) c
+added host k l S R c old view changes grown =
+    subst (λ (x : SpoolView). Adds x (view_of host l R) c) view
+    (record { host = refl; inodes = grown.inodes; changes = changes; dirties = grown.dirties })
+
+-- the blocks hold some changes still, as before or with one more
+pub still_stands : {T E : Type 0} (r : Result T E) (host : Octets) (k l : Kept) (S : Spool) (c : Change)
+    → IsKept host k.inodes k.volume k.index k.places S → MayFollow host S c → OnOk r (IsGrown k l c) → OnErr r (l ≡ k)
+    → StandsIn host l.inodes l.volume.cache
+still_stands (Ok x) host k l S c kept may grown same =
+    let its : IsGrown k l c = grown in
+    record { changes = S ++ c ∷ []; held = ∣ (its.kept host S kept may).is ∣₁ }
+still_stands (Err e) host k l S c kept may grown same =
+    let stands : StandsIn host k.inodes k.volume.cache = record { changes = S; held = ∣ kept.is ∣₁ } in
+    subst (λ (j : Kept). StandsIn host j.inodes j.volume.cache) (sym same) stands
 
 pub if_err : {T E P : Type 0} (r : Result T E) → P → OnErr r P
 if_err (Ok x) is = tt

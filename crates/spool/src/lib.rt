@@ -5,7 +5,7 @@
 ghost use Rattle.std.specs.Prelude.{◌≡◌, ◌+◌, ◌-◌, ◌<◌, ◌≤◌, ◌||◌, ◌&&◌, nat_lt, ℕ, List, [], Some, false, None, length, replicate};
 ghost use Rattle.std.specs.Prelude.{slice_index_or, IfNone, IfOk, IfSome, IsTrue, OnErr, OnOk, ◌⊎◌};
 ghost use Rattle.std.specs.List.{All, Contains, flat_map};
-ghost use Rattle.model.specs.Lawful.{MayExpire, MayFile, MayMake};
+ghost use Rattle.model.specs.Lawful.{MayFile, MayFollow};
 ghost use Rattle.model.specs.Layout.{Holds};
 ghost use Rattle.model.specs.Names.{is_host};
 ghost use Rattle.model.specs.Files.{HasRoom, IsFileSystem, free_blocks, free_inodes, table};
@@ -16,6 +16,7 @@ ghost use Rattle.model.specs.declared.change.NewGroup.{NewGroup};
 ghost use Rattle.text_names.specs.Requests.{group_of};
 ghost use Rattle.spool_opening.specs.Replayed.{AreHere};
 ghost use Rattle.journal_volume.specs.Volume.{AgreeOutside};
+ghost use Rattle.spool_growing.specs.Growing.{change_of};
 
 mod article_room;
 mod errors;
@@ -33,9 +34,7 @@ use journal_volume::{BatchBuf, Volume};
 use model::{Change, Envelope, NewGroup, Text};
 use session_lookups::{FilingError, LookUps};
 use spool_groups::Group;
-use spool_growing::{
-    BLOCKS_ASKED, Free, PlaceKind, grow_by_article, grow_by_expiry, grow_by_group,
-};
+use spool_growing::{BLOCKS_ASKED, Free, Kept, NewChange, PlaceKind, grow};
 use spool_index::{Index, Places};
 use std::alloc::{AllocError, Global};
 use std::marker::Model;
@@ -52,12 +51,8 @@ const GROUP_FILES: u32 = 3;
 pub struct Spool {
     alloc: Global,
     host: Text,
-    inodes: u32,
-    free: Free,
-    volume: Volume,
-    index: Index,
-    places: Places,
-    ghost stands: { StandsIn host inodes volume.cache } by { one_stands host inodes volume.cache },
+    kept: Kept,
+    ghost stands: { StandsIn host kept.inodes kept.volume.cache } by { one_stands host kept.inodes kept.volume.cache },
 }
 
 ghost use Rattle.spool.specs.Kept.{StandsIn, one_stands};
@@ -68,11 +63,7 @@ impl Drop for Spool {
         let Spool {
             alloc: _,
             host: _,
-            inodes: _,
-            free: _,
-            volume: _,
-            index: _,
-            places: _,
+            kept: _,
         } = self;
     }
 }
@@ -87,15 +78,15 @@ impl Model for Spool {
 
     ghost view = { λ s. record {
       host = s.host;
-      inodes = s.inodes;
+      inodes = s.kept.inodes;
       changes = s.stands.changes;
-      blocks = s.volume.cache;
-      dirty = s.volume.dirty;
+      blocks = s.kept.volume.cache;
+      dirty = s.kept.volume.dirty;
       sound = s.stands.held;
     } };
 
-    ghost invariant = { λ s. IsKept s.host s.inodes s.volume s.index s.places s.stands.changes
-        × IsKnown s.inodes s.free s.volume.cache };
+    ghost invariant = { λ s. IsKept s.host s.kept.inodes s.kept.volume s.kept.index s.kept.places s.stands.changes
+        × IsKnown s.kept.inodes s.kept.free s.kept.volume.cache };
 }
 
 /// The group that is asked for, with its own copies of the octets. Refused only for want of memory.
@@ -133,21 +124,21 @@ impl Spool {
     {
         let free_blocks = free_block_count(&volume, inodes);
         let free_inodes = free_inode_count(&volume, inodes);
-        Spool {
-            alloc,
-            host,
+        let free = Free {
+            inode: 0,
+            block: 0,
+            inodes: free_inodes,
+            blocks: free_blocks,
+            pack: None,
+        };
+        let kept = Kept {
             inodes,
-            free: Free {
-                inode: 0,
-                block: 0,
-                inodes: free_inodes,
-                blocks: free_blocks,
-                pack: None,
-            },
+            free,
             volume,
             index,
             places,
-        }
+        };
+        Spool { alloc, host, kept }
     }
 
     /// The spool without changes, in an empty file system.
@@ -177,28 +168,28 @@ impl Spool {
     pub fn kept(&self)
         ensures { IsSpool self.now }
     {
-        let _ = &self.inodes;
+        let _ = &self.kept.inodes;
     }
 
     /// The number of inodes in the volume's label.
     pub fn inodes(&self) -> u32
         ensures { result ≡ self.now.inodes }
     {
-        self.inodes
+        self.kept.inodes
     }
 
     /// The number of inodes without a file.
     pub fn free_inodes(&self) -> u32
         ensures { result ≡ free_inodes self.now.inodes self.now.blocks }
     {
-        self.free.inodes
+        self.kept.free.inodes
     }
 
     /// The number of blocks that no file has.
     pub fn free_blocks(&self) -> u32
         ensures { result ≡ free_blocks self.now.blocks }
     {
-        self.free.blocks
+        self.kept.free.blocks
     }
 
     /// The number of blocks that aren't free.
@@ -212,21 +203,21 @@ impl Spool {
     pub fn used_inodes(&self) -> u32
         ensures { result + free_inodes self.now.inodes self.now.blocks ≡ self.now.inodes }
     {
-        self.inodes - self.free.inodes
+        self.kept.inodes - self.kept.free.inodes
     }
 
     /// The number of logical blocks.
     pub fn blocks(&self) -> u32
         ensures { result ≡ length self.now.blocks }
     {
-        self.volume.len()
+        self.kept.volume.len()
     }
 
     /// The number of dirty blocks.
     pub fn dirty_len(&self) -> usize
         ensures { result ≡ length self.now.dirty }
     {
-        self.volume.dirty_len()
+        self.kept.volume.dirty_len()
     }
 
     /// The octets of a block that isn't dirty. `None` if it is, or if there is no such block.
@@ -234,10 +225,10 @@ impl Spool {
         ensures clean { IfSome result (λ octets. IsClean self.now number octets.now) }
         ensures none { IfNone result ((length self.now.blocks ≤ number) ⊎ Contains self.now.dirty number) }
     {
-        if number >= self.volume.len() || self.volume.is_dirty(number) {
+        if number >= self.kept.volume.len() || self.kept.volume.is_dirty(number) {
             return None;
         }
-        Some(self.volume.block(number))
+        Some(self.kept.volume.block(number))
     }
 
     /// Copies the dirty blocks, at most 512, into the buffer in place of its content. Afterwards none is dirty.
@@ -251,14 +242,14 @@ impl Spool {
         ensures laid { (blocks : List (List ℕ)) → AgreeOutside into.new.numbers blocks self.old.blocks
             → laid_over blocks into.new.numbers (blocks_from 0 (length into.new.numbers) into.new.images) ≡ self.old.blocks }
     {
-        self.volume.copy_dirty(into);
+        self.kept.volume.copy_dirty(into);
     }
 
     /// Whether the group exists.
     fn is_here(&self, name: &[u8]) -> bool
         ensures { result ≡ is_here self.now.changes name.now }
     {
-        self.index.group(name).is_some()
+        self.kept.index.group(name).is_some()
     }
 
     /// Whether too few blocks are free for a change that leaves this many, or too few inodes for its files.
@@ -266,15 +257,15 @@ impl Spool {
         ensures { result ≡ (nat_lt (free_blocks self.now.blocks - blocks_left) 256
             || nat_lt (free_inodes self.now.inodes self.now.blocks - inodes_left) files) }
     {
-        self.free.blocks.saturating_sub(blocks_left) < BLOCKS_ASKED
-            || self.free.inodes.saturating_sub(inodes_left) < files
+        self.kept.free.blocks.saturating_sub(blocks_left) < BLOCKS_ASKED
+            || self.kept.free.inodes.saturating_sub(inodes_left) < files
     }
 
     /// Whether there is no room for a group.
     fn is_full_for_group(&self) -> bool
         ensures { (group : NewGroup) → result ≡ is_full_for self.now (changed.Group group) }
     {
-        self.lacks_room(GROUP_FILES, 0, 0) || GROUPS <= self.index.groups().len()
+        self.lacks_room(GROUP_FILES, 0, 0) || GROUPS <= self.kept.index.groups().len()
     }
 
     /// Adds the group that is asked for, and answers its serial. Refused as `Exists`, `Full` or `Memory`, tested in that
@@ -296,31 +287,10 @@ impl Spool {
         let Ok(asked) = group_asked(self.alloc, group) else {
             return Err(AddError::Memory);
         };
-        match self.push_group(asked) {
+        match self.push(NewChange::Group(asked)) {
             Ok(()) => Ok(self.len()),
             Err(_) => Err(AddError::Memory),
         }
-    }
-
-    /// Adds a group that may be made and for which there is room. Refused only for want of memory, and then nothing
-    /// changes.
-    fn push_group(&mut self, group: NewGroup) -> Result<(), AllocError>
-        requires may { MayMake self.old.changes group }
-        requires room { is_full_for self.old (changed.Group group) ≡ false }
-        ensures ok { OnOk result (Adds self.old self.new (changed.Group group)) }
-        ensures err { OnErr result (self.new ≡ self.old) }
-    {
-        let free = grow_by_group(
-            self.alloc,
-            self.inodes,
-            self.free,
-            &mut self.volume,
-            &mut self.index,
-            &mut self.places,
-            group,
-        )?;
-        self.free = free;
-        Ok(())
     }
 
     /// Whether there is no room for an article with this envelope, whose groups must exist.
@@ -328,9 +298,10 @@ impl Spool {
         requires { AreHere self.now.changes envelope.now.groups }
         ensures { (text : List ℕ) → result ≡ is_full_for self.now (changed.Article (record { text = text; envelope = envelope.now })) }
     {
-        let blocks = blocks_left(self.volume.len());
-        let inodes = inodes_left(self.inodes);
-        self.lacks_room(1, blocks, inodes) || extends_large(&self.index, envelope.groups.as_slice())
+        let blocks = blocks_left(self.kept.volume.len());
+        let inodes = inodes_left(self.kept.inodes);
+        self.lacks_room(1, blocks, inodes)
+            || extends_large(&self.kept.index, envelope.groups.as_slice())
     }
 
     /// Files an article with this envelope, and answers its serial. Its change must be one that may follow, and the volume one
@@ -347,7 +318,7 @@ impl Spool {
             (λ serial. (serial ≡ length self.old.changes + 1) × Adds self.old self.new (changed.Article
             (record { text = article.now; envelope = envelope.now }))) }
     {
-        let kind = kind_for(self.inodes, article.text());
+        let kind = kind_for(self.kept.inodes, article.text());
         self.add_in(kind, article, envelope)
     }
 
@@ -383,47 +354,22 @@ impl Spool {
         if self.is_full_for_article(envelope) {
             return Err(FilingError::Full);
         }
-        match self.push_article(kind, article, envelope) {
-            Ok(()) => Ok(self.len()),
-            Err(_) => Err(FilingError::Memory),
-        }
-    }
-
-    /// Files an article that may be filed with this envelope and for which there is room, its file in a place of this kind.
-    /// Refused only for want of memory, and then nothing changes.
-    fn push_article(
-        &mut self,
-        kind: PlaceKind,
-        article: &Article<'_>,
-        envelope: &Envelope,
-    ) -> Result<(), AllocError>
-        requires may { MayFile self.old.host self.old.changes (record { text = article.now; envelope = envelope.now }) }
-        requires room { is_full_for self.old (changed.Article
-            (record { text = article.now; envelope = envelope.now })) ≡ false }
-        ensures ok { OnOk result (Adds self.old self.new (changed.Article
-            (record { text = article.now; envelope = envelope.now }))) }
-        ensures err { OnErr result (self.new ≡ self.old) }
-    {
-        let free = grow_by_article(
-            self.alloc,
-            self.inodes,
-            self.free,
-            &mut self.volume,
-            &mut self.index,
-            &mut self.places,
+        let new = NewChange::Article {
             kind,
             article,
             envelope,
-        )?;
-        self.free = free;
-        Ok(())
+        };
+        match self.push(new) {
+            Ok(()) => Ok(self.len()),
+            Err(_) => Err(FilingError::Memory),
+        }
     }
 
     /// Whether the group exists and the number is in it, from its lowest to its highest.
     fn has_number(&self, name: &[u8], number: u32) -> bool
         ensures { result ≡ has_number self.now.changes name.now number }
     {
-        match self.index.group(name) {
+        match self.kept.index.group(name) {
             Some(group) => group.low() <= number as u64 && number as u64 <= group.high(),
             None => false,
         }
@@ -443,31 +389,21 @@ impl Spool {
         if self.lacks_room(1, 0, 0) {
             return Err(ExpireError::Full);
         }
-        match self.push_expiry(name, number) {
+        match self.push(NewChange::Expiry { name, number }) {
             Ok(()) => Ok(self.len()),
             Err(_) => Err(ExpireError::Memory),
         }
     }
 
-    /// Adds an expiry that may follow and for which there is room. Refused only for want of memory, and then nothing
+    /// Adds a change that may follow and for which there is room. Refused only for want of memory, and then nothing
     /// changes.
-    fn push_expiry(&mut self, name: &[u8], number: u32) -> Result<(), AllocError>
-        requires may { MayExpire self.old.changes (record { group = name.now; number = number }) }
-        requires room { is_full_for self.old (changed.Expire (record { group = name.now; number = number })) ≡ false }
-        ensures ok { OnOk result (Adds self.old self.new (changed.Expire (record { group = name.now; number = number }))) }
+    fn push(&mut self, new: NewChange<'_>) -> Result<(), AllocError>
+        requires may { MayFollow self.old.host self.old.changes (change_of new) }
+        requires room { is_full_for self.old (change_of new) ≡ false }
+        ensures ok { OnOk result (Adds self.old self.new (change_of new.entry)) }
         ensures err { OnErr result (self.new ≡ self.old) }
     {
-        let free = grow_by_expiry(
-            self.alloc,
-            self.inodes,
-            self.free,
-            &mut self.volume,
-            &mut self.index,
-            &mut self.places,
-            name,
-            number,
-        )?;
-        self.free = free;
+        grow(self.alloc, &mut self.kept, new)?;
         Ok(())
     }
 }

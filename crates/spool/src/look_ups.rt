@@ -18,39 +18,39 @@ impl LookUps for Spool {
     }
 
     fn len(&self) -> u64 {
-        self.index.len()
+        self.kept.index.len()
     }
 
     fn group(&self, name: &[u8]) -> Option<GroupView<'_>> {
-        self.index.view(name)
+        self.kept.index.view(name)
     }
 
     fn group_count(&self) -> usize {
-        self.index.group_count()
+        self.kept.index.group_count()
     }
 
     fn group_at(&self, place: usize) -> GroupView<'_> {
-        self.index.view_at(place)
+        self.kept.index.view_at(place)
     }
 
     fn by_number(&self, group: &[u8], number: u64) -> Option<u64> {
-        self.index.by_number(group, number)
+        self.kept.index.by_number(group, number)
     }
 
     fn by_id(&self, wanted: &[u8]) -> Option<u64> {
-        self.index.by_id(wanted)
+        self.kept.index.by_id(wanted)
     }
 
     fn gone_at(&self, serial: u64) -> Option<u64> {
-        self.index.gone_at(serial)
+        self.kept.index.gone_at(serial)
     }
 
     fn expired_at(&self, group: &[u8], number: u64) -> u64 {
-        self.index.expired_at(group, number)
+        self.kept.index.expired_at(group, number)
     }
 
     fn moment(&self, serial: u64) -> Option<u64> {
-        self.index.moment(serial)
+        self.kept.index.moment(serial)
     }
 
     fn push_new_ids(
@@ -59,19 +59,19 @@ impl LookUps for Spool {
         from: i64,
         reply: &mut Vec<u8>,
     ) -> Result<(), AllocError> {
-        self.index.push_new_ids(wildmat, from, reply)
+        self.kept.index.push_new_ids(wildmat, from, reply)
     }
 
     fn push_id(&self, serial: u64, reply: &mut Vec<u8>) -> Result<(), AllocError> {
-        self.index.push_id(serial, reply)
+        self.kept.index.push_id(serial, reply)
     }
 
     fn push_part(&self, part: &Part, serial: u64, reply: &mut Vec<u8>) -> Result<(), AllocError> {
         spool_texts::push_part(
-            &self.volume,
-            self.inodes,
-            &self.index,
-            &self.places,
+            &self.kept.volume,
+            self.kept.inodes,
+            &self.kept.index,
+            &self.kept.places,
             part,
             serial,
             reply,
@@ -85,10 +85,10 @@ impl LookUps for Spool {
         reply: &mut Vec<u8>,
     ) -> Result<(), AllocError> {
         spool_texts::push_overview(
-            &self.volume,
-            self.inodes,
-            &self.index,
-            &self.places,
+            &self.kept.volume,
+            self.kept.inodes,
+            &self.kept.index,
+            &self.kept.places,
             serial,
             number,
             reply,
@@ -96,7 +96,7 @@ impl LookUps for Spool {
     }
 
     fn overview_lines(&self, group: &[u8], from: u64, to: u64) -> Lines {
-        spool_texts::overview_lines(&self.index, group, from, to)
+        spool_texts::overview_lines(&self.kept.index, group, from, to)
     }
 
     ghost lawful = { λ s. changes_lawful s };
@@ -116,10 +116,10 @@ impl Source for Spool {
 
     fn make_some(&self, lines: Lines, octets: &mut Vec<u8>) -> Option<Lines> {
         spool_texts::push_some_lines(
-            &self.volume,
-            self.inodes,
-            &self.index,
-            &self.places,
+            &self.kept.volume,
+            self.kept.inodes,
+            &self.kept.index,
+            &self.kept.places,
             lines,
             octets,
         )

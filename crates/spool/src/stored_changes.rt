@@ -14,6 +14,12 @@ impl Spool {
         requires to { serial ≤ length self.now.changes }
         ensures { IfOk result (λ change. slice_get self.now.changes (serial - 1) ≡ Some change) }
     {
-        change(self.alloc, &self.volume, self.inodes, &self.places, serial)
+        change(
+            self.alloc,
+            &self.kept.volume,
+            self.kept.inodes,
+            &self.kept.places,
+            serial,
+        )
     }
 }

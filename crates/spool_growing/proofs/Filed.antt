@@ -1,11 +1,11 @@
 -- An article is filed.
-use Rattle.std.proofs.Common.{◌≡◌, ◌≤◌, ℕ, suc, ◌+◌, List, [], ◌∷◌, ◌++◌, length, get_or, map, refl, sym, ◌∙◌, ap, subst, arith}
+use Rattle.std.proofs.Common.{◌≡◌, ◌≤◌, ℕ, suc, ◌+◌, List, [], ◌∷◌, ◌++◌, length, get_or, map, refl, ◌∙◌, ap, subst, arith}
 use Rattle.std.specs.Prelude.{Option, Some, None, option_map, slice_get, unwrap_or}
 use Rattle.std.specs.List.{sum_by}
 use Rattle.std.proofs.lemmas.List.Sums.{sum_by-cons}
 use Rattle.model.specs.Stream.{Octets}
 use Rattle.model.specs.Files.{File, HasRoom, IsFileSystem, free_inodes, table}
-use Rattle.model.specs.Indexed.{ChangePlace, FilePlaces}
+use Rattle.model.specs.Indexed.{ChangePlace}
 use Rattle.model.specs.Lawful.{MayFile}
 use Rattle.model.specs.Packs.{pack_name}
 use Rattle.model.specs.Records.{article_record}
@@ -22,12 +22,12 @@ use Rattle.spool_growing.specs.Calls.{AppendsFirst, Calls, MayAllGrow, append_ca
 use Rattle.spool_growing.specs.Putting.{AreNotPacked, PutsAt, touched_by_put}
 use Rattle.spool_growing.proofs.Calling.{calls_then}
 use Rattle.spool_index.specs.Places.{with_change}
-use Rattle.spool_index.specs.View.{IndexView, Indexes}
-use Rattle.journal_volume.specs.Volume.{VolumeView}
+use Rattle.spool_index.specs.View.{Indexes}
 use Rattle.spool_growing.specs.Articles.{ArePieces}
-use Rattle.spool_growing.specs.Growing.{FilesArticle, IsGrown}
+use Rattle.spool_growing.specs.declared.file_calls.Free.{Free}
+use Rattle.spool_growing.specs.declared.kept.Kept.{Kept}
+use Rattle.spool_growing.specs.Growing.{FilesArticle, IsOnStage, IsStaged}
 use Rattle.spool_growing.specs.Kept.{IsHeld, IsKept}
-use Rattle.spool_growing.specs.Growing.{Dirties}
 use Rattle.spool_growing.proofs.Absent.{lacks_serial, not_first}
 use Rattle.spool_growing.proofs.Adding.{pieces_call}
 use Rattle.spool_growing.proofs.Held.{changes_are_few, not_there, own_file}
@@ -122,50 +122,31 @@ article_takes inodes at f pieces old new filed room rule =
       none_created (append_call (table inodes old)) pieces (λ p. refl),
     )
 
-pub kept_with_article : (host : Octets) (inodes : ℕ) (v w : VolumeView) (i j : IndexView) (p q : FilePlaces) (S : Spool) (f : Filing)
-    (at : ChangePlace) (octets : Octets) (pieces : List Piece)
-    → IsKept host inodes v i p S → MayFile host S f
-    → octets ≡ article_record (news_article (length S + 1) f)
-    → ArePieces (table inodes v.cache) S f.text f.envelope.groups pieces
-    → FilesArticle inodes at (record { name = article_name (length S + 1); content = octets }) pieces v.cache w.cache
-    → q ≡ with_change at p → Indexes (S ++ Article f ∷ []) j → w.seen ≡ w.cache
-    → IsKept host inodes w j q (S ++ Article f ∷ [])
-kept_with_article host inodes v w i j p q S f at octets pieces kept may says are filed places indexed seen =
-    let puts : PutsAt inodes at (own_file S (Article f)) v.cache filed.mid =
-    subst (λ (o : Octets). PutsAt inodes at (record { name = article_name (length S + 1); content = o }) v.cache filed.mid) says
-    filed.puts in
-    let more : Calls inodes (index_calls S (Article f)) filed.mid w.cache =
-    subst (λ (cs : List FileCall). Calls inodes cs filed.mid w.cache)
-    (pieces_call (table inodes v.cache) S f.text f.envelope.groups pieces are) filed.calls in
-    kept_with_put host inodes v w i j p q S (Article f) at filed.mid refl kept may puts more places indexed seen
-
-pub article_grown : (inodes : ℕ) (v m w : VolumeView) (i j : IndexView) (p q : FilePlaces) (f : Filing) (at : ChangePlace) (serial : ℕ)
-    (octets : Octets) (pieces : List Piece)
-    → v.seen ≡ v.cache → FilesArticle inodes at (record { name = article_name serial; content = octets }) pieces v.seen m.seen
-    → Dirties v.cache w.cache v.dirty w.dirty
-    → w.cache ≡ m.seen → w.seen ≡ m.seen
-    → q ≡ with_change at p
-    → ((host : Octets) (S : Spool) → MayFile host S f → IsKept host inodes v i p S → Indexes (S ++ Article f ∷ []) j)
-    → ((S : Spool) → Indexes S i → serial ≡ length S + 1)
-    → octets ≡ article_record (news_article serial f)
-    → ((host : Octets) (S : Spool) → IsKept host inodes v i p S → ArePieces (table inodes v.cache) S f.text f.envelope.groups pieces)
-    → IsGrown inodes v w i j p q (Article f)
-article_grown inodes v m w i j p q f at serial octets pieces seen made dirties cache now places indexed serials says are =
+pub article_staged : (k m : Kept) (next : Free) (f : Filing) (at : ChangePlace) (serial : ℕ) (octets : Octets) (pieces : List Piece)
+    → IsOnStage k m next
+    → FilesArticle k.inodes at (record { name = article_name serial; content = octets }) pieces k.volume.seen m.volume.seen
+    → m.places ≡ with_change at k.places
+    → ((host : Octets) (S : Spool) → MayFile host S f → IsKept host k.inodes k.volume k.index k.places S
+    → Indexes (S ++ Article f ∷ []) m.index)
+    → ((S : Spool) → Indexes S k.index → serial ≡ length S + 1) → octets ≡ article_record (news_article serial f)
+    → ((host : Octets) (S : Spool) → IsKept host k.inodes k.volume k.index k.places S
+    → ArePieces (table k.inodes k.volume.seen) S f.text f.envelope.groups pieces)
+    → IsStaged k m next (Article f)
+article_staged k m next f at serial octets pieces stage filed places indexed serials says are =
     let its : File = record { name = article_name serial; content = octets } in
-    let filed : FilesArticle inodes at its pieces v.cache w.cache =
-    subst (λ (bs : List Octets). FilesArticle inodes at its pieces v.cache bs) (sym cache)
-    (subst (λ (bs : List Octets). FilesArticle inodes at its pieces bs m.seen) seen made) in
-    let said : (S : Spool) → serial ≡ length S + 1 → octets ≡ article_record (news_article (length S + 1) f) =
-    λ S its. says ∙ ap (λ (n : ℕ). article_record (news_article n f)) its in
-    let named : (S : Spool) → serial ≡ length S + 1
-    → FilesArticle inodes at (record { name = article_name (length S + 1); content = octets }) pieces v.cache w.cache =
-    λ S its. subst (λ (n : ℕ). FilesArticle inodes at (record { name = article_name n; content = octets }) pieces v.cache w.cache) its filed
-    in
     record {
+      stage = stage;
       kept = λ host S kept may.
-          let its = serials S kept.indexed in
-          kept_with_article host inodes v w i j p q S f at octets pieces kept may (said S its) (are host S kept)
-          (named S its) places (indexed host S may kept) (now ∙ sym cache);
-      free = λ room rule. article_takes inodes at its pieces v.cache w.cache filed room rule;
-      dirties = dirties;
+          let n = serials S kept.indexed in
+          let file : its ≡ own_file S (Article f) = λ i. record {
+            name = article_name (n i);
+            content = (says ∙ ap (λ (j : ℕ). article_record (news_article j f)) n) i;
+          } in
+          let filed' : FilesArticle k.inodes at (own_file S (Article f)) pieces k.volume.seen m.volume.seen =
+          subst (λ (h : File). FilesArticle k.inodes at h pieces k.volume.seen m.volume.seen) file filed in
+          let more : Calls k.inodes (index_calls S (Article f)) filed'.mid m.volume.seen =
+          subst (λ (cs : List FileCall). Calls k.inodes cs filed'.mid m.volume.seen)
+          (pieces_call (table k.inodes k.volume.seen) S f.text f.envelope.groups pieces (are host S kept)) filed'.calls in
+          kept_with_put host k m S (Article f) at filed'.mid refl kept may filed'.puts more places (indexed host S may kept);
+      free = λ room rule. article_takes k.inodes at its pieces k.volume.seen m.volume.seen filed room rule;
     }

@@ -1,11 +1,12 @@
 -- What is kept of a spool with one change more.
-use Rattle.std.proofs.Common.{◌≡◌, ◌≢◌, ◌⊎◌, inl, inr, ◌↔◌, ℕ, ◌+◌, List, [], ◌∷◌, ◌++◌, length, refl, sym}
+use Rattle.std.proofs.Common.{◌≡◌, ◌≢◌, ◌⊎◌, inl, inr, ◌↔◌, ◌≤◌, ℕ, ◌+◌, List, [], ◌∷◌, ◌++◌, length, refl, sym}
 use Rattle.std.proofs.Common.{◌∙◌, ap, subst, arith}
 use Rattle.std.specs.Prelude.{Some, None, option_map}
 use Rattle.std.proofs.lemmas.Bool.{cases_eq}
 use Rattle.model.specs.Stream.{Octets}
-use Rattle.model.specs.Files.{File, table}
-use Rattle.model.specs.Indexed.{FilePlaces}
+use Rattle.model.specs.Files.{File, HasRoom, IsFileSystem, free_inodes, table}
+use Rattle.model.specs.Indexed.{ArePlaces}
+use Rattle.model.specs.Room.{files_made}
 use Rattle.model.specs.Lawful.{MayMake}
 use Rattle.model.specs.Packs.{pack_name}
 use Rattle.model.specs.Records.{group_record}
@@ -17,23 +18,24 @@ use Rattle.model.specs.declared.change.Change.{Change}
 use Rattle.model.specs.declared.change.Change.TheVariants.{Group}
 use Rattle.model.specs.declared.change.NewGroup.{NewGroup}
 use Rattle.fs.specs.Calls.{IsFileAt, IsThere}
-use Rattle.spool_growing.specs.Calls.{Calls, CreatesAt, MakesAt, SameFilesBut}
+use Rattle.spool_growing.specs.declared.file_calls.Free.{Free}
+use Rattle.spool_growing.specs.declared.kept.Kept.{Kept}
+use Rattle.spool_growing.specs.Calls.{Calls, CreatesAt, IsKnown, MakesAt, SameFilesBut}
 use Rattle.spool_growing.proofs.Calling.{calls_then}
 use Rattle.spool_growing.proofs.Taken.{creates, inodes_taken}
 use Rattle.fs_inodes.proofs.Grown.{one_name}
-use Rattle.spool_index.specs.View.{IndexView, Indexes}
+use Rattle.spool_index.specs.View.{Indexes}
 use Rattle.spool_index.specs.Places.{AreNamed, name_of, with_group}
 use Rattle.spool_index.proofs.Named.{are_by_name, grow_by_group, have_names, name_kept}
 use Rattle.journal_volume.specs.Volume.{VolumeView}
 use Rattle.spool_growing.specs.Growing.{LacksGroup, MakesGroup, group_calls}
-use Rattle.spool_growing.specs.Kept.{IsHeld, IsKept}
+use Rattle.spool_growing.specs.Kept.{IsHeld}
 use Rattle.std.specs.List.{Contains}
 use Rattle.model.specs.Volume.{AreDistinct}
 use Rattle.model.specs.Lawful.{IsLawful}
 use Rattle.fs.specs.Touches.{Touches}
 use Rattle.journal_volume.specs.Volume.{Differs}
-use Rattle.spool_growing.specs.Growing.{IsGrown}
-use Rattle.spool_growing.specs.Growing.{Dirties}
+use Rattle.spool_growing.specs.Growing.{Dirties, IsGrown, IsOnStage, IsReady, IsStaged, OnlyStages}
 use Rattle.spool_growing.proofs.Dirty.{dirties}
 use Rattle.spool_growing.proofs.Absent.{lacks_names, lacks_serial, not_first}
 use Rattle.spool_growing.proofs.Held.{changes_are_few, grown, not_there}
@@ -92,33 +94,6 @@ makes_group inodes at numbers overview name octets a b c d first second third = 
 
 -- ---- the whole
 
--- the calls of a group that is made
-group_is_made : (inodes : ℕ) (S : Spool) (g : NewGroup) (at numbers overview : ℕ) (octets : Octets) (old new : List Octets)
-    → octets ≡ group_record (news_group (length S + 1) g) → MakesGroup inodes at numbers overview g.name octets old new
-    → Calls inodes (change_calls S (Group g)) old new
-group_is_made inodes S g at numbers overview octets old new says made =
-    subst (λ (o : Octets). Calls inodes (group_calls g.name o) old new) says made.calls
-
-pub kept_with_group : (host : Octets) (inodes : ℕ) (v w : VolumeView) (i j : IndexView) (p q : FilePlaces) (S : Spool) (g : NewGroup)
-    (at numbers overview : ℕ) (octets : Octets)
-    → IsKept host inodes v i p S → MayMake S g → octets ≡ group_record (news_group (length S + 1) g)
-    → MakesGroup inodes at numbers overview g.name octets v.cache w.cache → q ≡ with_group at numbers overview p
-    → Indexes (S ++ Group g ∷ []) j → w.seen ≡ w.cache
-    → IsKept host inodes w j q (S ++ Group g ∷ [])
-kept_with_group host inodes v w i j p q S g at numbers overview octets kept may says made places indexed seen =
-    let c : Change = Group g in
-    let calls = group_is_made inodes S g at numbers overview octets v.cache w.cache says made in
-    let is = grown host inodes v.cache S kept.is c w.cache may calls in
-    let placed = grow_by_group (table inodes v.cache) (table inodes w.cache) S g p at numbers overview
-    (have_names inodes v.cache S p kept.placed) made.calls.keeps made.group made.first made.second in
-    record {
-      is = is;
-      seen = seen;
-      indexed = indexed;
-      placed = are_by_name host inodes w.cache (S ++ c ∷ []) q is.room.few is.held
-          (subst (AreNamed (table inodes w.cache) (S ++ c ∷ [])) (sym places) placed);
-    }
-
 -- ---- after the stage was applied
 
 pub applied_dirties : (v m w : VolumeView) → v.seen ≡ v.cache → ◌≡◌ {A = List Octets × List ℕ} (m.cache, m.dirty) (v.cache, v.dirty)
@@ -137,23 +112,70 @@ applied_dirties v m w seen kept count touches cache exactly once =
     (subst (λ (ds : List ℕ). Contains w.dirty k ↔ (Contains ds k ⊎ Differs m.cache m.seen k)) same_dirty (exactly k))))
     once
 
-pub group_grown : (inodes : ℕ) (v m w : VolumeView) (i j : IndexView) (p q : FilePlaces) (g : NewGroup) (at numbers overview : ℕ)
-    (octets : Octets)
-    → v.seen ≡ v.cache → MakesGroup inodes at numbers overview g.name octets v.seen m.seen → Dirties v.cache w.cache v.dirty w.dirty
-    → w.cache ≡ m.seen → w.seen ≡ m.seen
-    → q ≡ with_group at numbers overview p
-    → ((host : Octets) (S : Spool) → IsLawful host S → MayMake S g → Indexes S i → Indexes (S ++ Group g ∷ []) j)
-    → ((S : Spool) → Indexes S i → octets ≡ group_record (news_group (length S + 1) g))
-    → IsGrown inodes v w i j p q (Group g)
+pub group_staged : (k m : Kept) (next : Free) (g : NewGroup) (at numbers overview : ℕ) (octets : Octets)
+    → IsOnStage k m next → MakesGroup k.inodes at numbers overview g.name octets k.volume.seen m.volume.seen
+    → m.places ≡ with_group at numbers overview k.places
+    → ((host : Octets) (S : Spool) → IsLawful host S → MayMake S g → Indexes S k.index → Indexes (S ++ Group g ∷ []) m.index)
+    → ((S : Spool) → Indexes S k.index → octets ≡ group_record (news_group (length S + 1) g))
+    → IsStaged k m next (Group g)
 unfolding creates
-group_grown inodes v m w i j p q g at numbers overview octets seen made dirties cache now places indexed says =
-    let made' : MakesGroup inodes at numbers overview g.name octets v.cache w.cache =
-    subst (λ (bs : List Octets). MakesGroup inodes at numbers overview g.name octets v.cache bs) (sym cache)
-    (subst (λ (bs : List Octets). MakesGroup inodes at numbers overview g.name octets bs m.seen) seen made) in
+group_staged k m next g at numbers overview octets stage made places indexed says = record {
+  stage = stage;
+  kept = λ host S kept may.
+      let c : Change = Group g in
+      let made' : MakesGroup k.inodes at numbers overview g.name octets k.volume.cache m.volume.seen =
+      subst (λ (bs : List Octets). MakesGroup k.inodes at numbers overview g.name octets bs m.volume.seen) kept.seen made in
+      let calls : Calls k.inodes (change_calls S c) k.volume.cache m.volume.seen =
+      subst (λ (o : Octets). Calls k.inodes (group_calls g.name o) k.volume.cache m.volume.seen) (says S kept.indexed) made'.calls in
+      let is = grown host k.inodes k.volume.cache S kept.is c m.volume.seen may calls in
+      let placed = grow_by_group (table k.inodes k.volume.cache) (table k.inodes m.volume.seen) S g k.places at numbers overview
+      (have_names k.inodes k.volume.cache S k.places kept.placed) made'.calls.keeps made'.group made'.first made'.second in
+      record {
+        is = is;
+        seen = refl;
+        indexed = indexed host S kept.is.held.lawful may kept.indexed;
+        placed = are_by_name host k.inodes m.volume.seen (S ++ c ∷ []) m.places is.room.few is.held
+            (subst (AreNamed (table k.inodes m.volume.seen) (S ++ c ∷ [])) (sym places) placed);
+      };
+  free = λ room rule.
+      omega (arith, inodes_taken k.inodes (group_calls g.name octets) k.volume.seen m.volume.seen made.calls room rule);
+}
+
+pub change_grown : (k m : Kept) (w : VolumeView) (next free : Free) (c : Change) → IsReady k c → IsStaged k m next c
+    → w.cache ≡ m.volume.seen → w.seen ≡ m.volume.seen
+    → ((n : ℕ) → Contains w.dirty n ↔ (Contains m.volume.dirty n ⊎ Differs m.volume.cache m.volume.seen n)) → AreDistinct w.dirty
+    → IsKnown k.inodes free w.seen → IsGrown k (record m { volume = w; free = free }) c
+change_grown k m w next free c ready staged cache now exactly once known =
+    let stage = staged.stage in
+    let moved : ◌≡◌ {A = ℕ × List Octets} (k.inodes, m.volume.seen) (m.inodes, w.cache) = λ i. (sym stage.inodes i, sym cache i) in
     record {
-      kept = λ host S kept may.
-          kept_with_group host inodes v w i j p q S g at numbers overview octets kept may
-          (says S kept.indexed) made' places (indexed host S kept.is.held.lawful may kept.indexed) (now ∙ sym cache);
-      free = λ room rule. omega (arith, inodes_taken inodes (group_calls g.name octets) v.cache w.cache made'.calls room rule);
-      dirties = dirties;
+      inodes = stage.inodes;
+      kept = λ host S kept may. let its = staged.kept host S kept may in record {
+        is = subst (λ (x : ℕ × List Octets). IsHeld host x.0 x.1 (S ++ c ∷ [])) moved its.is;
+        seen = now ∙ sym cache;
+        indexed = its.indexed;
+        placed = subst (λ (x : ℕ × List Octets). ArePlaces x.0 x.1 (S ++ c ∷ []) m.places) moved its.placed;
+      };
+      free = subst (λ (x : List Octets × (ℕ × List Octets)). HasRoom k.inodes x.0 → IsFileSystem k.inodes x.0
+          → free_inodes k.inodes x.0 ≤ free_inodes x.1.0 x.1.1 + files_made c) (λ i. (ready.kept.seen i, moved i)) staged.free;
+      dirties = applied_dirties k.volume m.volume w ready.kept.seen stage.volume stage.count stage.touches cache exactly once;
+      known = subst (λ (x : ℕ × List Octets). IsKnown x.0 free x.1) (λ i. (sym stage.inodes i, (now ∙ sym cache) i)) known;
     }
+
+-- ---- after the stage was dropped
+
+pub as_before : (k m : Kept) (w : VolumeView) → k.volume.seen ≡ k.volume.cache → OnlyStages k m
+    → w ≡ record m.volume { seen = m.volume.cache } → ◌≡◌ {A = Kept} (record m { volume = w }) k
+as_before k m w seen only dropped = λ i. record {
+  inodes = only.inodes i;
+  free = only.free i;
+  volume = (dropped ∙ back) i;
+  index = only.index i;
+  places = only.places i;
+} where
+  back : record m.volume { seen = m.volume.cache } ≡ k.volume
+  back = λ i. record {
+    cache = (only.volume i).0;
+    seen = (ap (λ (x : List Octets × List ℕ). x.0) only.volume ∙ sym seen) i;
+    dirty = (only.volume i).1;
+  }

@@ -10,3 +10,4 @@ pub mod Pieces
 pub mod Packing
 pub mod Stored
 pub mod Taken
+pub mod Ready

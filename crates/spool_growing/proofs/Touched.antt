@@ -97,15 +97,12 @@ module _ (host : Octets) (inodes : ℕ) (blocks : List Octets) (S : Spool) (f : 
       (subst (λ (o : Octets). touched_by_put (length o) + sum_by (blocks_filed S f.text) f.envelope.groups ≤ 254)
       (sym says) few_changed)
 
-  pub article_touches : (serial : ℕ) (octets : Octets) (pieces : List Piece) (seen new : List Octets)
-      → seen ≡ blocks → serial ≡ length S + 1
-      → octets ≡ article_record (news_article serial f) → ArePieces (table inodes blocks) S f.text f.envelope.groups pieces
-      → Touches (touched_by_put (length octets) + touched_by_pieces (table inodes seen) pieces) seen new
-      → Touches 254 seen new
-  article_touches serial octets pieces seen new same count says are touches =
-      let reached = touched_by_put (length octets) in
+  pub article_touches : (serial : ℕ) (octets : Octets) (pieces : List Piece) (new : List Octets)
+      → serial ≡ length S + 1 → octets ≡ article_record (news_article serial f)
+      → ArePieces (table inodes blocks) S f.text f.envelope.groups pieces
+      → Touches (touched_by_put (length octets) + touched_by_pieces (table inodes blocks) pieces) blocks new
+      → Touches 254 blocks new
+  article_touches serial octets pieces new count says are touches =
       let its_own = ap (λ (n : ℕ). article_record (news_article n f)) count in
-      let few : reached + touched_by_pieces (table inodes seen) pieces ≤ 254 =
-      subst (λ (bs : List Octets). reached + touched_by_pieces (table inodes bs) pieces ≤ 254) (sym same)
-      (few_touched octets pieces (says ∙ its_own) are) in
-      touches_more (reached + touched_by_pieces (table inodes seen) pieces) 254 seen new few touches
+      touches_more (touched_by_put (length octets) + touched_by_pieces (table inodes blocks) pieces) 254 blocks new
+      (few_touched octets pieces (says ∙ its_own) are) touches

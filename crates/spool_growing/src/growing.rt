@@ -1,21 +1,20 @@
-//! Adds one more change to all that a spool keeps: first its files on the stage, then their places and the index. Last
+//! Adds one more change to all that is kept of a spool: first its files on the stage, then their places and the index. Last
 //! the stage is applied, which takes no memory. If memory is refused, everything is as it was.
 
 ghost use Rattle.std.specs.Prelude.{◌≡◌, IfOk, OnErr, OnOk};
-ghost use Rattle.spool_growing.specs.Calls.{IsKnown};
 ghost use Rattle.model.specs.Files.{HasRoom};
 ghost use Rattle.model.specs.declared.change.Change.{Change};
-ghost use Rattle.spool_growing.specs.Growing.{IsGrown, IsReady};
+ghost use Rattle.spool_growing.specs.Calls.{IsKnown};
+ghost use Rattle.spool_growing.specs.Growing.{IsGrown, IsReady, IsStaged, OnlyStages, change_of};
 
 use crate::index_lines::lines_of;
 use crate::staging::{file_article, make_group, put_expiry};
-use crate::{Free, PlaceKind};
+use crate::{Free, Kept, NewChange, PlaceKind};
 use fs_blocks::Blocks;
 use fs_layout::bitmap::lowest_free;
 use journal_volume::Volume;
 use model::{Envelope, NewGroup};
 use spool_admission::{id_of, lengths_of};
-use spool_index::{Index, Places};
 use spool_records::{article_record, expiry_record, group_record};
 use std::alloc::{AllocError, Global};
 use text_article::Article;
@@ -33,148 +32,136 @@ fn seek_block(volume: &Volume, inodes: u32, free: Free) -> Free
     Free { block, ..free }
 }
 
-/// Adds a group that may be made and for which there is room, and answers what is free afterwards. Refused only for
-/// want of memory, and then nothing changes.
-pub fn grow_by_group(
-    alloc: Global,
-    inodes: u32,
-    free: Free,
-    volume: &mut Volume,
-    index: &mut Index,
-    places: &mut Places,
-    group: NewGroup,
-) -> Result<Free, AllocError>
-    requires ready { IsReady inodes volume.old index.old places.old (Change.Group group) }
-    requires known { IsKnown inodes free volume.old.cache }
-    ensures grown { OnOk result (IsGrown inodes volume.old volume.new index.old index.new places.old places.new
-        (Change.Group group)) }
-    ensures known { IfOk result (λ next. IsKnown inodes next volume.new.cache) }
-    ensures volume { OnErr result (volume.new ≡ volume.old) }
-    ensures index { OnErr result (index.new ≡ index.old) }
-    ensures places { OnErr result (places.new ≡ places.old) }
+/// Adds a change that may follow and for which there is room. Refused only for want of memory, and then nothing changes.
+pub fn grow(alloc: Global, kept: &mut Kept, new: NewChange<'_>) -> Result<(), AllocError>
+    requires { IsReady kept.old (change_of new) }
+    ensures grown { OnOk result (IsGrown kept.old kept.new (change_of new.entry)) }
+    ensures same { OnErr result (kept.new ≡ kept.old) }
 {
-    let serial = index.len() + 1;
+    let inodes = kept.inodes;
+    let Ok(next) = stage(alloc, kept, new) else {
+        kept.volume.drop_stage();
+        return Err(AllocError);
+    };
+    kept.volume.apply();
+    kept.free = seek_block(&kept.volume, inodes, next);
+    Ok(())
+}
+
+/// Puts the files of a change on the stage, adds their places and its entry in the index, and answers what is free then.
+/// Refused only for want of memory, and then nothing but the stage has changed: the caller must drop it.
+fn stage(alloc: Global, kept: &mut Kept, new: NewChange<'_>) -> Result<Free, AllocError>
+    requires { IsReady kept.old (change_of new) }
+    ensures staged { IfOk result (λ next. IsStaged kept.old kept.new next (change_of new.entry)) }
+    ensures refused { OnErr result (OnlyStages kept.old kept.new) }
+{
+    match new {
+        NewChange::Group(group) => stage_group(alloc, kept, group),
+        NewChange::Article {
+            kind,
+            article,
+            envelope,
+        } => stage_article(alloc, kept, kind, article, envelope),
+        NewChange::Expiry { name, number } => stage_expiry(alloc, kept, name, number),
+    }
+}
+
+/// Stages a group: its record, and empty numbers and overview. Refused as `stage` is.
+fn stage_group(alloc: Global, kept: &mut Kept, group: NewGroup) -> Result<Free, AllocError>
+    requires { IsReady kept.old (Change.Group group) }
+    ensures staged { IfOk result (λ next. IsStaged kept.old kept.new next (Change.Group group)) }
+    ensures refused { OnErr result (OnlyStages kept.old kept.new) }
+{
+    let serial = kept.index.len() + 1;
     let record = group_record(alloc, serial, &group)?;
-    let mut next = free;
-    let Ok(made) = make_group(
+    let mut next = kept.free;
+    let made = make_group(
         alloc,
-        volume,
-        inodes,
+        &mut kept.volume,
+        kept.inodes,
         &mut next,
         group.name.as_slice(),
         &record,
-    ) else {
-        volume.drop_stage();
+    )?;
+    kept.places
+        .push_group(made.at, made.numbers, made.overview)?;
+    let Ok(()) = kept.index.push_group(group) else {
+        kept.places.pop_group();
         return Err(AllocError);
     };
-    let Ok(()) = places.push_group(made.at, made.numbers, made.overview) else {
-        volume.drop_stage();
-        return Err(AllocError);
-    };
-    let Ok(()) = index.push_group(group) else {
-        places.pop_group();
-        volume.drop_stage();
-        return Err(AllocError);
-    };
-    volume.apply();
-    Ok(seek_block(volume, inodes, next))
+    Ok(next)
 }
 
-/// Adds an expiry that may follow and for which there is room, and answers what is free afterwards. Its file goes into the
-/// pack, if that may grow by it. Refused only for want of memory, and then nothing changes.
-pub fn grow_by_expiry(
+/// Stages an expiry: its file, which goes into the pack, if that may grow by it. Refused as `stage` is.
+fn stage_expiry(
     alloc: Global,
-    inodes: u32,
-    free: Free,
-    volume: &mut Volume,
-    index: &mut Index,
-    places: &mut Places,
+    kept: &mut Kept,
     name: &[u8],
     number: u32,
 ) -> Result<Free, AllocError>
-    requires ready { IsReady inodes volume.old index.old places.old
-        (Change.Expire (record { group = name.now; number = number })) }
-    requires known { IsKnown inodes free volume.old.cache }
-    ensures grown { OnOk result (IsGrown inodes volume.old volume.new index.old index.new places.old places.new
+    requires { IsReady kept.old (Change.Expire (record { group = name.now; number = number })) }
+    ensures staged { IfOk result (λ next. IsStaged kept.old kept.new next
         (Change.Expire (record { group = name.now; number = number }))) }
-    ensures known { IfOk result (λ next. IsKnown inodes next volume.new.cache) }
-    ensures volume { OnErr result (volume.new ≡ volume.old) }
-    ensures index { OnErr result (index.new ≡ index.old) }
-    ensures places { OnErr result (places.new ≡ places.old) }
+    ensures refused { OnErr result (OnlyStages kept.old kept.new) }
 {
-    let serial = index.len() + 1;
+    let serial = kept.index.len() + 1;
     let record = expiry_record(alloc, serial, name, number)?;
-    let mut next = free;
-    let Ok(at) = put_expiry(alloc, volume, inodes, &mut next, serial, &record) else {
-        volume.drop_stage();
+    let mut next = kept.free;
+    let at = put_expiry(
+        alloc,
+        &mut kept.volume,
+        kept.inodes,
+        &mut next,
+        serial,
+        &record,
+    )?;
+    kept.places.push_change(at)?;
+    let Ok(()) = kept.index.push_expiry(name, number as u64) else {
+        kept.places.pop_change();
         return Err(AllocError);
     };
-    let Ok(()) = places.push_change(at) else {
-        volume.drop_stage();
-        return Err(AllocError);
-    };
-    let Ok(()) = index.push_expiry(name, number as u64) else {
-        places.pop_change();
-        volume.drop_stage();
-        return Err(AllocError);
-    };
-    volume.apply();
-    Ok(seek_block(volume, inodes, next))
+    Ok(next)
 }
 
-/// Files an article with this envelope, its file in a place of this kind, and answers what is free afterwards. The change
-/// must be one that may follow, and there must be room for it. Refused only for want of memory, and then nothing changes.
-pub fn grow_by_article(
+/// Stages an article with this envelope: its file, in a place of this kind, and what it adds to the files of its groups.
+/// Refused as `stage` is.
+fn stage_article(
     alloc: Global,
-    inodes: u32,
-    free: Free,
-    volume: &mut Volume,
-    index: &mut Index,
-    places: &mut Places,
+    kept: &mut Kept,
     kind: PlaceKind,
     article: &Article<'_>,
     envelope: &Envelope,
 ) -> Result<Free, AllocError>
-    requires ready { IsReady inodes volume.old index.old places.old
-        (Change.Article (record { text = article.now; envelope = envelope.now })) }
-    requires known { IsKnown inodes free volume.old.cache }
-    ensures grown { OnOk result (IsGrown inodes volume.old volume.new index.old index.new places.old places.new
+    requires { IsReady kept.old (Change.Article (record { text = article.now; envelope = envelope.now })) }
+    ensures staged { IfOk result (λ next. IsStaged kept.old kept.new next
         (Change.Article (record { text = article.now; envelope = envelope.now }))) }
-    ensures known { IfOk result (λ next. IsKnown inodes next volume.new.cache) }
-    ensures volume { OnErr result (volume.new ≡ volume.old) }
-    ensures index { OnErr result (index.new ≡ index.old) }
-    ensures places { OnErr result (places.new ≡ places.old) }
+    ensures refused { OnErr result (OnlyStages kept.old kept.new) }
 {
-    let serial = index.len() + 1;
+    let serial = kept.index.len() + 1;
     let text = article.text();
-    let kept = envelope.copy(alloc)?;
+    let stored = envelope.copy(alloc)?;
     let octets = article_record(alloc, serial, envelope, text)?;
     let groups = envelope.groups.as_slice();
-    let lines = lines_of(alloc, index, places, serial, article, groups)?;
-    let mut next = free;
-    let Ok(at) = file_article(
+    let lines = lines_of(alloc, &kept.index, &kept.places, serial, article, groups)?;
+    let mut next = kept.free;
+    let at = file_article(
         alloc,
-        volume,
-        inodes,
+        &mut kept.volume,
+        kept.inodes,
         &mut next,
         kind,
         serial,
         &octets,
         &lines.pieces,
-    ) else {
-        volume.drop_stage();
-        return Err(AllocError);
-    };
-    let Ok(()) = places.push_change(at) else {
-        volume.drop_stage();
-        return Err(AllocError);
-    };
+    )?;
+    kept.places.push_change(at)?;
     let lengths = lengths_of(article);
-    let Ok(()) = index.push_article(id_of(article), lengths, kept, &lines.sizes) else {
-        places.pop_change();
-        volume.drop_stage();
+    let Ok(()) = kept
+        .index
+        .push_article(id_of(article), lengths, stored, &lines.sizes)
+    else {
+        kept.places.pop_change();
         return Err(AllocError);
     };
-    volume.apply();
-    Ok(seek_block(volume, inodes, next))
+    Ok(next)
 }

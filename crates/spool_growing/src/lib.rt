@@ -5,9 +5,11 @@
 mod file_calls;
 mod growing;
 mod index_lines;
+mod kept;
 mod putting;
 mod staging;
 
 pub use file_calls::{BLOCKS_ASKED, Free, Piece, append_all, append_to, create_file, make_file};
-pub use growing::{grow_by_article, grow_by_expiry, grow_by_group};
+pub use growing::grow;
+pub use kept::{Kept, NewChange};
 pub use putting::PlaceKind;

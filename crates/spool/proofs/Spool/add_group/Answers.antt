@@ -42,8 +42,8 @@ returns-in_default c =
     sym (c.is_full_for_group.ensures asked) ∙ c.if-is_full_for_group.false in
     (inl (refl, group_refused s name (Group asked) false false here room), refl)
 
-pub push_group-requires-clause-may : goal.push_group-requires-clause-may
-push_group-requires-clause-may c =
+pub push-requires-clause-may : goal.push-requires-clause-may
+push-requires-clause-may c =
     let s = c.args.self.now in
     let name = c.as_slice.ensures in
     let description = c.as_slice-description.ensures in
@@ -57,8 +57,8 @@ push_group-requires-clause-may c =
       in_time = c.seconds-seconds.ensures.limit;
     })
 
-pub push_group-requires-clause-room : goal.push_group-requires-clause-room
-push_group-requires-clause-room c = sym (c.is_full_for_group.ensures c.in-Ok.asked) ∙ c.if-is_full_for_group.false
+pub push-requires-clause-room : goal.push-requires-clause-room
+push-requires-clause-room c = sym (c.is_full_for_group.ensures c.in-Ok.asked) ∙ c.if-is_full_for_group.false
 
 pub returns-in-Err : goal.returns-in-Err
 returns-in-Err c =
@@ -71,13 +71,13 @@ returns-in-Err c =
     sym (c.is_full_for_group.ensures asked) ∙ c.if-is_full_for_group.false in
     (inl (refl, group_refused s name (Group asked) false false here room), c.in-Err.ensures.err)
 
-pub returns-in-Ok-push_group : goal.returns-in-Ok-push_group
-returns-in-Ok-push_group c =
+pub returns-in-Ok-push : goal.returns-in-Ok-push
+returns-in-Ok-push c =
     let s = c.args.self.now in
-    let n = c.push_group.new.self in
+    let n = c.push.new.self in
     let name = c.args.group.now.name in
     let asked : NewGroup = group_of c.args.group.now in
-    let adds : Adds s n (Group asked) = subst (λ (g : NewGroup). Adds s n (Group g)) c.in-Ok.ensures c.in-Ok-push_group.ensures.ok in
+    let adds : Adds s n (Group asked) = subst (λ (g : NewGroup). Adds s n (Group g)) c.in-Ok.ensures c.in-Ok-push.ensures.ok in
     let here : is_here s.changes name ≡ false =
     ap (is_here s.changes) (sym c.as_slice.ensures.value) ∙ sym c.is_here.ensures ∙ c.if-is_here.false in
     let room : is_full s.blocks s.inodes s.changes (Some (Group asked)) ≡ false =

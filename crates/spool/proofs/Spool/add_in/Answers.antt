@@ -20,8 +20,8 @@ returns-then-is_full_for_article c =
     sym (c.is_full_for_article.ensures c.args.article.now) ∙ c.if-is_full_for_article.true in
     (inr (article_refused s its true full), refl)
 
-pub push_article-requires-clause-room : goal.push_article-requires-clause-room
-push_article-requires-clause-room c =
+pub push-requires-clause-room : goal.push-requires-clause-room
+push-requires-clause-room c =
     sym (c.is_full_for_article.ensures c.args.article.now) ∙ c.if-is_full_for_article.false
 
 pub returns-in-Err : goal.returns-in-Err
@@ -35,7 +35,7 @@ returns-in-Err c =
 pub returns-in-Ok : goal.returns-in-Ok
 returns-in-Ok c =
     let s = c.args.self.now in
-    let n = c.push_article.new.self in
+    let n = c.push.new.self in
     let its : Change = Article (record { text = c.args.article.now; envelope = c.args.envelope.now }) in
     let room : is_full s.blocks s.inodes s.changes (Some its) ≡ false =
     sym (c.is_full_for_article.ensures c.args.article.now) ∙ c.if-is_full_for_article.false in

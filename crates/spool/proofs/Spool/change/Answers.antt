@@ -12,7 +12,7 @@ pub change-requires-clause-room : goal.change-requires-clause-room
 change-requires-clause-room c =
     let s = c.self.inside in
     let kept = c.self.invariant.0 in
-    subst (λ (bs : List Octets). HasRoom s.inodes bs) (sym kept.seen) kept.is.room
+    subst (λ (bs : List Octets). HasRoom s.kept.inodes bs) (sym kept.seen) kept.is.room
 
 pub change-requires-clause-there : goal.change-requires-clause-there
 change-requires-clause-there c =
@@ -21,8 +21,8 @@ change-requires-clause-there c =
     record {
       host = s.host;
       changes = s.stands.changes;
-      held = subst (λ (bs : List Octets). Holds s.host s.inodes bs s.stands.changes) (sym kept.seen) kept.is.held;
-      placed = subst (λ (bs : List Octets). ArePlaces s.inodes bs s.stands.changes s.places) (sym kept.seen) kept.placed;
+      held = subst (λ (bs : List Octets). Holds s.host s.kept.inodes bs s.stands.changes) (sym kept.seen) kept.is.held;
+      placed = subst (λ (bs : List Octets). ArePlaces s.kept.inodes bs s.stands.changes s.kept.places) (sym kept.seen) kept.placed;
       from = c.requires.from;
       to = subst (λ (x : SpoolView). c.args.serial ≤ length x.changes) (sym c.self.view_is) c.requires.to;
     }
@@ -31,7 +31,7 @@ pub returns : goal.returns
 returns c =
     let s = c.self.inside in
     let kept = c.self.invariant.0 in
-    let held = subst (λ (bs : List Octets). Holds s.host s.inodes bs s.stands.changes) (sym kept.seen) kept.is.held in
+    let held = subst (λ (bs : List Octets). Holds s.host s.kept.inodes bs s.stands.changes) (sym kept.seen) kept.is.held in
     IfOk-weaker c.change.result _ _
     (λ change is. subst (λ (x : SpoolView). slice_get x.changes (c.args.serial - 1) ≡ Some change) c.self.view_is
     (is s.host s.stands.changes held))

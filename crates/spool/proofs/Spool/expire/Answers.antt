@@ -17,8 +17,8 @@ returns-then-lacks_room c =
     c.if-lacks_room.true in
     (inr (expiry_refused s c.args.name.now c.args.number true true there full), refl)
 
-pub push_expiry-requires-clause-room : goal.push_expiry-requires-clause-room
-push_expiry-requires-clause-room c =
+pub push-requires-clause-room : goal.push-requires-clause-room
+push-requires-clause-room c =
     let s = c.args.self.now in
     let expiry : Expiry = record { group = c.args.name.now; number = c.args.number } in
     full_expiry (free_blocks s.blocks - 0) (free_inodes s.inodes s.blocks - 0) s.changes expiry ∙ sym c.lacks_room.ensures ∙
@@ -44,5 +44,5 @@ returns-in-Ok c =
     full_expiry (free_blocks s.blocks - 0) (free_inodes s.inodes s.blocks - 0) s.changes expiry ∙ sym c.lacks_room.ensures ∙
     c.if-lacks_room.false in (
       expiry_refused s c.args.name.now c.args.number true false there room,
-      (last_serial s c.push_expiry.new.self (Expire expiry) c.len.result adds c.len.ensures, adds),
+      (last_serial s c.push.new.self (Expire expiry) c.len.result adds c.len.ensures, adds),
     )

@@ -17,7 +17,7 @@ returns-then-lacks_room c = λ text.
     let rest = list_any (one_large v.changes) c.args.envelope.now.groups in
     let count : c.len.result ≡ length v.blocks = subst (λ (x : SpoolView). c.len.result ≡ length x.blocks) c.self.view_is
     (c.len.ensures.count ∙ ap (λ (bs : List Octets). length bs) c.self.invariant.0.seen) in
-    let lacking = article_lacks v its c.len.result c.self.inside.inodes c.blocks_left-blocks.result c.inodes_left-inodes.result
+    let lacking = article_lacks v its c.len.result c.self.inside.kept.inodes c.blocks_left-blocks.result c.inodes_left-inodes.result
     c.lacks_room.result count (ap (λ (x : SpoolView). x.inodes) c.self.view_is) (c.blocks_left-blocks.ensures its)
     (c.inodes_left-inodes.ensures its) c.lacks_room.ensures in
     let full = full_article (blocks_for_change v.blocks (Article its)) (inodes_for_change v.blocks v.inodes (Article its)) v.changes its in
@@ -30,7 +30,7 @@ returns-else-lacks_room c = λ text.
     let rest = list_any (one_large v.changes) c.args.envelope.now.groups in
     let count : c.len.result ≡ length v.blocks = subst (λ (x : SpoolView). c.len.result ≡ length x.blocks) c.self.view_is
     (c.len.ensures.count ∙ ap (λ (bs : List Octets). length bs) c.self.invariant.0.seen) in
-    let lacking = article_lacks v its c.len.result c.self.inside.inodes c.blocks_left-blocks.result c.inodes_left-inodes.result
+    let lacking = article_lacks v its c.len.result c.self.inside.kept.inodes c.blocks_left-blocks.result c.inodes_left-inodes.result
     c.lacks_room.result count (ap (λ (x : SpoolView). x.inodes) c.self.view_is) (c.blocks_left-blocks.ensures its)
     (c.inodes_left-inodes.ensures its) c.lacks_room.ensures in
     let full = full_article (blocks_for_change v.blocks (Article its)) (inodes_for_change v.blocks v.inodes (Article its)) v.changes its in

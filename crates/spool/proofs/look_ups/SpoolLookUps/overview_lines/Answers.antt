@@ -7,8 +7,9 @@ use Rattle.spool.proofs.look_ups.SpoolLookUps.overview_lines.Goals as goal
 pub overview_lines-requires : goal.overview_lines-requires
 overview_lines-requires c =
     let s = c.self.inside in
+    let k = s.kept in
     record {
-      there = has_range s.host s.inodes s.volume s.index s.places s.stands.changes c.self.invariant.0 c.args.group.now c.args.from c.args.to
+      there = has_range s.host k.inodes k.volume k.index k.places s.stands.changes c.self.invariant.0 c.args.group.now c.args.from c.args.to
           (subst (λ (x : SpoolView). low x.changes c.args.group.now ≤ c.args.from) (sym c.self.view_is) c.requires.low)
           c.requires.order
           (subst (λ (x : SpoolView). c.args.to ≤ high x.changes c.args.group.now) (sym c.self.view_is) c.requires.high);

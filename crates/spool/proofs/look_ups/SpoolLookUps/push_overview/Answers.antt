@@ -8,7 +8,8 @@ use Rattle.spool.proofs.look_ups.SpoolLookUps.push_overview.Goals as goal
 pub push_overview-requires-clause-kept : goal.push_overview-requires-clause-kept
 push_overview-requires-clause-kept c =
     let s = c.self.inside in
-    keeps_article s.host s.inodes s.volume s.index s.places s.stands.changes c.self.invariant.0 c.args.serial
+    let k = s.kept in
+    keeps_article s.host k.inodes k.volume k.index k.places s.stands.changes c.self.invariant.0 c.args.serial
     (subst (λ (x : SpoolView). IsSome (article_with x.changes c.args.serial)) (sym c.self.view_is) c.requires)
 
 pub returns : goal.returns

@@ -7,5 +7,6 @@ use Rattle.spool.proofs.look_ups.SpoolSource.make_some.Goals as goal
 pub push_some_lines-requires-clause-kept : goal.push_some_lines-requires-clause-kept
 push_some_lines-requires-clause-kept c =
     let s = c.self.inside in
-    keeps_lines s.host s.inodes s.volume s.index s.places s.stands.changes c.self.invariant.0 c.args.lines
+    let k = s.kept in
+    keeps_lines s.host k.inodes k.volume k.index k.places s.stands.changes c.self.invariant.0 c.args.lines
     (subst (λ (x : SpoolView). HasLines x.changes c.args.lines) (sym c.self.view_is) c.requires.kept)
