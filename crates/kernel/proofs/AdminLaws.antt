@@ -1,6 +1,6 @@
 -- What `admin` and `expire` answer, from what the spool answers.
-use Rattle.std.proofs.Common.{◌≡◌, ◌⊎◌, inl, inr, ℕ, ◌+◌, ◌<◌, ◌≤◌, Bool, true, false, List, [], ◌∷◌, length, refl, ap, sym, ◌∙◌}
-use Rattle.std.specs.Prelude.{Ok, Option, Some, None, not, nat_le, nat_lt, if◌then◌else◌}
+use Rattle.std.proofs.Common.{◌≡◌, ◌⊎◌, inl, inr, ℕ, ◌+◌, ◌<◌, ◌≤◌, Bool, true, false, List, [], ◌∷◌, length, refl, ap, subst, sym, ◌∙◌}
+use Rattle.std.specs.Prelude.{Ok, Option, Some, None, not, nat_le, nat_lt, if◌then◌else◌, option_map}
 use Rattle.std.proofs.lemmas.Bool.{leb-false, ltb-false}
 use Rattle.model.specs.Stream.{Octets}
 use Rattle.model.specs.Spool.{is_here}
@@ -8,15 +8,26 @@ use Rattle.model.specs.declared.change.Change.{Change}
 use Rattle.model.specs.declared.change.Change.TheVariants.{Expire, Group}
 use Rattle.model.specs.declared.change.Expiry.{Expiry}
 use Rattle.model.specs.declared.change.NewGroup.{NewGroup}
-use Rattle.spool.specs.View.{SpoolView, Adds}
+use Rattle.spool.specs.View.{Adds, IsSpool, SpoolView}
 use Rattle.spool.specs.Refusals.{expiry_refusal, group_refusal, has_number, is_full_for}
+use Rattle.spool.specs.declared.errors.AddError.{AddError}
 use Rattle.spool.specs.declared.errors.AddError.TheVariants as add
+use Rattle.spool.specs.declared.errors.ExpireError.{ExpireError}
 use Rattle.spool.specs.declared.errors.ExpireError.TheVariants as expire
+use Rattle.spool_texts.specs.Parts.{HasLines}
+use Rattle.kernel_shared.specs.declared.errors.AdminError.TheVariants as admin
+use Rattle.kernel_shared.specs.declared.errors.ExpireError.TheVariants as expired
+use Rattle.kernel.specs.Errors.{of_admin, of_expire}
+use Rattle.kernel.specs.Kept.{IsKept}
 use Rattle.kernel.specs.Kernel.{most_dirty, Administers, Exists, Full, Halted, KernelView, LaterDirty, NotFound, Refusal, TooManySessions}
 use Rattle.kernel.specs.Kernel.{admin_refusal_of, early_refusal, expire_refusal_of, first_failing, join_refusal, only_tested}
+use Rattle.kernel.specs.Stored.{AreKept, kernel_of, seen_kernel}
+use Rattle.kernel.specs.declared.Kernel.TheInside.{Inside}
+use Rattle.kernel_seats.specs.Lined.{AllAreLined}
 use Rattle.kernel_seats.specs.Seats.{Seat}
-use Rattle.kernel.specs.Stored.{kernel_of}
-use Rattle.kernel.proofs.ExecLaws.{changed_dirties}
+use Rattle.kernel.proofs.ExecLaws.{changed_dirties, seen_in}
+use Rattle.kernel.proofs.KernelLaws.{kept_grown}
+use Rattle.kernel.proofs.Lined.{lined_grown, seen_grown}
 
 -- a call that only tests answers `Ok` where no test fails
 pub passed : {E : Type 0} (as_error : Refusal → E) (refusal : Option Refusal) (done : Unit {0}) → Ok done ≡ only_tested as_error refusal
@@ -33,15 +44,6 @@ few_seats k is = go k.halted refl (nat_le k.most (length k.seats)) refl
     go false halted true many = absurd (let some : Some TooManySessions ≡ None = rw (halted, many) at is in cc some)
     go false halted false many = leb-false k.most (length k.seats) many
 
--- an early test that fails is the first of all
-pub early_first : (k : KernelView) (c : Change) (r : Refusal) → early_refusal k ≡ Some r → admin_refusal_of k c ≡ Some r
-early_first k c r is = go k.halted refl (nat_lt (most_dirty (length k.blocks)) (length k.dirty)) refl
-  where
-    go : (h : Bool) → k.halted ≡ h → (b : Bool) → nat_lt (most_dirty (length k.blocks)) (length k.dirty) ≡ b → admin_refusal_of k c ≡ Some r
-    go true halted b late = rw halted (rw halted at is)
-    go false halted true late = rw (halted, late) (rw (halted, late) at is)
-    go false halted false late = absurd (let none : None ≡ Some r = rw (halted, late) at is in cc none)
-
 -- where no early test fails, the kernel is not halted, and few blocks are dirty
 pub early_none : (k : KernelView) → early_refusal k ≡ None → (k.halted ≡ false)
     × (nat_lt (most_dirty (length k.blocks)) (length k.dirty) ≡ false)
@@ -56,124 +58,114 @@ early_none k is = go k.halted refl (nat_lt (most_dirty (length k.blocks)) (lengt
 pub few_dirty : (k : KernelView) → early_refusal k ≡ None → length k.dirty ≤ most_dirty (length k.blocks)
 few_dirty k is = ltb-false (most_dirty (length k.blocks)) (length k.dirty) (early_none k is).1
 
-module _ (s : SpoolView) (d : ℕ) (f : Option ℕ) (h : Bool) (most j : ℕ) (seats : List Seat) (g : NewGroup)
-    (early : early_refusal (kernel_of s d f h most j seats) ≡ None) where
-  abbrev was : KernelView
-  was = kernel_of s d f h most j seats
+-- ---- a change of the operator's
 
-  abbrev c : Change
-  c = Group g
+-- what the spool tells of a change that it refuses
+abbrev Told : {E : Type 0} → E → Option E → E → Type 0
+Told memory refusal e = ((e ≡ memory) × (refusal ≡ None)) ⊎ (refusal ≡ Some e)
 
-  by_tests : (here full : Bool) → is_here s.changes g.name ≡ here → is_full_for s c ≡ full
-      → admin_refusal_of was c ≡ first_failing ((false, Halted) ∷ (false, LaterDirty) ∷ (here, Exists) ∷ (full, Full) ∷ [])
-  by_tests here full a b = λ i. first_failing
-      (((early_none was early).0 i, Halted) ∷ ((early_none was early).1 i, LaterDirty) ∷ (a i, Exists) ∷ (b i, Full) ∷ [])
+-- the spool's refusals as the kernel's; that memory is refused is told as one that no test of these calls gives
+abbrev pub of_add : AddError → Refusal
+of_add add.Exists = Exists
+of_add add.Full = Full
+of_add add.Memory = TooManySessions
 
-  pub exists_when : group_refusal s g.name c ≡ Some add.Exists → admin_refusal_of was c ≡ Some Exists
-  exists_when = go (is_here s.changes g.name) (is_full_for s c) refl refl
-    where
-      go : (here full : Bool) → is_here s.changes g.name ≡ here → is_full_for s c ≡ full
-          → (if here then Some add.Exists else if full then Some add.Full else None) ≡ Some add.Exists
-          → admin_refusal_of was c ≡ Some Exists
-      go true full a b is = by_tests true full a b
-      go false true a b is = absurd (cc is)
-      go false false a b is = absurd (cc is)
+abbrev pub of_expiry : ExpireError → Refusal
+of_expiry expire.NotFound = NotFound
+of_expiry expire.Full = Full
+of_expiry expire.Memory = TooManySessions
 
-  pub full_when : group_refusal s g.name c ≡ Some add.Full → admin_refusal_of was c ≡ Some Full
-  full_when = go (is_here s.changes g.name) (is_full_for s c) refl refl
-    where
-      go : (here full : Bool) → is_here s.changes g.name ≡ here → is_full_for s c ≡ full
-          → (if here then Some add.Exists else if full then Some add.Full else None) ≡ Some add.Full → admin_refusal_of was c ≡ Some Full
-      go true full a b is = absurd (cc is)
-      go false true a b is = by_tests false true a b
-      go false false a b is = absurd (cc is)
+refused_so : {E F : Type 0} (as_refusal : E → Refusal) (as_error : Refusal → F) (memory e : E) (refusal : Option E)
+    (failing : Option Refusal) → failing ≡ option_map as_refusal refusal → Told memory refusal e
+    → ((as_error (as_refusal e) ≡ as_error (as_refusal memory)) × (failing ≡ None))
+    ⊎ ((r : Refusal) × (failing ≡ Some r) × (as_error (as_refusal e) ≡ as_error r))
+refused_so as_refusal as_error memory e refusal failing is (inl none) =
+    inl (ap as_error (ap as_refusal none.0), is ∙ ap (option_map as_refusal) none.1)
+refused_so as_refusal as_error memory e refusal failing is (inr told) = inr (as_refusal e, is ∙ ap (option_map as_refusal) told, refl)
 
-  pub none_when : group_refusal s g.name c ≡ None → admin_refusal_of was c ≡ None
-  none_when = go (is_here s.changes g.name) (is_full_for s c) refl refl
-    where
-      go : (here full : Bool) → is_here s.changes g.name ≡ here → is_full_for s c ≡ full
-          → (if here then Some add.Exists else if full then Some add.Full else None) ≡ None → admin_refusal_of was c ≡ None
-      go true full a b is = absurd (cc is)
-      go false true a b is = absurd (cc is)
-      go false false a b is = by_tests false false a b
+-- the kernel as the code keeps it, with this spool
+abbrev pub with_spool : Inside → SpoolView → KernelView
+with_spool i s = seen_kernel s i.durable i.in_flight i.halted i.most i.joined i.seats.items
 
-module _ (s : SpoolView) (d : ℕ) (f : Option ℕ) (h : Bool) (most j : ℕ) (seats : List Seat) (c : Change) where
-  pub administers : (s' : SpoolView) (serial : ℕ) → serial ≡ length s.changes + 1 → Adds s s' c
-      → Administers (kernel_of s d f h most j seats) (kernel_of s' d f h most j seats) c serial
-  administers s' serial is adds =
+module _ (i : Inside) (old : KernelView) (v : with_spool i i.spool ≡ old) (early : early_refusal old ≡ None) where
+  early_at : early_refusal (with_spool i i.spool) ≡ None
+  early_at = ap early_refusal v ∙ early
+
+  -- the change is made
+  pub administers : (s : SpoolView) (c : Change) (serial : ℕ) → AllAreLined (HasLines i.spool.changes) i.seats.items
+      → serial ≡ length i.spool.changes + 1 → Adds i.spool s c → Administers old (with_spool i s) c serial
+  administers s c serial lined is adds =
+      let made : Administers (with_spool i i.spool) (kernel_of s i.durable i.in_flight i.halted i.most i.joined (seen_in i)) c serial =
       record {
         serial_is = is;
         spool = adds.changes;
-        blocks = changed_dirties s s' d f h most j seats seats adds.dirties;
+        blocks = changed_dirties i.spool s i.durable i.in_flight i.halted i.most i.joined (seen_in i) (seen_in i) adds.dirties;
         rest = (adds.host, adds.inodes, refl, refl, refl, refl, refl, refl);
+      } in
+      subst (λ (k : KernelView). Administers k (with_spool i s) c serial) v (subst (λ (seats : List Seat).
+      Administers (with_spool i i.spool) (kernel_of s i.durable i.in_flight i.halted i.most i.joined seats) c serial)
+      (sym (seen_grown i.spool s (Some c) i.seats.items adds lined)) made)
+
+  pub kept_made : (s : SpoolView) (c : Change) → AreKept i.spool i.durable i.in_flight i.halted i.most i.joined i.seats.items → IsSpool s
+      → Adds i.spool s c → AreKept s i.durable i.in_flight i.halted i.most i.joined i.seats.items
+  kept_made s c kept sound adds =
+      record {
+        seen = subst (λ (seats : List Seat). IsKept (kernel_of s i.durable i.in_flight i.halted i.most i.joined seats))
+            (sym (seen_grown i.spool s (Some c) i.seats.items adds kept.lined))
+            (kept_grown i.spool s i.durable i.in_flight i.halted i.most i.joined (seen_in i) (Some c)
+            (λ _. few_dirty (with_spool i i.spool) early_at) (λ _. sound) adds kept.seen);
+        lined = lined_grown i.spool s (Some c) i.seats.items adds kept.lined;
       }
 
-module _ (s : SpoolView) (d : ℕ) (f : Option ℕ) (h : Bool) (most j : ℕ) (seats : List Seat) (e : Expiry)
-    (early : early_refusal (kernel_of s d f h most j seats) ≡ None) where
-  by_expiry : (has full : Bool) → has_number s.changes e.group e.number ≡ has → is_full_for s (Expire e) ≡ full
-      → expire_refusal_of (kernel_of s d f h most j seats) (Expire e)
-      ≡ first_failing ((false, Halted) ∷ (false, LaterDirty) ∷ (not has, NotFound) ∷ (full, Full) ∷ [])
-  by_expiry has full a b =
-      let now = early_none (kernel_of s d f h most j seats) early in
-      λ i. first_failing ((now.0 i, Halted) ∷ (now.1 i, LaterDirty) ∷ (not (a i), NotFound) ∷ (b i, Full) ∷ [])
+  -- ---- a group
 
-  pub not_found_when : expiry_refusal s e.group e.number ≡ Some expire.NotFound
-      → expire_refusal_of (kernel_of s d f h most j seats) (Expire e) ≡ Some NotFound
-  not_found_when = go (has_number s.changes e.group e.number) (is_full_for s (Expire e)) refl refl
+  pub group_tests : (g : NewGroup) → admin_refusal_of old (Group g) ≡ option_map of_add (group_refusal i.spool g.name (Group g))
+  group_tests g =
+      let now = early_none (with_spool i i.spool) early_at in
+      ap (λ (k : KernelView). admin_refusal_of k (Group g)) (sym v)
+      ∙ ((λ j. first_failing ((now.0 j, Halted) ∷ (now.1 j, LaterDirty) ∷ (is_here i.spool.changes g.name, Exists)
+      ∷ (is_full_for i.spool (Group g), Full) ∷ [])) ∙ chosen (is_here i.spool.changes g.name) (is_full_for i.spool (Group g)))
     where
-      go : (has full : Bool) → has_number s.changes e.group e.number ≡ has → is_full_for s (Expire e) ≡ full
-          → (if has then (if full then Some expire.Full else None) else Some expire.NotFound) ≡ Some expire.NotFound
-          → expire_refusal_of (kernel_of s d f h most j seats) (Expire e) ≡ Some NotFound
-      go true true a b is = absurd (cc is)
-      go true false a b is = absurd (cc is)
-      go false full a b is = by_expiry false full a b
+      chosen : (here full : Bool) → first_failing ((false, Halted) ∷ (false, LaterDirty) ∷ (here, Exists) ∷ (full, Full) ∷ [])
+          ≡ option_map of_add (if here then Some add.Exists else if full then Some add.Full else None)
+      chosen true full = refl
+      chosen false true = refl
+      chosen false false = refl
 
-  pub no_room_when : expiry_refusal s e.group e.number ≡ Some expire.Full
-      → expire_refusal_of (kernel_of s d f h most j seats) (Expire e) ≡ Some Full
-  no_room_when = go (has_number s.changes e.group e.number) (is_full_for s (Expire e)) refl refl
+  pub group_refused : (s : SpoolView) (g : NewGroup) (e told : AddError) → e ≡ told
+      → Told add.Memory (group_refusal i.spool g.name (Group g)) e × (s ≡ i.spool)
+      → (((of_admin (of_add told) ≡ admin.Memory) × (admin_refusal_of old (Group g) ≡ None))
+      ⊎ ((r : Refusal) × (admin_refusal_of old (Group g) ≡ Some r) × (of_admin (of_add told) ≡ of_admin r))) × (with_spool i s ≡ old)
+  group_refused s g e told is said = (
+    refused_so of_add of_admin add.Memory told (group_refusal i.spool g.name (Group g)) (admin_refusal_of old (Group g)) (group_tests g)
+        (subst (λ (x : AddError). Told add.Memory (group_refusal i.spool g.name (Group g)) x) is said.0),
+    ap (with_spool i) said.1 ∙ v,
+  )
+
+  -- ---- an expiry
+
+  pub expiry_tests : (x : Expiry) → expire_refusal_of old (Expire x) ≡ option_map of_expiry (expiry_refusal i.spool x.group x.number)
+  expiry_tests x =
+      let now = early_none (with_spool i i.spool) early_at in
+      ap (λ (k : KernelView). expire_refusal_of k (Expire x)) (sym v)
+      ∙ ((λ j. first_failing ((now.0 j, Halted) ∷ (now.1 j, LaterDirty) ∷ (not (has_number i.spool.changes x.group x.number), NotFound)
+      ∷ (is_full_for i.spool (Expire x), Full) ∷ []))
+      ∙ chosen (has_number i.spool.changes x.group x.number) (is_full_for i.spool (Expire x)))
     where
-      go : (has full : Bool) → has_number s.changes e.group e.number ≡ has → is_full_for s (Expire e) ≡ full
-          → (if has then (if full then Some expire.Full else None) else Some expire.NotFound) ≡ Some expire.Full
-          → expire_refusal_of (kernel_of s d f h most j seats) (Expire e) ≡ Some Full
-      go true true a b is = by_expiry true true a b
-      go true false a b is = absurd (cc is)
-      go false full a b is = absurd (cc is)
+      chosen : (has full : Bool) → first_failing ((false, Halted) ∷ (false, LaterDirty) ∷ (not has, NotFound) ∷ (full, Full) ∷ [])
+          ≡ option_map of_expiry (if has then (if full then Some expire.Full else None) else Some expire.NotFound)
+      chosen true true = refl
+      chosen true false = refl
+      chosen false full = refl
 
-  pub expires_when : expiry_refusal s e.group e.number ≡ None → expire_refusal_of (kernel_of s d f h most j seats) (Expire e) ≡ None
-  expires_when = go (has_number s.changes e.group e.number) (is_full_for s (Expire e)) refl refl
-    where
-      go : (has full : Bool) → has_number s.changes e.group e.number ≡ has → is_full_for s (Expire e) ≡ full
-          → (if has then (if full then Some expire.Full else None) else Some expire.NotFound) ≡ None
-          → expire_refusal_of (kernel_of s d f h most j seats) (Expire e) ≡ None
-      go true true a b is = absurd (cc is)
-      go true false a b is = by_expiry true false a b
-      go false full a b is = absurd (cc is)
-
--- the refusal of a change that was refused for no want of memory
-pub said : {E : Type 0} (memory e r : E) (refusal : Option E) → e ≡ r → (r ≡ memory → ⊥)
-    → ((e ≡ memory) × (refusal ≡ None)) ⊎ (refusal ≡ Some e) → refusal ≡ Some r
-said memory e r refusal is other (inl none) = absurd (other (sym is ∙ none.0))
-said memory e r refusal is other (inr told) = told ∙ ap Some is
-
--- no test of a change that was refused for want of memory fails
-pub unsaid : {E : Type 0} (memory e : E) (refusal : Option E) → e ≡ memory → (refusal ≡ Some memory → ⊥)
-    → ((e ≡ memory) × (refusal ≡ None)) ⊎ (refusal ≡ Some e) → refusal ≡ None
-unsaid memory e refusal is never (inl none) = none.1
-unsaid memory e refusal is never (inr told) = absurd (never (told ∙ ap Some is))
-
-pub no_group_memory : (s : SpoolView) (name : Octets) (c : Change) → group_refusal s name c ≡ Some add.Memory → ⊥
-no_group_memory s name c = go (is_here s.changes name) (is_full_for s c)
-  where
-    go : (here full : Bool) → (if here then Some add.Exists else if full then Some add.Full else None) ≡ Some add.Memory → ⊥
-    go true full is = cc is
-    go false true is = cc is
-    go false false is = cc is
-
-pub no_expiry_memory : (s : SpoolView) (group : Octets) (number : ℕ) → expiry_refusal s group number ≡ Some expire.Memory → ⊥
-no_expiry_memory s group number =
-    go (has_number s.changes group number) (is_full_for s (Expire (record { group = group; number = number })))
-  where
-    go : (has full : Bool) → (if has then (if full then Some expire.Full else None) else Some expire.NotFound) ≡ Some expire.Memory → ⊥
-    go true true is = cc is
-    go true false is = cc is
-    go false full is = cc is
+  pub expiry_refused : (s : SpoolView) (x : Expiry) (group : Octets) (e told : ExpireError) → e ≡ told → group ≡ x.group
+      → Told expire.Memory (expiry_refusal i.spool group x.number) e × (s ≡ i.spool)
+      → (((of_expire (of_expiry told) ≡ expired.Memory) × (expire_refusal_of old (Expire x) ≡ None))
+      ⊎ ((r : Refusal) × (expire_refusal_of old (Expire x) ≡ Some r) × (of_expire (of_expiry told) ≡ of_expire r)))
+      × (with_spool i s ≡ old)
+  expiry_refused s x group e told is same said = (
+    refused_so of_expiry of_expire expire.Memory told (expiry_refusal i.spool x.group x.number) (expire_refusal_of old (Expire x))
+        (expiry_tests x) (subst (λ (t : Octets × ExpireError). Told expire.Memory (expiry_refusal i.spool t.0 x.number) t.1)
+        (λ j. (same j, is j)) said.0),
+    ap (with_spool i) said.1 ∙ v,
+  )
