@@ -24,15 +24,16 @@ use Rattle.model.specs.declared.session.Session.{Session}
 use Rattle.synchrony.specs.Dependency.{Account}
 use Rattle.synchrony.specs.Service.{Answer}
 use Rattle.synchrony.specs.Progress.{HasMore, with_more}
-use Rattle.synchrony.specs.Server.{Connection, updated}
+use Rattle.synchrony.specs.Server.{Connection, Entry, updated}
 use Rattle.synchrony.proofs.Fronts.{same_functions}
 use Rattle.synchrony.proofs.GoingOn.{account_served}
 use Rattle.kernel_trace.specs.Events.{arrives, given_within, joins, leaves, opens, releases, releases_of, with_kernel, DidExec, Makes}
 use Rattle.kernel_trace.specs.Events.{Serves}
-use Rattle.kernel_trace.specs.Fields.{AreKnown, Becomes, InputsStand, IsSound, given_in}
+use Rattle.kernel_trace.specs.Fields.{AreKnown, Becomes, InputsStand, IsSound, given_in, seen, sents}
 use Rattle.kernel_trace.specs.Input.{Found, HoldsMessage, MayAsk, Waits}
 use Rattle.kernel_trace.specs.Traced.{IsPresent, IsServed, IsSession, IsThere, IsUnknown, TracedView, account, arrived_at, nobody, sent_at}
-use Rattle.kernel_trace.specs.Traced.{first_spool, next_of, numbered, session_at, with_numbered}
+use Rattle.kernel_trace.specs.Traced.{Sent, first_spool, next_of, numbered, session_at, with_numbered}
+use Rattle.kernel_trace.specs.declared.TracedKernel.TheInside.{Inside}
 use Rattle.kernel_trace.specs.declared.input.Input.{Input}
 use Rattle.kernel_trace.proofs.Events.{account_in, IsServed-arrives, IsServed-joins, IsServed-kernel, IsServed-leaves, IsServed-makes}
 use Rattle.kernel_trace.proofs.Events.{IsServed-gives, IsServed-serves, gives, more_at}
@@ -48,6 +49,14 @@ use Rattle.kernel_trace.proofs.Sessions.{ready_known, session_at-past}
 pub IsSound-along : {old new : TracedView} {inputs inputs' : List Input} → new ≡ old → inputs' ≡ inputs → IsSound old inputs
     → IsSound new inputs'
 IsSound-along a b h = subst (λ (t : TracedView × List Input). IsSound t.0 t.1) (λ i. (sym a i, sym b i)) h
+
+-- the fields with these in place of what changes without a session being served
+abbrev pub with_fields : Inside → KernelView → List Sent → List (Entry Change Mark) → TracedView
+with_fields s kernel sessions trace = record { kernel = kernel; first = s.first; sessions = sessions; trace = trace; ready = s.ready }
+
+pub same_fields : (s : Inside) {kernel : KernelView} {sessions : List Sent} {trace : List (Entry Change Mark)} → kernel ≡ s.kernel
+    → sessions ≡ sents s.peers.items → trace ≡ s.trace.items → with_fields s kernel sessions trace ≡ seen s
+same_fields s a b c = λ i. with_fields s (a i) (b i) (c i)
 
 -- ---- inputs by their numbers
 
@@ -235,26 +244,37 @@ input_may served inputs number mode is h input at =
 
 -- ---- a message is looked for
 
-pub sound_found : (served : TracedView) (inputs inputs' : List Input) (number : ℕ) (mode : Mode) (b : Bool)
-    → mode_at served.kernel number ≡ Some mode → IsSound served inputs
+-- a session awaits a message, and its input was looked into: whether the message is there is known
+pub record Looked (served : TracedView) (inputs : List Input) (number : ℕ) (mode : Mode) (is_found : Bool) : Type 0 where
+  pub awaits : mode_at served.kernel number ≡ Some mode
+  pub sound : IsSound served inputs
+  pub input : Input
+  pub at : numbered inputs number ≡ Some input
+  pub found : Found is_found input mode ((account served).server.connections number).pending
+
+pub sound_found : (served : TracedView) (inputs inputs' : List Input) (number : ℕ) (mode : Mode) (b : Bool) → IsSound served inputs
+    → mode_at served.kernel number ≡ Some mode
     → Becomes inputs inputs' number (λ before after. (stream : List ℕ) → Waits before mode stream → Found b after mode stream)
-    → IsSound served inputs' × ((after : Input) × (numbered inputs' number ≡ Some after)
-    × Found b after mode ((account served).server.connections number).pending)
-sound_found served inputs inputs' number mode b is h becomes = (
-  record {
-    beside = h.beside;
-    many = ap length now.1 ∙ (length-with inputs number now.0 ∙ h.many);
-    stand = Inputs-along {old = connections} {new = connections} refl changed refl
-        (Inputs-updated connections connections (numbered inputs) (seat_of served.kernel) (seat_of served.kernel) number now.0
-        (λ k differs seat at. (seat, at, refl))
-        (λ seat other at awaits.
-        let same : mode ≡ other = cc (sym (connection_mode served number mode is h.beside) ∙ awaits) in
-        subst (λ m. Waits now.0 m (connections number).pending) same (Found-waits b now.0 mode (connections number).pending found))
-        h.stand);
-    marks = h.marks;
-  },
-  (now.0, ap (λ f. f number) changed ∙ updated-same (numbered inputs) number (Some now.0), found),
-)
+    → Looked served inputs' number mode b
+sound_found served inputs inputs' number mode b h is becomes =
+    record {
+      awaits = is;
+      sound = record {
+        beside = h.beside;
+        many = ap length now.1 ∙ (length-with inputs number now.0 ∙ h.many);
+        stand = Inputs-along {old = connections} {new = connections} refl changed refl
+            (Inputs-updated connections connections (numbered inputs) (seat_of served.kernel) (seat_of served.kernel) number now.0
+            (λ k differs seat at. (seat, at, refl))
+            (λ seat other at awaits.
+            let same : mode ≡ other = cc (sym (connection_mode served number mode is h.beside) ∙ awaits) in
+            subst (λ m. Waits now.0 m (connections number).pending) same (Found-waits b now.0 mode (connections number).pending found))
+            h.stand);
+        marks = h.marks;
+      };
+      input = now.0;
+      at = ap (λ f. f number) changed ∙ updated-same (numbered inputs) number (Some now.0);
+      found = found;
+    }
   where
     connections : ℕ → Connection Session
     connections = (account served).server.connections
@@ -544,7 +564,7 @@ did_serve served new number moment mode found outcome is is' none h =
     did_by served new number moment (Ok (Some outcome)) (Some mode) (Some found) is is' (none, (outcome, refl, h))
 
 -- the message that was found
-pub record FoundThere (served : TracedView) (inputs : List Input) (number : ℕ) (mode : Mode) (message : Message) : Type 0 where
+pub record FoundThere (served : TracedView) (inputs : List Input) (number : ℕ) (message : Message) : Type 0 where
   pub rest : Octets
   pub input : Input
   pub at : numbered inputs number ≡ Some input
@@ -552,32 +572,41 @@ pub record FoundThere (served : TracedView) (inputs : List Input) (number : ℕ)
   pub fits : FitsMode (mode_at served.kernel number) message
   pub waits : (m : Mode) → Waits (record { reader = input.reader; message = None }) m rest
 
-module _ (served : TracedView) (inputs : List Input) (number : ℕ) (mode : Mode) (b : Bool) (is : mode_at served.kernel number ≡ Some mode)
-    (h : IsServed served) (b_is : b ≡ true)
-    (f : (after : Input) × (numbered inputs number ≡ Some after)
-    × Found b after mode ((account served).server.connections number).pending) where
-  is_found : Found true f.0 mode ((account served).server.connections number).pending
-  is_found = subst (λ x. Found x f.0 mode ((account served).server.connections number).pending) b_is f.2
+module _ {served : TracedView} {inputs : List Input} {number : ℕ} {mode : Mode} {b : Bool} (l : Looked served inputs number mode b) where
+  abbrev pending : Octets
+  pending = ((account served).server.connections number).pending
 
-  pub found_message : (message : Message) → f.0.message ≡ Some message → FoundThere served inputs number mode message
-  found_message message at =
-      let holds : HoldsMessage f.0 mode ((account served).server.connections number).pending is_found.0 = is_found.2 in
-      let same : is_found.0 ≡ message = some_is (sym is_found.1 ∙ at) in
+  -- the session's place among the peers
+  pub within : number ≤ length inputs
+  within = let seat = mode_there served.kernel number mode l.awaits in (there_numbered served inputs number seat.0 seat.1 l.sound).1
+
+  pub found_none : b ≡ false → next_of served number ≡ None
+  found_none off =
+      next_by_mode served number mode l.awaits l.sound.beside ∙ (subst (λ x. Found x l.input mode pending) off l.found).0
+
+  is_found : b ≡ true → Found true l.input mode pending
+  is_found on = subst (λ x. Found x l.input mode pending) on l.found
+
+  pub found_message : (message : Message) → b ≡ true → l.input.message ≡ Some message → FoundThere served inputs number message
+  found_message message on at =
+      let found = is_found on in
+      let holds : HoldsMessage l.input mode pending found.0 = found.2 in
+      let same : found.0 ≡ message = some_is (sym found.1 ∙ at) in
       record {
         rest = holds.0;
-        input = f.0;
-        at = f.1;
-        next_is = next_by_mode served number mode is h ∙ (holds.1 ∙ ap (λ x. Some (x, holds.0)) same);
-        fits = subst (λ (t : Option Mode × Message). FitsMode t.0 t.1) (λ i. (sym is i, same i))
-            (next_fits mode ((account served).server.connections number).pending holds.0 is_found.0 holds.1);
-        waits = λ m. Waits-served f.0.reader is_found.0 mode m ((account served).server.connections number).pending holds;
+        input = l.input;
+        at = l.at;
+        next_is = next_by_mode served number mode l.awaits l.sound.beside ∙ (holds.1 ∙ ap (λ x. Some (x, holds.0)) same);
+        fits = subst (λ (t : Option Mode × Message). FitsMode t.0 t.1) (λ i. (sym l.awaits i, same i))
+            (next_fits mode pending holds.0 found.0 holds.1);
+        waits = λ m. Waits-served l.input.reader found.0 mode m pending holds;
       }
     where
       some_is : {x y : Message} → Some x ≡ Some y → x ≡ y
       some_is e = cc e
 
-  pub found_some : f.0.message ≡ None → ⊥
-  found_some none = absurd (let no : None ≡ Some is_found.0 = sym none ∙ is_found.1 in cc)
+  pub found_some : b ≡ true → l.input.message ≡ None → ⊥
+  found_some on none = absurd (let no : None ≡ Some (is_found on).0 = sym none ∙ (is_found on).1 in cc)
 
 pub look_some : {T : Type 0} (r : Option T) (x : T) (P : Type 0) (Q : T → Type 0) → r ≡ Some x → MatchOption r P Q → Q x
 look_some None x P Q is h = absurd (cc is)
