@@ -6,11 +6,12 @@ use Rattle.std.proofs.lemmas.Bool.{eqb-true, ltb-true}
 use Rattle.std.proofs.lemmas.Bool.Decides.{nat_tests}
 use Rattle.std.proofs.lemmas.List.{append-nil}
 use Rattle.std.proofs.Math.Seq.{drop-append_seam}
-use Rattle.kernel.specs.Kernel.{KernelView, seat_of}
+use Rattle.kernel.specs.Kernel.{KernelView, released_of, seat_of}
 use Rattle.kernel_outbox.specs.Queue.{Giving, HeldOutput, ReadyEntry, behind, cut_at, entry_of, give, nothing_more, octets_in}
 use Rattle.kernel_seats.specs.Seats.{Ready, Seat, ready_of}
-use Rattle.kernel_trace.specs.Events.{given_within, ready_within}
+use Rattle.kernel_trace.specs.Events.{given_within, ready_within, releases_of, with_released}
 use Rattle.kernel_trace.specs.Fields.{GivesOne}
+use Rattle.kernel_trace.specs.Traced.{Sent, TracedView}
 use Rattle.kernel_trace.proofs.Giving.{give_room}
 use Rattle.kernel_trace.proofs.Room.{drop_more}
 use Rattle.kernel_trace.proofs.Seats.{of_within}
@@ -123,20 +124,33 @@ gives_one p room seats (Some seat) le = (
 pub least : (room : ℕ) → min room 65536 ≤ 65536
 least room = grind (arith, nat_tests)
 
-pub given_in_room : (kernel : KernelView) (number room held : ℕ) (before : List ReadyEntry) → held ≡ 65536 - min room 65536
-    → octets_in before ≡ held
+given_in_room : (kernel : KernelView) (number room : ℕ) (before : List ReadyEntry) → octets_in before ≡ 65536 - min room 65536
     → ready_of kernel.durable before number kernel.seats ≡ given_within kernel (min room 65536) number
-given_in_room kernel number room held before is octets =
+given_in_room kernel number room before is =
     let few = least room in
-    let same : 65536 - octets_in before ≡ min room 65536 = omega (arith, few, is, octets) in
+    let same : 65536 - octets_in before ≡ min room 65536 = omega (arith, few, is) in
     of_within kernel.durable before kernel.seats (seat_of kernel number)
     ∙ ap (λ r. ready_within kernel.durable r kernel.seats (seat_of kernel number)) same
 
 -- the entries behind those that the buffer had
-pub given_behind : (kernel : KernelView) (number room held : ℕ) (before after : List ReadyEntry) → held ≡ 65536 - min room 65536
-    → octets_in before ≡ held → after ≡ before ++ (ready_of kernel.durable before number kernel.seats).entries
-    → drop (length before) after ≡ (given_within kernel (min room 65536) number).entries
-given_behind kernel number room held before after is octets gave =
-    ap (drop (length before)) gave
+pub given_behind : (kernel : KernelView) (number room place : ℕ) (before after : List ReadyEntry)
+    → octets_in before ≡ 65536 - min room 65536 → place ≡ length before
+    → after ≡ before ++ (ready_of kernel.durable before number kernel.seats).entries
+    → drop place after ≡ (given_within kernel (min room 65536) number).entries
+given_behind kernel number room place before after is at gave =
+    ap (λ n. drop n after) at
+    ∙ (ap (drop (length before)) gave
     ∙ (drop-append_seam before (ready_of kernel.durable before number kernel.seats).entries
-    ∙ ap (λ (r : Ready). r.entries) (given_in_room kernel number room held before is octets))
+    ∙ ap (λ (r : Ready). r.entries) (given_in_room kernel number room before is)))
+
+-- what is handed out, once it is filed
+pub releases_so : (s : TracedView) (number room : ℕ) (kernel : KernelView) (sessions made : List Sent) (before entries : List ReadyEntry)
+    → octets_in before ≡ 65536 - min room 65536 → kernel ≡ released_of s.kernel before number → sessions ≡ with_released made entries
+    → made ≡ s.sessions → entries ≡ (given_within s.kernel (min room 65536) number).entries
+    → record s { kernel = kernel; sessions = sessions; ready = entries } ≡ releases_of s number room
+releases_so s number room kernel sessions made before entries is kept filed same given =
+    λ i. record s {
+      kernel = (kept ∙ ap (λ (r : Ready). record s.kernel { seats = r.seats }) (given_in_room s.kernel number room before is)) i;
+      sessions = (filed ∙ (λ j. with_released (same j) (given j))) i;
+      ready = given i;
+    }
