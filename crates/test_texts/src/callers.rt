@@ -123,13 +123,16 @@ fn answer_proxied(
     let line = arguments.text()?;
     let named = read_proxy_line(line.as_str().as_bytes()).ok_or(RowError::Unreadable)?;
     let networks = read_networks(alloc, arguments)?;
-    let peer = match admit_proxied(networks.as_slice(), proxy, named) {
-        Ok(caller) => caller.peer(),
+    match admit_proxied(networks.as_slice(), proxy, named) {
+        Ok(caller) => answer_peer(alloc, caller.peer(), answer),
         Err(peer) => {
             answer.word("refused")?;
-            peer
+            answer_peer(alloc, peer, answer)
         }
-    };
+    }
+}
+
+fn answer_peer(alloc: Global, peer: SocketAddr, answer: &mut Answer) -> Result<(), RowError> {
     let shown = format!(in alloc; "{peer}")?;
     Ok(answer.word(shown.as_str())?)
 }
