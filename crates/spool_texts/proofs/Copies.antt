@@ -68,10 +68,10 @@ pub record Copies (inodes : ℕ) (blocks : List Octets) (S : Spool) (serial : �
   pub overview : HasOverview inodes blocks S places filed.group.name f.group
   pub kept : IsKept S filed.group.name (shown g)
 
-pub copies : (inodes : ℕ) (blocks : List Octets) → IsFileSystem inodes blocks → (S : Spool) (p : FilePlaces) (serial : ℕ) (f : Filed)
-    (places : List ℕ) (gs : List Group) (g : Group) → places ≡ p.overviews → map shown gs ≡ map (group_index S) (groups S)
-    → g ≡ get_or gs f.group g → ArePlaces inodes blocks S p → IsFiledAs S serial f → Copies inodes blocks S serial f places g
-copies inodes blocks rule S p serial f places gs g same shows at placed filed =
+pub copies : {inodes : ℕ} {blocks : List Octets} {S : Spool} {p : FilePlaces} {serial : ℕ} {f : Filed} {places : List ℕ} (gs : List Group)
+    (g : Group) → IsFileSystem inodes blocks → ArePlaces inodes blocks S p → IsFiledAs S serial f → places ≡ p.overviews
+    → map shown gs ≡ map (group_index S) (groups S) → g ≡ get_or gs f.group g → Copies inodes blocks S serial f places g
+copies {inodes} {blocks} {S} {p} {serial} {f} {places} gs g rule placed filed same shows at =
     let its : IsAt S filed.group.name f.group = record { group = filed.group; its_name = refl; at = filed.here } in
     record {
       filed = filed;
@@ -97,7 +97,7 @@ number_high S serial f gs g shows at filed =
       filed.first,
     )
 
-module _ (inodes : ℕ) (blocks : List Octets) (S : Spool) (serial : ℕ) (f : Filed) (places : List ℕ) (g : Group)
+module _ {inodes : ℕ} {blocks : List Octets} {S : Spool} {serial : ℕ} {f : Filed} {places : List ℕ} {g : Group}
     (r : Copies inodes blocks S serial f places g) where
   abbrev pub content : Octets
   content = content_of blocks (entry inodes blocks (get_or places f.group 0))

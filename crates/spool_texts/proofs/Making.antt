@@ -1,5 +1,6 @@
 -- Lines that are made later, from the overview of their group.
 use Rattle.std.proofs.Common.{
+  Some,
   ◌≡◌,
   ◌<◌,
   ◌≤◌,
@@ -22,6 +23,7 @@ use Rattle.std.proofs.Common.{
   arith,
   append_assoc,
 }
+use Rattle.std.specs.Prelude.{◌^◌, slice_get}
 use Rattle.std.proofs.Math.Path.{transport}
 use Rattle.std.proofs.lemmas.Bool.{cases_lt}
 use Rattle.std.proofs.lemmas.List.{length-append, length-map}
@@ -29,15 +31,18 @@ use Rattle.std.proofs.lemmas.Option.{slice_get_read, slice_get_within}
 use Rattle.model.specs.Files.{IsFileSystem, content_of, entry}
 use Rattle.session_lookups.specs.Held.{overviews_between}
 use Rattle.model.specs.Indexed.{ArePlaces, FilePlaces, GroupIndex, group_index, line_start}
+use Rattle.spool_groups.specs.Naming.{heads}
 use Rattle.model.specs.Spool.{Spool, filed_in, groups}
 use Rattle.model.specs.SpoolFiles.{overview_file}
+use Rattle.model.proofs.HoldsOne.{high_few}
 use Rattle.model.specs.Stream.{Octets, dot_line}
 use Rattle.spool_groups.specs.Shown.{shown}
 use Rattle.spool_groups.specs.declared.group.Group.{Group}
 use Rattle.kernel_outbox.specs.declared.made_lines.Lines.{Lines}
-use Rattle.spool_texts.specs.Parts.{HasLines, IsStored, LinesFit, lines_in, lines_of}
+use Rattle.spool_texts.specs.Parts.{HasLines, HasRange, IsStored, LinesFit, lines_in, lines_of}
+use Rattle.spool_index.specs.View.{IndexView}
 use Rattle.spool_texts.specs.Texts.{LinesRise, lines_from}
-use Rattle.spool_texts.proofs.Groups.{HasOverview, IsAt, IsKept, has_overview, is_kept, kept_rise}
+use Rattle.spool_texts.proofs.Groups.{HasOverview, IsAt, IsKept, has_overview, is_at, is_kept, kept_rise}
 use Rattle.spool_texts.proofs.LineSizes.{ends_within, lines_fit, lines_length, lines_small, lines_split, starts_rise}
 use Rattle.spool_texts.proofs.Lines.{between, group_ends, rising}
 
@@ -56,10 +61,10 @@ pub record Reads (inodes : ℕ) (blocks : List Octets) (S : Spool) (lines : Line
   pub overview : HasOverview inodes blocks S places has.group.name lines.group
   pub kept : IsKept S has.group.name (shown g)
 
-pub reads : (inodes : ℕ) (blocks : List Octets) → IsFileSystem inodes blocks → (S : Spool) (p : FilePlaces) (lines : Lines)
-    (places : List ℕ) (gs : List Group) (g : Group) → places ≡ p.overviews → map shown gs ≡ map (group_index S) (groups S)
-    → g ≡ get_or gs lines.group g → ArePlaces inodes blocks S p → HasLines S lines → Reads inodes blocks S lines places g
-reads inodes blocks rule S p lines places gs g same shows at placed has =
+pub reads : {inodes : ℕ} {blocks : List Octets} {S : Spool} {p : FilePlaces} {lines : Lines} {places : List ℕ} (gs : List Group) (g : Group)
+    → IsFileSystem inodes blocks → ArePlaces inodes blocks S p → HasLines S lines → places ≡ p.overviews
+    → map shown gs ≡ map (group_index S) (groups S) → g ≡ get_or gs lines.group g → Reads inodes blocks S lines places g
+reads {inodes} {blocks} {S} {p} {lines} {places} gs g rule placed has same shows at =
     let its : IsAt S has.group.name lines.group = record { group = has.group; its_name = refl; at = has.there } in
     record {
       has = has;
@@ -74,9 +79,9 @@ at_end next end octets high many few = elim (cases_lt next end) [
   | inr after ↦ omega (arith, high, after)
 ]
 
-module _ (inodes : ℕ) (blocks : List Octets) (S : Spool) (lines : Lines) (places : List ℕ) (g : Group)
+module _ {inodes : ℕ} {blocks : List Octets} {S : Spool} {lines : Lines} {places : List ℕ} {g : Group}
     (r : Reads inodes blocks S lines places g) where
-  abbrev pub content : Octets
+  abbrev content : Octets
   content = content_of blocks (entry inodes blocks (get_or places lines.group 0))
 
   pub within : lines.end ≤ length (shown g).filed + 1
@@ -90,7 +95,7 @@ module _ (inodes : ℕ) (blocks : List Octets) (S : Spool) (lines : Lines) (plac
       (lines_fit S r.has.group.name stored)
 
   -- those from a number on
-  pub are_made : (next octets : ℕ) → 1 ≤ next → next ≤ lines.end
+  are_made : (next octets : ℕ) → 1 ≤ next → next ≤ lines.end
       → lines_of S (record { group = lines.group; next = next; end = lines.end; octets = octets })
       ≡ lines_from content (shown g).ends (next - 1) (lines.end - next) ++ dot_line
   are_made next octets some low =
@@ -101,7 +106,7 @@ module _ (inodes : ℕ) (blocks : List Octets) (S : Spool) (lines : Lines) (plac
       (omega (arith, r.has.high)) r.overview.content_is r.kept.ends)
       ∙ ap (λ (n : ℕ). lines_from content (shown g).ends (next - 1) n) count)
 
-  pub all_made : lines_of S lines ≡ lines_from content (shown g).ends (lines.next - 1) (lines.end - lines.next) ++ dot_line
+  all_made : lines_of S lines ≡ lines_from content (shown g).ends (lines.next - 1) (lines.end - lines.next) ++ dot_line
   all_made = are_made lines.next lines.octets r.has.first r.has.order
 
   pub how_many : lines.octets ≡ length (lines_from content (shown g).ends (lines.next - 1) (lines.end - lines.next)) + 3
@@ -111,6 +116,15 @@ module _ (inodes : ℕ) (blocks : List Octets) (S : Spool) (lines : Lines) (plac
     ap (λ (l : Octets). length l) all_made,
     length-append (lines_from content (shown g).ends (lines.next - 1) (lines.end - lines.next)) dot_line,
   )
+
+  -- all of them are made
+  pub made_whole : (next : ℕ) (old new : Octets) → next ≡ lines.end
+      → new ≡ old ++ lines_from content (shown g).ends (lines.next - 1) (next - lines.next) → new ++ dot_line ≡ old ++ lines_of S lines
+  made_whole next old new end is =
+      ap (λ (l : Octets). l ++ dot_line)
+      (is ∙ ap (λ (n : ℕ). old ++ lines_from content (shown g).ends (lines.next - 1) (n - lines.next)) end)
+      ∙ append_assoc old (lines_from content (shown g).ends (lines.next - 1) (lines.end - lines.next)) dot_line
+      ∙ ap (λ (l : Octets). old ++ l) (sym all_made)
 
   -- some of them are made, and those from a number on are left
   pub some_made : (next octets : ℕ) (old new : Octets) → lines.next ≤ next → next ≤ lines.end
@@ -185,7 +199,8 @@ range_lines S name place from to octets its =
 pub record Sized (S : Spool) (name : Octets) (from to start stop : ℕ) : Type 0 where
   pub order : start ≤ stop
   pub size : length (overviews_between S name from to) + start ≡ stop + 2 * (to + 1 - from)
-  pub small : IsStored S → length (overviews_between S name from to) ≤ 8193 * (to + 1 - from)
+  -- with what ends each line and the block
+  pub few : IsStored S → stop - start + (to + 1 - from) * 2 + 3 < 2 ^ 64
 
 pub range_sized : (S : Spool) (name : Octets) (ends : List ℕ) (from to start stop : ℕ) → ends ≡ group_ends S name → 1 ≤ from → from ≤ to
     → to ≤ length (filed_in S name) → start ≡ line_start ends (from - 1) → stop ≡ get_or ends (to - 1) 0 → Sized S name from to start stop
@@ -202,18 +217,39 @@ range_sized S name ends from to start stop are some order high starts stops =
     let begin : start ≡ line_start its (from - 1) = starts ∙ ap (λ (l : List ℕ). line_start l (from - 1)) are in
     let last : stop ≡ line_start its (from - 1 + (to + 1 - from)) =
     stops ∙ ap (λ (l : List ℕ). get_or l (to - 1) 0) are ∙ ap (line_start its) (sym end) in
+    let ordered : start ≤ stop = omega (
+      arith,
+      begin,
+      last,
+      starts_rise content its (length (filed_in S name)) (rising S name) (ends_within S name) (from - 1) (to + 1 - from) fits,
+    ) in
+    let size : length (overviews_between S name from to) + start ≡ stop + 2 * (to + 1 - from) =
+    omega (arith, begin, last, all, ap (λ (l : Octets). length l) same) in
     record {
-      order = omega (
+      order = ordered;
+      size = size;
+      few = λ stored. omega (
         arith,
-        begin,
-        last,
-        starts_rise content its (length (filed_in S name)) (rising S name) (ends_within S name) (from - 1) (to + 1 - from) fits,
-      );
-      size = omega (arith, begin, last, all, ap (λ (l : Octets). length l) same);
-      small = λ stored. omega (
-        arith,
+        size,
         ap (λ (l : Octets). length l) same,
         lines_small content its (length (filed_in S name)) (rising S name) (ends_within S name) (lines_fit S name stored) (from - 1)
             (to + 1 - from) fits,
+        high_few S name,
+        stored.few,
+        high,
       );
     }
+
+module _ {x : IndexView} {name : Octets} {from to : ℕ} (there : HasRange x name from to) (place : ℕ) (gs : List Group) (g : Group)
+    (named : slice_get (heads x.groups) place ≡ Some name) (shows : map shown gs ≡ map (group_index there.changes) (groups there.changes))
+    (at : g ≡ get_or gs place g) where
+  kept : IsKept there.changes name (shown g)
+  kept = kept_at there.changes gs name place g (is_at there.changes x name place there.indexed named) shows at
+
+  pub range_within : to ≤ length (shown g).filed
+  range_within = omega (arith, kept.count, there.high)
+
+  pub range_there : (start stop : ℕ) → start ≡ line_start (shown g).ends (from - 1) → stop ≡ get_or (shown g).ends (to - 1) 0
+      → Sized there.changes name from to start stop
+  range_there start stop starts stops =
+      range_sized there.changes name (shown g).ends from to start stop kept.ends there.first there.order there.high starts stops

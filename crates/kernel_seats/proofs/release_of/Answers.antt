@@ -1,36 +1,14 @@
-use Rattle.std.proofs.Common.{
-  ◌≡◌,
-  ℕ,
-  ◌<◌,
-  ◌==◌,
-  ◌++◌,
-  List,
-  length,
-  set,
-  suc,
-  take,
-  drop,
-  append-nil,
-  ap,
-  refl,
-  sym,
-  subst,
-  ◌∙◌,
-  arith,
-  rules,
-}
-use Rattle.std.specs.Prelude.{Some, None, find, not, option_map, slice_get}
-use Rattle.std.proofs.lemmas.List.{drop-set-lt, length-map, map-set, take-set}
+use Rattle.std.proofs.Common.{◌≡◌, ℕ, ◌<◌, ◌==◌, ◌++◌, List, length, append-nil, ap, refl, sym, subst, ◌∙◌, rules}
+use Rattle.std.specs.Prelude.{Some, None, find, option_map, slice_get}
 use Rattle.std.proofs.lemmas.List.Elements.{All-set}
 use Rattle.std.proofs.lemmas.Option.{slice_get_within}
 use Rattle.model.specs.Stream.{Octets}
-use Rattle.kernel_outbox.specs.Lines.{output_of}
 use Rattle.kernel_outbox.specs.declared.made_lines.Lines.{Lines}
 use Rattle.kernel_seats.specs.Lined.{AllAreLined, LinedSeat, RiseAbove, SeatIsLined, all_seen, seen}
 use Rattle.kernel_seats.specs.Seats.{Seat, holds, ready_by}
 use Rattle.kernel_seats.proofs.Halving.{rise_kept}
-use Rattle.kernel_seats.proofs.One.{none_held, one_dropped, one_gives, one_written, some_held}
-use Rattle.kernel_seats.proofs.Seeing.{find_seen, lined_without, seen_at, seen_place, seen_without}
+use Rattle.kernel_seats.proofs.One.{dropped, none_held, one_dropped, one_gives, one_written, some_held}
+use Rattle.kernel_seats.proofs.Seeing.{find_seen, lined_without}
 use Rattle.kernel_seats.proofs.release_of.Goals as goal
 
 pub position-requires : goal.position-requires
@@ -57,11 +35,9 @@ remove-requires g c =
 
 pub give-ended-requires-clause-lined : goal.give-ended-requires-clause-lined
 give-ended-requires-clause-lined g c =
-    let seats : List LinedSeat = c.args.seats.now.items in
-    let found = subst (λ (xs : List LinedSeat). (s : LinedSeat) × (slice_get xs c.in-Some.place ≡ Some s) × (s.number ≡ c.args.sid))
-    c.deref.ensures.value c.in-Some.ensures.some in
     subst (SeatIsLined (g.S.Source.keeps c.args.source.now)) (sym c.index_mut-seat.ensures.value)
-    (c.requires.lined c.in-Some.place c.index_mut-seat.result.now (slice_get_within seats c.in-Some.place found.0 found.1))
+    (c.requires.lined c.in-Some.place c.index_mut-seat.result.now
+    (there c.deref.result.now c.args.seats.now.items c.in-Some.place c.args.sid c.deref.ensures.value c.in-Some.ensures.some))
 
 -- no session has this number
 none_seen : (made : Lines → Octets) (read seats : List LinedSeat) (sid : ℕ) → read ≡ seats
@@ -95,82 +71,44 @@ returns-in_default-clause-holds g c =
 
 pub returns-then-ended-clause-given : goal.returns-then-ended-clause-given
 returns-then-ended-clause-given g c =
-    let made = g.S.Source.octets_of c.args.source.now in
-    let seats = c.args.seats.now.items in
-    let seat = c.index_mut-seat.result.now in
-    let found = subst (λ (xs : List LinedSeat). (s : LinedSeat) × (slice_get xs c.in-Some.place ≡ Some s) × (s.number ≡ c.args.sid))
-    c.deref.ensures.value c.in-Some.ensures.some in
-    c.give-ended.ensures.entries
-    ∙ ap (λ entries. c.args.into.now ++ entries)
-    (one_gives c.args.durable c.args.into.now (all_seen made seats) c.in-Some.place c.args.sid (seen made seat) c.requires.rising
-    (seen_place made seats c.in-Some.place c.args.sid found) (sym (seen_at made seats c.in-Some.place seat c.index_mut-seat.ensures.value)))
+    c.give-ended.ensures.entries ∙ ap (λ entries. c.args.into.now ++ entries)
+    (one_gives (g.S.Source.octets_of c.args.source.now) c.args.durable c.args.into.now c.args.seats.now.items c.deref.result.now
+    c.in-Some.place c.args.sid c.index_mut-seat.result.now c.requires.rising c.deref.ensures.value c.in-Some.ensures.some
+    c.index_mut-seat.ensures.value)
 
 pub returns-then-ended-clause-kept : goal.returns-then-ended-clause-kept
 returns-then-ended-clause-kept g c =
-    let made = g.S.Source.octets_of c.args.source.now in
-    let seats : List LinedSeat = c.args.seats.now.items in
-    let seat = c.index_mut-seat.result.now in
-    let place = c.in-Some.place in
-    let found = subst (λ (xs : List LinedSeat). (s : LinedSeat) × (slice_get xs place ≡ Some s) × (s.number ≡ c.args.sid))
-    c.deref.ensures.value c.in-Some.ensures.some in
-    let left : c.remove.new.self.items ≡ take place seats ++ drop (suc place) seats =
-    c.remove.ensures.items ∙ (λ i. take-set seats place c.give-ended.new.self i ++ drop-set-lt
-    (suc place) seats place c.give-ended.new.self (omega arith) i) in
-    ap (all_seen made) left
-    ∙ seen_without made seats place
-    ∙ one_dropped c.args.durable c.args.into.now (all_seen made seats) place c.args.sid (seen made seat) c.requires.rising
-    (seen_place made seats place c.args.sid found) (sym (seen_at made seats place seat c.index_mut-seat.ensures.value))
+    let left = dropped c.args.seats.now.items c.remove.new.self.items c.in-Some.place c.give-ended.new.self c.remove.ensures.items in
+    one_dropped (g.S.Source.octets_of c.args.source.now) c.args.durable c.args.into.now c.args.seats.now.items c.deref.result.now
+    c.in-Some.place c.args.sid c.index_mut-seat.result.now c.requires.rising c.deref.ensures.value c.in-Some.ensures.some
+    c.index_mut-seat.ensures.value c.remove.new.self.items left
     (sym c.give-ended.ensures.ended ∙ c.if-ended.true)
 
 pub returns-then-ended-clause-lined : goal.returns-then-ended-clause-lined
 returns-then-ended-clause-lined g c =
-    let keeps = g.S.Source.keeps c.args.source.now in
-    let seats : List LinedSeat = c.args.seats.now.items in
-    let place = c.in-Some.place in
-    let left : c.remove.new.self.items ≡ take place seats ++ drop (suc place) seats =
-    c.remove.ensures.items ∙ (λ i. take-set seats place c.give-ended.new.self i ++ drop-set-lt
-    (suc place) seats place c.give-ended.new.self (omega arith) i) in
-    subst (AllAreLined keeps) (sym left) (lined_without keeps seats place c.requires.lined)
+    let left = dropped c.args.seats.now.items c.remove.new.self.items c.in-Some.place c.give-ended.new.self c.remove.ensures.items in
+    subst (AllAreLined (g.S.Source.keeps c.args.source.now)) (sym left)
+    (lined_without (g.S.Source.keeps c.args.source.now) c.args.seats.now.items c.in-Some.place c.requires.lined)
 
 pub returns-then-ended-clause-holds : goal.returns-then-ended-clause-holds
 returns-then-ended-clause-holds g c =
-    let made = g.S.Source.octets_of c.args.source.now in
-    let seats : List LinedSeat = c.args.seats.now.items in
-    let seat = c.index_mut-seat.result.now in
-    let place = c.in-Some.place in
-    let found = subst (λ (xs : List LinedSeat). (s : LinedSeat) × (slice_get xs place ≡ Some s) × (s.number ≡ c.args.sid))
-    c.deref.ensures.value c.in-Some.ensures.some in
-    let left : c.remove.new.self.items ≡ take place seats ++ drop (suc place) seats =
-    c.remove.ensures.items ∙ (λ i. take-set seats place c.give-ended.new.self i ++ drop-set-lt
-    (suc place) seats place c.give-ended.new.self (omega arith) i) in
-    none_held c.args.durable c.args.into.now (all_seen made seats) place c.args.sid (seen made seat) c.requires.rising
-    (seen_place made seats place c.args.sid found) (sym (seen_at made seats place seat c.index_mut-seat.ensures.value))
-    ∙ ap (λ xs. holds (find (λ (s : Seat). s.number == c.args.sid) xs)) (sym (ap (all_seen made) left ∙ seen_without made seats place))
+    let left = dropped c.args.seats.now.items c.remove.new.self.items c.in-Some.place c.give-ended.new.self c.remove.ensures.items in
+    none_held (g.S.Source.octets_of c.args.source.now) c.args.durable c.args.into.now c.args.seats.now.items c.deref.result.now
+    c.in-Some.place c.args.sid c.index_mut-seat.result.now c.requires.rising c.deref.ensures.value c.in-Some.ensures.some
+    c.index_mut-seat.ensures.value c.remove.new.self.items left
 
 pub returns-clause-given : goal.returns-clause-given
 returns-clause-given g c =
-    let made = g.S.Source.octets_of c.args.source.now in
-    let seats = c.args.seats.now.items in
-    let seat = c.index_mut-seat.result.now in
-    let found = subst (λ (xs : List LinedSeat). (s : LinedSeat) × (slice_get xs c.in-Some.place ≡ Some s) × (s.number ≡ c.args.sid))
-    c.deref.ensures.value c.in-Some.ensures.some in
-    c.give-ended.ensures.entries
-    ∙ ap (λ entries. c.args.into.now ++ entries)
-    (one_gives c.args.durable c.args.into.now (all_seen made seats) c.in-Some.place c.args.sid (seen made seat) c.requires.rising
-    (seen_place made seats c.in-Some.place c.args.sid found) (sym (seen_at made seats c.in-Some.place seat c.index_mut-seat.ensures.value)))
+    c.give-ended.ensures.entries ∙ ap (λ entries. c.args.into.now ++ entries)
+    (one_gives (g.S.Source.octets_of c.args.source.now) c.args.durable c.args.into.now c.args.seats.now.items c.deref.result.now
+    c.in-Some.place c.args.sid c.index_mut-seat.result.now c.requires.rising c.deref.ensures.value c.in-Some.ensures.some
+    c.index_mut-seat.ensures.value)
 
 pub returns-clause-kept : goal.returns-clause-kept
 returns-clause-kept g c =
-    let made = g.S.Source.octets_of c.args.source.now in
-    let seats : List LinedSeat = c.args.seats.now.items in
-    let seat = c.index_mut-seat.result.now in
-    let place = c.in-Some.place in
-    let found = subst (λ (xs : List LinedSeat). (s : LinedSeat) × (slice_get xs place ≡ Some s) × (s.number ≡ c.args.sid))
-    c.deref.ensures.value c.in-Some.ensures.some in
-    map-set (seen made) seats place c.give-ended.new.self
-    ∙ ap (set (all_seen made seats) place) c.give-ended.ensures.seat
-    ∙ one_written c.args.durable c.args.into.now (all_seen made seats) place c.args.sid (seen made seat) c.requires.rising
-    (seen_place made seats place c.args.sid found) (sym (seen_at made seats place seat c.index_mut-seat.ensures.value))
+    one_written (g.S.Source.octets_of c.args.source.now) c.args.durable c.args.into.now c.args.seats.now.items c.deref.result.now
+    c.in-Some.place c.args.sid c.index_mut-seat.result.now c.requires.rising c.deref.ensures.value c.in-Some.ensures.some
+    c.index_mut-seat.ensures.value c.give-ended.new.self c.give-ended.ensures.seat
     (sym c.give-ended.ensures.ended ∙ c.if-ended.false)
 
 pub returns-clause-lined : goal.returns-clause-lined
@@ -180,17 +118,7 @@ returns-clause-lined g c =
 
 pub returns-clause-holds : goal.returns-clause-holds
 returns-clause-holds g c =
-    let made = g.S.Source.octets_of c.args.source.now in
-    let seats : List LinedSeat = c.args.seats.now.items in
-    let seat = c.index_mut-seat.result.now in
-    let place = c.in-Some.place in
-    let after : LinedSeat = c.give-ended.new.self in
-    let found = subst (λ (xs : List LinedSeat). (s : LinedSeat) × (slice_get xs place ≡ Some s) × (s.number ≡ c.args.sid))
-    c.deref.ensures.value c.in-Some.ensures.some in
     c.holds-holds.ensures
-    ∙ ap (λ (n : ℕ). not (n == 0)) (sym (length-map after.held (output_of made)))
-    ∙ ap (λ (s : Seat). not (length s.held == 0)) c.give-ended.ensures.seat
-    ∙ some_held c.args.durable c.args.into.now (all_seen made seats) place c.args.sid (seen made seat) c.requires.rising
-    (seen_place made seats place c.args.sid found) (sym (seen_at made seats place seat c.index_mut-seat.ensures.value))
-    ∙ ap (λ ss. holds (find (λ (s : Seat). s.number == c.args.sid) ss))
-    (sym (map-set (seen made) seats place after ∙ ap (set (all_seen made seats) place) c.give-ended.ensures.seat))
+    ∙ some_held (g.S.Source.octets_of c.args.source.now) c.args.durable c.args.into.now c.args.seats.now.items c.deref.result.now
+    c.in-Some.place c.args.sid c.index_mut-seat.result.now c.requires.rising c.deref.ensures.value c.in-Some.ensures.some
+    c.index_mut-seat.ensures.value c.give-ended.new.self c.give-ended.ensures.seat

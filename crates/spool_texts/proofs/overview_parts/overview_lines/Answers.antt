@@ -5,24 +5,22 @@ use Rattle.model.proofs.HoldsOne.{high_few}
 use Rattle.session_lookups.specs.Held.{overviews_between}
 use Rattle.spool_groups.specs.Shown.{shown}
 use Rattle.spool_texts.proofs.Groups.{is_at}
-use Rattle.spool_texts.proofs.Making.{kept_at, range_lines, range_sized}
+use Rattle.spool_texts.proofs.Making.{kept_at, range_lines, range_sized, range_there, range_within}
 use Rattle.spool_texts.proofs.overview_parts.overview_lines.Goals as goal
 
 pub line-start-requires-clause-here : goal.line-start-requires-clause-here
 line-start-requires-clause-here c =
     let there = c.requires.there in
-    let its = is_at there.changes c.args.index.now c.args.group.now c.in-Some.place there.indexed c.in-Some.ensures.there in
-    let kept = kept_at there.changes c.groups.result.now c.args.group.now c.in-Some.place c.index-groups-place.result its
+    let high = range_within there c.in-Some.place c.groups.result.now c.index-groups-place.result c.in-Some.ensures.there
     (c.groups.ensures.spool there.changes there.indexed) c.index-groups-place.is in
-    omega (arith, kept.count, there.order, there.high)
+    omega (arith, high, there.order)
 
 pub line-stop-requires-clause-here : goal.line-stop-requires-clause-here
 line-stop-requires-clause-here c =
     let there = c.requires.there in
-    let its = is_at there.changes c.args.index.now c.args.group.now c.in-Some.place there.indexed c.in-Some.ensures.there in
-    let kept = kept_at there.changes c.groups.result.now c.args.group.now c.in-Some.place c.index-groups-place.result its
+    let high = range_within there c.in-Some.place c.groups.result.now c.index-groups-place.result c.in-Some.ensures.there
     (c.groups.ensures.spool there.changes there.indexed) c.index-groups-place.is in
-    omega (arith, kept.count, there.high)
+    omega (arith, high)
 
 pub overflow_add-end : goal.overflow_add-end
 overflow_add-end c =
@@ -32,11 +30,8 @@ overflow_add-end c =
 pub overflow_sub-result : goal.overflow_sub-result
 overflow_sub-result c =
     let there = c.requires.there in
-    let its = is_at there.changes c.args.index.now c.args.group.now c.in-Some.place there.indexed c.in-Some.ensures.there in
-    let kept = kept_at there.changes c.groups.result.now c.args.group.now c.in-Some.place c.index-groups-place.result its
-    (c.groups.ensures.spool there.changes there.indexed) c.index-groups-place.is in
-    let sized = range_sized there.changes c.args.group.now (shown c.index-groups-place.result).ends c.args.from c.args.to
-    c.line-start.result.0 c.line-stop.result.1 kept.ends there.first there.order there.high c.line-start.ensures.from
+    let sized = range_there there c.in-Some.place c.groups.result.now c.index-groups-place.result c.in-Some.ensures.there
+    (c.groups.ensures.spool there.changes there.indexed) c.index-groups-place.is _ _ c.line-start.ensures.from
     c.line-stop.ensures.to in
     sized.order
 
@@ -48,56 +43,29 @@ overflow_mul-result c =
 pub overflow_add-result : goal.overflow_add-result
 overflow_add-result c =
     let there = c.requires.there in
-    let its = is_at there.changes c.args.index.now c.args.group.now c.in-Some.place there.indexed c.in-Some.ensures.there in
-    let kept = kept_at there.changes c.groups.result.now c.args.group.now c.in-Some.place c.index-groups-place.result its
-    (c.groups.ensures.spool there.changes there.indexed) c.index-groups-place.is in
-    let sized = range_sized there.changes c.args.group.now (shown c.index-groups-place.result).ends c.args.from c.args.to
-    c.line-start.result.0 c.line-stop.result.1 kept.ends there.first there.order there.high c.line-start.ensures.from
+    let sized = range_there there c.in-Some.place c.groups.result.now c.index-groups-place.result c.in-Some.ensures.there
+    (c.groups.ensures.spool there.changes there.indexed) c.index-groups-place.is _ _ c.line-start.ensures.from
     c.line-stop.ensures.to in
-    omega (
-      arith,
-      sized.order,
-      sized.size,
-      sized.small there.stored,
-      high_few there.changes c.args.group.now,
-      there.stored.few,
-      there.high,
-      there.order,
-      there.first,
-    )
+    omega (arith, sized.few there.stored)
 
 pub overflow_add-result-2 : goal.overflow_add-result-2
 overflow_add-result-2 c =
     let there = c.requires.there in
-    let its = is_at there.changes c.args.index.now c.args.group.now c.in-Some.place there.indexed c.in-Some.ensures.there in
-    let kept = kept_at there.changes c.groups.result.now c.args.group.now c.in-Some.place c.index-groups-place.result its
-    (c.groups.ensures.spool there.changes there.indexed) c.index-groups-place.is in
-    let sized = range_sized there.changes c.args.group.now (shown c.index-groups-place.result).ends c.args.from c.args.to
-    c.line-start.result.0 c.line-stop.result.1 kept.ends there.first there.order there.high c.line-start.ensures.from
+    let sized = range_there there c.in-Some.place c.groups.result.now c.index-groups-place.result c.in-Some.ensures.there
+    (c.groups.ensures.spool there.changes there.indexed) c.index-groups-place.is _ _ c.line-start.ensures.from
     c.line-stop.ensures.to in
-    omega (
-      arith,
-      sized.order,
-      sized.size,
-      sized.small there.stored,
-      high_few there.changes c.args.group.now,
-      there.stored.few,
-      there.high,
-      there.order,
-      there.first,
-    )
+    omega (arith, sized.few there.stored)
 
 pub returns-clause-has : goal.returns-clause-has
 returns-clause-has c =
     let there = c.requires.there in
-    let first = is_at there.changes c.args.index.now c.args.group.now c.in-Some.place there.indexed c.in-Some.ensures.there in
-    let count = (kept_at there.changes c.groups.result.now c.args.group.now c.in-Some.place c.index-groups-place.result first
-    (c.groups.ensures.spool there.changes there.indexed) c.index-groups-place.is).count in
+    let within = range_within there c.in-Some.place c.groups.result.now c.index-groups-place.result c.in-Some.ensures.there
+    (c.groups.ensures.spool there.changes there.indexed) c.index-groups-place.is in
     λ S indexed.
     let its = is_at S c.args.index.now c.args.group.now c.in-Some.place indexed c.in-Some.ensures.there in
     let kept = kept_at S c.groups.result.now c.args.group.now c.in-Some.place c.index-groups-place.result its
     (c.groups.ensures.spool S indexed) c.index-groups-place.is in
-    let high : c.args.to ≤ length (filed_in S c.args.group.now) = omega (arith, there.high, count, kept.count) in
+    let high : c.args.to ≤ length (filed_in S c.args.group.now) = omega (arith, within, kept.count) in
     let sized = range_sized S c.args.group.now (shown c.index-groups-place.result).ends c.args.from c.args.to c.line-start.result.0
     c.line-stop.result.1 kept.ends there.first there.order high c.line-start.ensures.from c.line-stop.ensures.to in
     let octets = c.line-stop.result.1 - c.line-start.result.0 + (c.args.to + 1 - c.args.from) * 2 + 3 in

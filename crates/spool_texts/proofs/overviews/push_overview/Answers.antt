@@ -12,50 +12,38 @@ line-start-requires-clause-here g c =
 
 pub offset_bounds-overviews-filed : goal.offset_bounds-overviews-filed
 offset_bounds-overviews-filed g c =
-    let blocks = g.B.Blocks.blocks c.args.blocks.now in
     let has = c.requires.kept.has in
-    let r = copies c.args.inodes blocks c.requires.rule has.changes c.args.places.now c.args.serial c.first_filing-filed.result
-    c.overviews.result.now c.groups.result.now c.index-groups-filed.result c.overviews.ensures
-    (c.groups.ensures.spool has.changes has.indexed) c.index-groups-filed.is c.requires.kept.placed
-    (c.first_filing-filed.ensures has.changes has.indexed) in
+    let r = copies c.groups.result.now c.index-groups-filed.result c.requires.rule c.requires.kept.placed
+    (c.first_filing-filed.ensures has.changes has.indexed) c.overviews.ensures (c.groups.ensures.spool has.changes has.indexed)
+    c.index-groups-filed.is in
     omega (arith, r.overview.low, c.overviews.type_inv.1)
 
 pub bounds-overviews-filed : goal.bounds-overviews-filed
 bounds-overviews-filed g c =
-    let blocks = g.B.Blocks.blocks c.args.blocks.now in
     let has = c.requires.kept.has in
-    let r = copies c.args.inodes blocks c.requires.rule has.changes c.args.places.now c.args.serial c.first_filing-filed.result
-    c.overviews.result.now c.groups.result.now c.index-groups-filed.result c.overviews.ensures
-    (c.groups.ensures.spool has.changes has.indexed) c.index-groups-filed.is c.requires.kept.placed
-    (c.first_filing-filed.ensures has.changes has.indexed) in
+    let r = copies c.groups.result.now c.index-groups-filed.result c.requires.rule c.requires.kept.placed
+    (c.first_filing-filed.ensures has.changes has.indexed) c.overviews.ensures (c.groups.ensures.spool has.changes has.indexed)
+    c.index-groups-filed.is in
     r.overview.low
 
 pub overflow_add-rest : goal.overflow_add-rest
 overflow_add-rest g c =
-    let blocks = g.B.Blocks.blocks c.args.blocks.now in
     let has = c.requires.kept.has in
-    let r = copies c.args.inodes blocks c.requires.rule has.changes c.args.places.now c.args.serial c.first_filing-filed.result
-    c.overviews.result.now c.groups.result.now c.index-groups-filed.result c.overviews.ensures
-    (c.groups.ensures.spool has.changes has.indexed) c.index-groups-filed.is c.requires.kept.placed
-    (c.first_filing-filed.ensures has.changes has.indexed) in
-    let its = copied c.args.inodes blocks has.changes c.args.serial c.first_filing-filed.result c.overviews.result.now
-    c.index-groups-filed.result r c.line-start.result.0 c.line-start.result.1 (c.line-start.result.0 + c.digit_count.result)
-    c.line-start.ensures.from c.line-start.ensures.to (ap (λ (n : ℕ). c.line-start.result.0 + n) c.digit_count.ensures.count)
-    has.stored in
+    let r = copies c.groups.result.now c.index-groups-filed.result c.requires.rule c.requires.kept.placed
+    (c.first_filing-filed.ensures has.changes has.indexed) c.overviews.ensures (c.groups.ensures.spool has.changes has.indexed)
+    c.index-groups-filed.is in
+    let its = copied r _ _ _ c.line-start.ensures.from c.line-start.ensures.to
+    (ap (λ (n : ℕ). c.line-start.result.0 + n) c.digit_count.ensures.count) has.stored in
     omega (arith, its.order)
 
 pub push_numbered-requires : goal.push_numbered-requires
 push_numbered-requires g c =
-    let blocks = g.B.Blocks.blocks c.args.blocks.now in
     let has = c.requires.kept.has in
-    let r = copies c.args.inodes blocks c.requires.rule has.changes c.args.places.now c.args.serial c.first_filing-filed.result
-    c.overviews.result.now c.groups.result.now c.index-groups-filed.result c.overviews.ensures
-    (c.groups.ensures.spool has.changes has.indexed) c.index-groups-filed.is c.requires.kept.placed
-    (c.first_filing-filed.ensures has.changes has.indexed) in
-    let its = copied c.args.inodes blocks has.changes c.args.serial c.first_filing-filed.result c.overviews.result.now
-    c.index-groups-filed.result r c.line-start.result.0 c.line-start.result.1 (c.line-start.result.0 + c.digit_count.result)
-    c.line-start.ensures.from c.line-start.ensures.to (ap (λ (n : ℕ). c.line-start.result.0 + n) c.digit_count.ensures.count)
-    has.stored in
+    let r = copies c.groups.result.now c.index-groups-filed.result c.requires.rule c.requires.kept.placed
+    (c.first_filing-filed.ensures has.changes has.indexed) c.overviews.ensures (c.groups.ensures.spool has.changes has.indexed)
+    c.index-groups-filed.is in
+    let its = copied r _ _ _ c.line-start.ensures.from c.line-start.ensures.to
+    (ap (λ (n : ℕ). c.line-start.result.0 + n) c.digit_count.ensures.count) has.stored in
     record {
       room = c.requires.room;
       rule = c.requires.rule;
@@ -68,13 +56,8 @@ push_numbered-requires g c =
 
 pub returns-clause-ok : goal.returns-clause-ok
 returns-clause-ok g c =
-    let blocks = g.B.Blocks.blocks c.args.blocks.now in
     on_ok_weaker c.push_numbered.result (λ is S indexed placed.
-    let r = copies c.args.inodes blocks c.requires.rule S c.args.places.now c.args.serial c.first_filing-filed.result
-    c.overviews.result.now c.groups.result.now c.index-groups-filed.result c.overviews.ensures (c.groups.ensures.spool S indexed)
-    c.index-groups-filed.is placed (c.first_filing-filed.ensures S indexed) in
-    is ∙ ap (λ (l : Octets). c.args.reply.now.items ++ line l)
-    (renumbered c.args.inodes blocks S c.args.serial c.first_filing-filed.result c.overviews.result.now
-    c.index-groups-filed.result r c.line-start.result.0 c.line-start.result.1 (c.line-start.result.0 + c.digit_count.result)
-    c.line-start.ensures.from c.line-start.ensures.to (ap (λ (n : ℕ). c.line-start.result.0 + n) c.digit_count.ensures.count)
-    c.args.number)) c.push_numbered.ensures.ok
+    let r = copies c.groups.result.now c.index-groups-filed.result c.requires.rule placed (c.first_filing-filed.ensures S indexed)
+    c.overviews.ensures (c.groups.ensures.spool S indexed) c.index-groups-filed.is in
+    is ∙ ap (λ (l : Octets). c.args.reply.now.items ++ line l) (renumbered r _ _ _ c.line-start.ensures.from c.line-start.ensures.to
+    (ap (λ (n : ℕ). c.line-start.result.0 + n) c.digit_count.ensures.count) c.args.number)) c.push_numbered.ensures.ok
