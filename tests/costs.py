@@ -28,6 +28,8 @@ BODIES = [
     ("matches!(a, Some(b) if b > 1); c()?", 1),
     ("fn b() { c()?; d()? } a()?", 1),
 ]
+# the most lines of a library's Rattle
+MOST_LINES = 1000
 FUNCTION = "fn a<T: ?Sized>(b: &T) -> Result<[u8; 4], E> where T: F\n    requires { b ≡ 0 }\n    ensures c { codes \"?\" ≡ d }\n{ %s }"
 
 
@@ -43,7 +45,21 @@ def fallible_calls_are_counted_along_a_path():
             yield "%s has %d, and %d are counted" % (body, calls, found)
 
 
-TESTS = [no_function_has_many_fallible_calls_in_a_row, fallible_calls_are_counted_along_a_path]
+def lines_of(folder):
+    paths = [os.path.join(at, it) for at, _, files in os.walk(folder) for it in files if it.endswith(".rt")]
+    return sum(len(open(it, encoding="utf-8").read().splitlines()) for it in paths)
+
+
+def no_library_has_more_lines_than_it_may():
+    """Tests may have more: their rows are data beside them, or stand in the code."""
+    crates = os.path.join(TOP, "crates")
+    for crate in sorted(it for it in os.listdir(crates) if not it.startswith(("test_", "bench_"))):
+        lines = lines_of(os.path.join(crates, crate, "src"))
+        if lines > MOST_LINES:
+            yield "%s has %d lines of Rattle" % (crate, lines)
+
+
+TESTS = [no_function_has_many_fallible_calls_in_a_row, fallible_calls_are_counted_along_a_path, no_library_has_more_lines_than_it_may]
 
 
 if __name__ == "__main__":

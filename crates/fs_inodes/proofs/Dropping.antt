@@ -32,6 +32,12 @@ use Rattle.fs_inodes.proofs.Owners.{Reowns, contained, names_kept, reowned_rule}
 use Rattle.fs_inodes.proofs.Replacing.{replaces}
 use Rattle.fs_inodes.proofs.Tables.{map_same_below}
 
+-- the file without its last block, and the blocks that change
+pub record DropsLast (inodes k last : ℕ) (old new : List Octets) : Type 0 where
+  pub shorter : ReplacesContent inodes k (take (4096 * last) (content_of old (entry inodes old k))) old new
+  pub none_taken : TakesNone old new
+  pub touches : TouchesInode k last (last + 1) old new
+
 module _ (inodes k last number : ℕ) (inode1 : Octets) (old mid later new : List Octets) (room : HasRoom inodes old)
     (fs : IsFileSystem inodes old) (low : k < inodes) (file : IsFile (entry inodes old k))
     (counted : last + 1 ≡ block_count (entry inodes old k)) (number_is : number ≡ pointer (entry inodes old k) last)
@@ -305,7 +311,7 @@ module _ (inodes k last number : ℕ) (inode1 : Octets) (old mid later new : Lis
       ∙ unmarks.other b (omega (arith, few, drop.count)) (λ is. lacks (subst (λ (n : ℕ). Contains gone n) (sym is) number_gone))
       ∙ drop.gives_up.other b few (λ naming. lacks (naming_gone b naming))
 
-  pub drops_takes_none : TakesNone old new
+  drops_takes_none : TakesNone old new
   drops_takes_none b few marked = elim (contained gone b) [
     | inl has ↦ absurd (false≢true (sym (gone_free b has) ∙ marked))
     | inr lacks ↦ sym (same_marks b few lacks) ∙ marked
@@ -389,7 +395,7 @@ module _ (inodes k last number : ℕ) (inode1 : Octets) (old mid later new : Lis
       (omega (arith, sized, counted)) (λ i below. same_block i (omega (arith, below, count_after)))
       ∙ ap (λ (g : FileEntry). content_of new g) (sym entry_is)
 
-  pub drops : ReplacesContent inodes k (take (4096 * last) (content_of old (entry inodes old k))) old new
+  drops : ReplacesContent inodes k (take (4096 * last) (content_of old (entry inodes old k))) old new
   drops = replaces inodes k inode touched old new room fs low file puts untouched_others file_now
       (take (4096 * last) (content_of old (entry inodes old k))) whole rule content_is
 
@@ -401,7 +407,7 @@ module _ (inodes k last number : ℕ) (inode1 : Octets) (old mid later new : Lis
   table_new : (p : ℕ) → table_of new k p ≡ indirect_pointer f p
   table_new p = ap (λ (g : FileEntry). indirect_pointer g p) entry_is ∙ table_after p
 
-  pub drops_touches : TouchesInode k last (last + 1) old new
+  drops_touches : TouchesInode k last (last + 1) old new
   drops_touches = record {
     count = count_new;
     same = λ b some other naming. elsewhere b some other
@@ -415,3 +421,6 @@ module _ (inodes k last number : ℕ) (inode1 : Octets) (old mid later new : Lis
       | inr past ↦ inr (table_new p ∙ drop.no_table p past)
     ];
   }
+
+  pub drops_last : DropsLast inodes k last old new
+  drops_last = record { shorter = drops; none_taken = drops_takes_none; touches = drops_touches }

@@ -404,7 +404,7 @@ module _ (inodes k n r number : ℕ) (piece block inode : Octets) (old mid new :
   size_was : length (content_of old (entry inodes old k)) ≡ size (entry inodes old k)
   size_was = content_size old (entry inodes old k) room.blocks_whole (λ b owns. (fs.within k b low owns).1)
 
-  pub grows : GrowsBy inodes k piece old new
+  grows : GrowsBy inodes k piece old new
   grows = record {
     count = count_is;
     name = name_in (slot_of inodes old k);
@@ -431,7 +431,7 @@ module _ (inodes k n r number : ℕ) (piece block inode : Octets) (old mid new :
   table_new : (p : ℕ) → table_of new k p ≡ indirect_pointer f p
   table_new p = ap (λ (g : FileEntry). indirect_pointer g p) entry_is ∙ table_after p
 
-  pub touches : TouchesData k (number ∷ []) (content_blocks (size (entry inodes old k)))
+  touches : TouchesData k (number ∷ []) (content_blocks (size (entry inodes old k)))
       (content_blocks (size (entry inodes old k) + length piece)) old new
   touches =
       let end : n + 1 ≡ content_blocks (size (entry inodes old k) + length piece) = omega (arith, sized, inside, some) in
@@ -446,3 +446,7 @@ module _ (inodes k n r number : ℕ) (piece block inode : Octets) (old mid new :
         double = elim ext.double_stays [ inl none ↦ inl none | inr stays ↦ inr (double_new ∙ stays) ];
         tables = λ p. elim (ext.tables_stay p) [ inl none ↦ inl none | inr stays ↦ inr (table_new p ∙ stays) ];
       }
+
+  pub grown : GrowsBy inodes k piece old new × TouchesData k (number ∷ []) (content_blocks (size (entry inodes old k)))
+      (content_blocks (size (entry inodes old k) + length piece)) old new
+  grown = (grows, touches)

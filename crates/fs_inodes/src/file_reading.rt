@@ -31,9 +31,9 @@ pub fn piece<B: Blocks>(blocks: &B, inodes: u32, at: u32, place: u64, count: u64
     &blocks.block(number)[within..within + some]
 }
 
-/// Appends the octets of the file of an inode from a place up to its size, at most `count`. If memory is refused, some
-/// of them may have been appended.
-pub fn read_into<B: Blocks>(
+// Appends the octets of the file of an inode from a place up to its size, at most `count`. If memory is refused, some
+// of them may have been appended.
+fn read_into<B: Blocks>(
     blocks: &B,
     inodes: u32,
     at: u32,

@@ -8,7 +8,7 @@ mod growing;
 mod pieces;
 mod shrinking;
 
-pub use file_reading::{piece, read_entry, read_into};
+pub use file_reading::{piece, read_entry};
 pub use file_room::has_room_for;
 pub use file_writing::overwrite;
 pub use fs_layout::inodes::size_of;

@@ -94,8 +94,8 @@ fn full_front(octets: &[u8], from: usize) -> usize
     from + steps * FULL.len()
 }
 
-/// The lowest clear bit among the first `count`. Each bit below `from` must be set.
-pub fn lowest_clear(octets: &[u8], from: usize, count: usize) -> Option<usize>
+// The lowest clear bit among the first `count`. Each bit below `from` must be set.
+pub(crate) fn lowest_clear(octets: &[u8], from: usize, count: usize) -> Option<usize>
     requires room { count ≤ 8 * length octets.now }
     requires few { length octets.now ≤ 4096 }
     requires within { from ≤ count }
@@ -114,8 +114,8 @@ pub fn lowest_clear(octets: &[u8], from: usize, count: usize) -> Option<usize>
     None
 }
 
-/// Clears a bit.
-pub fn unset(octets: &mut [u8], bit: usize)
+// Clears a bit.
+pub(crate) fn unset(octets: &mut [u8], bit: usize)
     requires { bit / 8 < length octets.old }
     ensures { SetsBit bit false octets.old octets.new }
 {

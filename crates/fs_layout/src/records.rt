@@ -12,8 +12,8 @@ use std::alloc::AllocError;
 /// The number of octets in a record.
 pub const RECORD_SIZE: usize = 64;
 
-/// Copies a record of those that begin at block `first`.
-pub fn get_record<B: Blocks>(blocks: &B, first: u32, at: u32, into: &mut [u8])
+// Copies a record of those that begin at block `first`.
+fn get_record<B: Blocks>(blocks: &B, first: u32, at: u32, into: &mut [u8])
     requires there { first + at / 64 < length (B.blocks blocks.now) }
     requires few { length (B.blocks blocks.now) ≤ most_blocks }
     requires whole { length into.old ≡ 64 }
@@ -24,9 +24,9 @@ pub fn get_record<B: Blocks>(blocks: &B, first: u32, at: u32, into: &mut [u8])
     into.copy_from_slice(&block[start..start + RECORD_SIZE]);
 }
 
-/// Replaces a record of those that begin at block `first`. Refused only for want of memory; then the caller must drop
-/// the stage.
-pub fn put_record<B: Blocks>(
+// Replaces a record of those that begin at block `first`. Refused only for want of memory; then the caller must drop
+// the stage.
+fn put_record<B: Blocks>(
     blocks: &mut B,
     first: u32,
     at: u32,

@@ -85,7 +85,7 @@ module _ (old : List ℕ) (number last : ℕ) (ns : List ℕ) (whole : length ol
   pub length-described : length described ≡ 4096
   length-described = length-overwritten 24 (flat_map (λ x. little_bytes 4 x) ns) fourth numbers_fit ∙ size4
 
-  pub described_number : number_at 0 8 described ≡ number
+  described_number : number_at 0 8 described ≡ number
   described_number =
       number_at_apart 24 (flat_map (λ x. little_bytes 4 x) ns) fourth numbers_fit 0 8 (inl (omega arith))
       ∙ number_at_apart 20 (little_bytes 4 0) third (omega (arith, size3)) 0 8 (inl (omega arith))
@@ -93,7 +93,7 @@ module _ (old : List ℕ) (number last : ℕ) (ns : List ℕ) (whole : length ol
       ∙ number_at_apart 8 (little_bytes 8 last) first (omega (arith, size1)) 0 8 (inl (omega arith))
       ∙ number_at_written 0 8 number old (omega arith) small_number
 
-  pub described_last : number_at 8 8 described ≡ last
+  described_last : number_at 8 8 described ≡ last
   described_last =
       number_at_apart 24 (flat_map (λ x. little_bytes 4 x) ns) fourth numbers_fit 8 8 (inl (omega arith))
       ∙ number_at_apart 20 (little_bytes 4 0) third (omega (arith, size3)) 8 8 (inl (omega arith))
@@ -105,15 +105,15 @@ module _ (old : List ℕ) (number last : ℕ) (ns : List ℕ) (whole : length ol
       number_at_apart 20 (little_bytes 4 0) third (omega (arith, size3)) 16 4 (inl (omega arith))
       ∙ number_at_written 16 4 (length ns) second (omega (arith, size2)) (omega (arith, few))
 
-  pub described_count : number_at 16 4 described ≡ length ns
+  described_count : number_at 16 4 described ≡ length ns
   described_count = number_at_apart 24 (flat_map (λ x. little_bytes 4 x) ns) fourth numbers_fit 16 4 (inl (omega arith)) ∙ count4
 
-  pub described_zero : number_at 20 4 described ≡ 0
+  described_zero : number_at 20 4 described ≡ 0
   described_zero =
       number_at_apart 24 (flat_map (λ x. little_bytes 4 x) ns) fourth numbers_fit 20 4 (inl (omega arith))
       ∙ number_at_written 20 4 0 third (omega (arith, size3)) (omega arith)
 
-  pub described_listed : listed described ≡ ns
+  described_listed : listed described ≡ ns
   described_listed = listed_written ns fourth (omega (arith, size4, few)) small count4
 
 -- a write right after a prefix, into zeros
@@ -129,7 +129,7 @@ behind at front octets image m is size =
     ∙ sym (append_assoc front octets (replicate (m - length octets) 0))
 
 -- a descriptor that is written into zeros is the whole block
-pub described_whole : (old : List ℕ) (number last : ℕ) (ns : List ℕ) (whole : length old ≡ 4096) (few : length ns ≤ 512)
+described_whole : (old : List ℕ) (number last : ℕ) (ns : List ℕ) (whole : length old ≡ 4096) (few : length ns ≤ 512)
     (small_number : number < 256 ^ 8) (small_last : last < 256 ^ 8) (small : All (λ n. n < 256 ^ 4) ns) → old ≡ replicate (length old) 0
     → described old number last ns whole few small_number small_last small ≡ descriptor_of number last ns
 described_whole old number last ns whole few small_number small_last small clear =
@@ -149,3 +149,24 @@ described_whole old number last ns whole few small_number small_last small clear
     let left : m - length a - length b - length c - length d - length e ≡ 4096 - (24 + 4 * length ns) =
     omega (arith, whole, length-flat_map ns) in
     five ∙ ap (λ (k : ℕ). a ++ b ++ c ++ d ++ e ++ replicate k 0) left
+
+-- what such a block says
+pub record IsDescribed (number last : ℕ) (ns old new : List ℕ) : Type 0 where
+  pub number_is : number_at 0 8 new ≡ number
+  pub last_is : number_at 8 8 new ≡ last
+  pub count : number_at 16 4 new ≡ length ns
+  pub zero : number_at 20 4 new ≡ 0
+  pub listed_are : listed new ≡ ns
+  pub block : old ≡ replicate (length old) 0 → new ≡ descriptor_of number last ns
+
+pub is_described : (old : List ℕ) (number last : ℕ) (ns : List ℕ) (whole : length old ≡ 4096) (few : length ns ≤ 512)
+    (small_number : number < 256 ^ 8) (small_last : last < 256 ^ 8) (small : All (λ n. n < 256 ^ 4) ns) (new : List ℕ)
+    → new ≡ described old number last ns whole few small_number small_last small → IsDescribed number last ns old new
+is_described old number last ns whole few small_number small_last small new is = record {
+  number_is = ap (number_at 0 8) is ∙ described_number old number last ns whole few small_number small_last small;
+  last_is = ap (number_at 8 8) is ∙ described_last old number last ns whole few small_number small_last small;
+  count = ap (number_at 16 4) is ∙ described_count old number last ns whole few small_number small_last small;
+  zero = ap (number_at 20 4) is ∙ described_zero old number last ns whole few small_number small_last small;
+  listed_are = ap listed is ∙ described_listed old number last ns whole few small_number small_last small;
+  block = λ clear. is ∙ described_whole old number last ns whole few small_number small_last small clear;
+}

@@ -5,13 +5,11 @@ use Rattle.std.specs.List.{All}
 use Rattle.std.proofs.lemmas.List.{get_or-set_same, get_or-set_other, set_comm, set-set}
 use Rattle.std.proofs.lemmas.List.Elements.{All-head, All-set, All-tail}
 use Rattle.model.specs.Volume.{AreDistinct, laid_over}
+use Rattle.model.proofs.Distinct.{distinct_tail}
 use Rattle.journal_volume.proofs.PutBack.{IsOther}
 
 later : (n : ℕ) (ns : List ℕ) (k : ℕ) → IsOther (n ∷ ns) k → IsOther ns k
 later n ns k other i low = other (suc i) (omega arith)
-
-tail_distinct : (n : ℕ) (ns : List ℕ) → AreDistinct (n ∷ ns) → AreDistinct ns
-tail_distinct n ns distinct i j less low = distinct (suc i) (suc j) (omega arith) (omega arith)
 
 -- the first is none of the others
 first_other : (n : ℕ) (ns : List ℕ) → AreDistinct (n ∷ ns) → IsOther ns n
@@ -34,7 +32,7 @@ laid_at xs (n ∷ ns) (slot ∷ slots) zero distinct there low given =
     laid_other (set xs n slot) ns slots n (first_other n ns distinct)
     ∙ get_or-set_same xs n slot [] (All-head (λ m. m < length xs) n ns there)
 laid_at xs (n ∷ ns) (slot ∷ slots) (suc i) distinct there low given =
-    laid_at (set xs n slot) ns slots i (tail_distinct n ns distinct)
+    laid_at (set xs n slot) ns slots i (distinct_tail n ns distinct)
     (λ k d l. omega (arith, length-set xs n slot, All-tail (λ m. m < length xs) n ns there k d l)) (omega arith) (omega arith)
 
 -- a slot more
@@ -62,7 +60,7 @@ laid_set xs (n ∷ ns) (slot ∷ slots) zero octets distinct low given =
     ap (λ (l : List (List ℕ)). laid_over l ns slots) (sym (set-set xs n slot octets))
     ∙ laid_apart (set xs n slot) ns slots n octets (first_other n ns distinct)
 laid_set xs (n ∷ ns) (slot ∷ slots) (suc i) octets distinct low given =
-    laid_set (set xs n slot) ns slots i octets (tail_distinct n ns distinct) (omega arith) (omega arith)
+    laid_set (set xs n slot) ns slots i octets (distinct_tail n ns distinct) (omega arith) (omega arith)
 
 -- each block has as many octets
 pub laid_whole : (size : ℕ) (xs : List (List ℕ)) (ns : List ℕ) (slots : List (List ℕ)) → All (λ b. length b ≡ size) xs

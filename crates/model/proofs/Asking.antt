@@ -131,11 +131,11 @@ filter_all q p (x ∷ names) good =
       by_test true first rest = ap (λ (t : Bool). t && list_all q (filter p names)) first ∙ rest
       by_test false first rest = rest
 
-record AreFew (names : List Octets) : Type 0 where
-  count : length names ≤ 16
-  named : list_all is_group_name names ≡ true
+pub record AreFew (names : List Octets) : Type 0 where
+  pub count : length names ≤ 16
+  pub named : list_all is_group_name names ≡ true
 
-few_groups : (host : Octets) (S : Spool) (f : Filing) → MayFile host S f → AreFew f.envelope.groups
+pub few_groups : (host : Octets) (S : Spool) (f : Filing) → MayFile host S f → AreFew f.envelope.groups
 few_groups host S f may =
     let names = groups_of f.text in
     let good = (no_cause Carried f.text (carried_cause f.text may.carried)).good_groups in

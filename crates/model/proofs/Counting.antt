@@ -147,7 +147,7 @@ range_has a (suc n) b (zero, low, is) = (omega arith, omega arith)
 range_has a (suc n) b (suc k, low, is) = let rest = range_has (a + 1) n b (k, omega arith, is) in
     (omega (arith, rest.0), omega (arith, rest.1))
 
-in_range : (a n b : ℕ) → a ≤ b → b < a + n → Contains (range_with_len a n) b
+pub in_range : (a n b : ℕ) → a ≤ b → b < a + n → Contains (range_with_len a n) b
 in_range a zero b low high = absurd (omega arith)
 in_range a (suc n) b low high = elim (cases_eq a b) [
   | inl same ↦ (0, omega arith, same)

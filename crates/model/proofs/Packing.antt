@@ -26,7 +26,7 @@ use Rattle.model.proofs.Strings.{append_split, counted_split, length-little, lit
 
 -- ---- the octets of a pack say what is in it
 
-joined_first : (f : File) (rest : Octets)
+pub joined_first : (f : File) (rest : Octets)
     → member_octets f ++ rest ≡ length f.name ∷ f.name ++ (little_bytes 4 (length f.content) ++ (f.content ++ rest))
 joined_first f rest =
     append_assoc (length f.name ∷ f.name) (little_bytes 4 (length f.content) ++ f.content) rest

@@ -5,7 +5,6 @@ use Rattle.std.specs.Prelude.{length, take, find, reverse, nat_eq, nat_le, nat_l
 use Rattle.std.specs.Prelude.{bytes_eq, codes, not, ◌&&◌, ◌||◌, ◌==◌}
 use Rattle.std.specs.List.{All, concat, list_all, list_any, ends_with, join_with_byte}
 use Rattle.std.specs.Char.{is_ascii_alphanumeric}
-use Rattle.std.specs.Int.{is_in_range}
 use Rattle.std.specs.Option.{option_or}
 use Rattle.std.proofs.lemmas.Bool.{true≢false, and_parts, and_from, or_right, or_cases, or_from, not_from_false, not-true, cond-true}
 use Rattle.std.proofs.lemmas.Bool.{ne_eqb, eqb-true, le-leb, leb-true}
@@ -23,9 +22,10 @@ use Rattle.model.specs.Article.{added_fields, id_in_field, is_blank_field}
 use Rattle.model_renewed.specs.Renewed.{husk}
 use Rattle.model.specs.declared.cause.Cause.TheVariants.{Long}
 use Rattle.model.proofs.Ends.{ends_with-append}
-use Rattle.model.proofs.Ids.{no_tests}
-use Rattle.model.proofs.Stored.{Begins, header_front, is_no_lf, is_plain, no_lf}
-use Rattle.model_renewed.proofs.Texts.{runs_pass, split_pass, begins_more, Shaped, shaped_more, unfolded_line, AreFew}
+use Rattle.model.proofs.Asking.{AreFew}
+use Rattle.model.proofs.Ids.{no_tests, runs_pass, split_pass}
+use Rattle.model.proofs.Stored.{Begins, begins_more, header_front, is_no_lf, is_plain, no_lf, visible_unblank}
+use Rattle.model.proofs.StoredArticles.{Shaped, letter_visible, shaped_more, unfolded_line}
 
 -- ---- octets of ids and of names
 
@@ -39,11 +39,6 @@ visible_plain x visible =
   where
     apart : (bad : ℕ) → is_visible bad ≡ false → (x == bad) ≡ false
     apart bad hidden = ne_eqb x bad (λ same. true≢false (sym visible ∙ ap is_visible same ∙ hidden))
-
-visible_unblank : (x : ℕ) → is_visible x ≡ true → is_blank x ≡ false
-visible_unblank x visible =
-    or_from (x == 32) (x == 9) (ne_eqb x 32 (λ same. true≢false (sym visible ∙ ap is_visible same)))
-    (ne_eqb x 9 (λ same. true≢false (sym visible ∙ ap is_visible same)))
 
 all_more : (p q : ℕ → Bool) → ((x : ℕ) → p x ≡ true → q x ≡ true) → (xs : Octets) → list_all p xs ≡ true → list_all q xs ≡ true
 all_more p q wider [] all = refl
@@ -63,31 +58,9 @@ octet_tight x is = elim (or_cases (is_ascii_alphanumeric x) (x == 43 || (x == 45
       | inr bar ↦ ap is_tight (eqb-true x 95 bar)
     ]
   ]
-  | inl letter ↦ and_from (is_visible x) _ (and_from (nat_le 33 x) _ (le-leb 33 x (low letter)) (le-leb x 126 (high letter)))
+  | inl letter ↦ and_from (is_visible x) _ (letter_visible x letter)
       (not_from_false _ (ne_eqb x 44 (λ same. true≢false (sym letter ∙ ap is_ascii_alphanumeric same))))
 ]
-  where
-    within : (low high : ℕ) → is_in_range low high x ≡ true → (low ≤ x) × (x ≤ high)
-    within low high in_range = let both = and_parts (nat_le low x) (nat_le x high) in_range in
-        (leb-true low x both.0, leb-true x high both.1)
-
-    low : is_ascii_alphanumeric x ≡ true → 33 ≤ x
-    low letter = elim (or_cases (is_in_range 48 57 x || is_in_range 65 90 x) (is_in_range 97 122 x) letter) [
-      | inr little ↦ omega (arith, (within 97 122 little).0)
-      | inl other ↦ elim (or_cases (is_in_range 48 57 x) (is_in_range 65 90 x) other) [
-        | inl digit ↦ omega (arith, (within 48 57 digit).0)
-        | inr capital ↦ omega (arith, (within 65 90 capital).0)
-      ]
-    ]
-
-    high : is_ascii_alphanumeric x ≡ true → x ≤ 126
-    high letter = elim (or_cases (is_in_range 48 57 x || is_in_range 65 90 x) (is_in_range 97 122 x) letter) [
-      | inr little ↦ omega (arith, (within 97 122 little).1)
-      | inl other ↦ elim (or_cases (is_in_range 48 57 x) (is_in_range 65 90 x) other) [
-        | inl digit ↦ omega (arith, (within 48 57 digit).1)
-        | inr capital ↦ omega (arith, (within 65 90 capital).1)
-      ]
-    ]
 
 name_tight : (g : Octets) → is_group_name g ≡ true → list_all is_tight g ≡ true
 name_tight g good =

@@ -1,4 +1,3 @@
-pub mod Texts
 pub mod Alike
 pub mod AlikeAnswers
 pub mod Husks

@@ -6,7 +6,6 @@ use Rattle.std.specs.Prelude.{bytes_eq, codes, ◌||◌, ◌==◌, if◌then◌e
 use Rattle.std.specs.List.{All, list_all, list_any}
 use Rattle.std.proofs.lemmas.List.Elements.{All-cons, All-nil}
 use Rattle.std.proofs.lemmas.Bool.{true≢false, and_parts, or_cases, leb-true, le-leb, lt-leb, or_parts}
-use Rattle.std.proofs.lemmas.List.{append_assoc, append-nil}
 use Rattle.std.proofs.lemmas.Option.{slice_get-map}
 use Rattle.std.proofs.Math.Seq.{take-append_seam}
 use Rattle.model.specs.Stream.{Octets}
@@ -31,7 +30,7 @@ use Rattle.model.proofs.Expiring.{still_here}
 use Rattle.model.proofs.Fronts.{passing, greatest_serial}
 use Rattle.model_renewed.proofs.Husks.{husk_id, husk_groups, husk_carried, sizes}
 use Rattle.model.proofs.Ids.{no_cause}
-use Rattle.model_renewed.proofs.Texts.{AreFew, few_groups}
+use Rattle.model.proofs.Asking.{AreFew, few_groups}
 use Rattle.model.proofs.Growing.{filter_distinct}
 use Rattle.model.proofs.HoldsOne.{carried_cause}
 use Rattle.model.proofs.LawfulLaws.{next_follows}

@@ -1,11 +1,11 @@
 -- Lists whose elements all pass.
-use Rattle.std.proofs.Common.{◌≡◌, ℕ, zero, suc, List, [], ◌∷◌, map, refl, subst, Bool, true, false, cond, ◌&&◌}
-use Rattle.std.specs.Prelude.{filter, find, length, slice_get, Some}
-use Rattle.std.specs.List.{list_all, slice_split, onto_first}
+use Rattle.std.proofs.Common.{◌≡◌, ℕ, zero, suc, List, [], ◌∷◌, map, refl, subst, Bool, true, false, cond}
+use Rattle.std.specs.Prelude.{filter, find, slice_get, Some}
+use Rattle.std.specs.List.{list_all, slice_split}
 use Rattle.std.proofs.lemmas.Bool.{and_parts, and_from}
-use Rattle.std.specs.Prelude.{nat_le}
 use Rattle.model.specs.Stream.{Octets}
 use Rattle.model.specs.Names.{is_run_of}
+use Rattle.model.proofs.Ids.{runs_pass, split_pass}
 
 abbrev pub Every : {A : Type 0} → (A → Type 0) → List A → Type 0
 Every P [] = Unit {0}
@@ -51,32 +51,6 @@ lists_more p q wider (w ∷ ws) all =
     and_from (list_all q w) (list_all (list_all q) ws) (all_more p q wider w both.0) (lists_more p q wider ws both.1)
 
 -- ---- parts of a text
-
-runs_pass : (q : ℕ → Bool) (texts : List Octets) → list_all (is_run_of q) texts ≡ true → list_all (list_all q) texts ≡ true
-runs_pass q [] all = refl
-runs_pass q (text ∷ texts) all =
-    let both = and_parts (is_run_of q text) (list_all (is_run_of q) texts) all in
-    and_from (list_all q text) (list_all (list_all q) texts) (and_parts (nat_le 1 (length text)) (list_all q text) both.0).1
-    (runs_pass q texts both.1)
-
-first_pass : (q : ℕ → Bool) (x : ℕ) (texts : List Octets) → list_all (list_all q) (onto_first x texts) ≡ true
-    → (q x ≡ true) × (list_all (list_all q) texts ≡ true)
-first_pass q x [] all = ((and_parts (q x) true (and_parts (q x && true) true all).0).0, refl)
-first_pass q x (text ∷ texts) all =
-    let both = and_parts (q x && list_all q text) (list_all (list_all q) texts) all in
-    let first = and_parts (q x) (list_all q text) both.0 in
-    (first.0, and_from (list_all q text) (list_all (list_all q) texts) first.1 both.1)
-
-split_pass : (q p r : ℕ → Bool) → ((x : ℕ) → q x ≡ true → r x ≡ true) → ((x : ℕ) → p x ≡ true → r x ≡ true) → (text : Octets)
-    → list_all (list_all q) (slice_split p text) ≡ true → list_all r text ≡ true
-split_pass q p r run mark [] all = refl
-split_pass q p r run mark (x ∷ xs) all = by_mark (p x) refl all (λ rest. split_pass q p r run mark xs rest) where
-  by_mark : (b : Bool) → p x ≡ b → list_all (list_all q) (cond b ([] ∷ slice_split p xs) (onto_first x (slice_split p xs))) ≡ true
-      → (list_all (list_all q) (slice_split p xs) ≡ true → list_all r xs ≡ true) → list_all r (x ∷ xs) ≡ true
-  by_mark true is rest later = and_from (r x) (list_all r xs) (mark x is) (later rest)
-  by_mark false is rest later =
-      let first = first_pass q x (slice_split p xs) rest in
-      and_from (r x) (list_all r xs) (run x first.0) (later first.1)
 
 -- the octets of parts, and the marks, pass
 pub parts_pass : (q p r : ℕ → Bool) → ((x : ℕ) → q x ≡ true → r x ≡ true) → ((x : ℕ) → p x ≡ true → r x ≡ true) → (text : Octets)

@@ -8,7 +8,7 @@ use Rattle.std.proofs.lemmas.Int.{ints}
 use Rattle.model.specs.Stream.{Octets}
 use Rattle.model.specs.Calendar.{Date, IsDate, IsDateAt, are_digits, date_at, date_of_text, day_number, days_in_month, epoch, full_year}
 use Rattle.model.specs.Calendar.{is_date, is_leap_year, is_time, moment_of, since, two_at, year_of}
-use Rattle.model.proofs.CalendarLaws.{date_at-is, year_since}
+use Rattle.model.proofs.CalendarLaws.{Date-equal, date_at-is, year_since}
 use Rattle.model_rfc.specs.Grammar.{has_digits}
 use Rattle.model_rfc.specs.Syntax.{is_since}
 use Rattle.model_rfc.specs.Times.{IsShortYear, IsSince, number_at, seconds_at}
@@ -51,13 +51,6 @@ date_to_test d is =
     (and_from (nat_le 1 d.month && nat_le d.month 12) _
     (and_from (nat_le 1 d.month) (nat_le d.month 12) (le-leb 1 d.month is.month_low) (le-leb d.month 12 is.month_high))
     (and_from (nat_le 1 d.day) _ (le-leb 1 d.day is.day_low) (le-leb d.day (days_in_month (is_leap_year d.year) d.month) is.day_high)))
-
-abbrev date_with : ℕ → ℕ → ℕ → Date
-date_with year month day = record { year = year; month = month; day = day }
-
-same_date : (a b : Date) → a.year ≡ b.year → a.month ≡ b.month → a.day ≡ b.day → a ≡ b
-same_date a b year month day =
-    ap (λ y. date_with y a.month a.day) year ∙ ap (λ m. date_with b.year m a.day) month ∙ ap (λ d. date_with b.year b.month d) day
 
 -- ---- years of two digits
 
@@ -147,7 +140,7 @@ module _ (today : Date) (t : ℕ) (at : IsDateAt t today) (date time : Octets) (
         | inr eight ↦ is.long_year eight ∙ sym (eight_year today.year date eight)
       ] in
       and_from (is_date day) (is_time time)
-      (ap is_date (sym (same_date is.at day year is.month is.day)) ∙ date_to_test is.at is.is_date)
+      (ap is_date (sym (Date-equal is.at day year is.month is.day)) ∙ date_to_test is.at is.is_date)
       (and_from (nat_lt (two_at 0 time) 24) _ (lt-ltb (two_at 0 time) 24 is.clock.0)
       (and_from (nat_lt (two_at 2 time) 60) _ (lt-ltb (two_at 2 time) 60 is.clock.1) (lt-ltb (two_at 4 time) 60 is.clock.2)))
 

@@ -14,7 +14,7 @@ use std::sync::atomic::{AtomicBool, Ordering};
 use std::sync::{Arc, Mutex, Wait};
 use std::thread;
 use std::time::{Clock, Duration};
-use text_networks::{Guest, Guests, Network, NoSeat, may_call};
+use text_networks::{Admitted, Guest, Guests, Network, NoSeat, admit};
 
 /// The reply to a caller that gets no session (RFC 3977, section 5.1.1).
 pub(crate) const SERVICE_ENDS: &[u8] = b"400 Service ends\r\n";
@@ -170,6 +170,13 @@ struct Newcomer {
     peer: SocketAddr,
 }
 
+/// A caller that is let in and has no session yet.
+#[derive(Drop)]
+struct Entrant {
+    stream: TcpStream,
+    peer: Admitted,
+}
+
 impl<'a> Entrance<'a> {
     fn new(listener: &'a TcpListener) -> Entrance<'a> {
         Entrance {
@@ -270,36 +277,41 @@ impl<
         }
     }
 
-    /// Joins a session for a caller that is let in and gets a seat, and hands the caller to a session's thread, which is started
-    /// if it is the first caller at this seat. For whom a
-    /// proxy connects is read there, so whether that caller is let in is seen there, too. A caller
-    /// that gets no session is refused. `Over` if there will be no more sessions.
+    /// Gives a caller that may call a seat and a session. One that may not is told so. For whom a proxy connects is read by the
+    /// session's thread, so whether that caller is let in is seen there. `Over` if there will be no more sessions.
     fn admit(&self, newcomer: Newcomer, entrance: &mut Entrance<'_>) -> Result<(), Over> {
         let Newcomer { stream, peer } = newcomer;
+        match admit(self.doors.networks, peer) {
+            Some(peer) => self.seat(Entrant { stream, peer }, entrance),
+            None => {
+                self.note(peer, SessionRefusal::Access);
+                turn_away(&stream, ACCESS_DENIED);
+                Ok(())
+            }
+        }
+    }
+
+    /// Joins a session for a caller that gets a seat, and hands the caller to a session's thread, which is started if it is the
+    /// first caller at this seat. A caller that gets no session is refused. `Over` if there will be no more sessions.
+    fn seat(&self, entrant: Entrant, entrance: &mut Entrance<'_>) -> Result<(), Over> {
         let guest = match self.way {
-            Way::Direct => Guest::At(peer.ip()),
+            Way::Direct => Guest::At(entrant.peer.peer().ip()),
             Way::Proxied => Guest::Unnamed,
         };
-        if self.way == Way::Direct && !may_call(self.doors.networks, peer.ip()) {
-            self.note(peer, SessionRefusal::Access);
-            turn_away(&stream, ACCESS_DENIED);
-            return Ok(());
-        }
         let entered = self.doors.guests.lock(self.shared.rt).enter(guest);
         let seat = match entered {
             Ok(seat) => seat,
             Err(why) => {
-                self.refuse(&stream, peer, no_seat(why));
+                self.refuse(&entrant.stream, entrant.peer, no_seat(why));
                 return Ok(());
             }
         };
         if !self.crew.has_threads(seat.saturating_add(1)) {
             self.doors.free(self.shared.rt, seat);
-            self.refuse(&stream, peer, SessionRefusal::Memory);
+            self.refuse(&entrant.stream, entrant.peer, SessionRefusal::Memory);
             return Ok(());
         }
-        let admitted = self.join(Newcomer { stream, peer }, seat, entrance.is_open());
-        match admitted {
+        match self.join(entrant, seat, entrance.is_open()) {
             Ok(true) => Ok(()),
             Ok(false) => {
                 self.doors.free(self.shared.rt, seat);
@@ -311,11 +323,11 @@ impl<
 
     /// Joins a session for a caller that has a seat, and hands the caller to a session's thread. Answers false if the caller is
     /// refused, and has no use for the seat. `Over` if there will be no more sessions.
-    fn join(&self, newcomer: Newcomer, seat: usize, has_room: bool) -> Result<bool, Over> {
+    fn join(&self, entrant: Entrant, seat: usize, has_room: bool) -> Result<bool, Over> {
         match self.shared.kern.join(self.shared.rt, self.shared.alloc) {
-            Ok(sid) => self.welcome(newcomer, sid, seat, has_room),
+            Ok(sid) => self.welcome(entrant, sid, seat, has_room),
             Err(error) => {
-                self.refuse(&newcomer.stream, newcomer.peer, refusal_of(error));
+                self.refuse(&entrant.stream, entrant.peer, refusal_of(error));
                 if error == JoinError::Halted {
                     return Err(Over);
                 }
@@ -329,7 +341,7 @@ impl<
     /// threads.
     fn welcome(
         &self,
-        newcomer: Newcomer,
+        entrant: Entrant,
         sid: u64,
         seat: usize,
         has_room: bool,
@@ -342,7 +354,7 @@ impl<
             limits,
             ..
         } = self.shared;
-        let Newcomer { stream, peer } = newcomer;
+        let Entrant { stream, peer } = entrant;
         if let Some(why) = obstacle(&stream, limits.first, has_room, bells.is_stopping()) {
             kern.leave(*rt, sid);
             self.refuse(&stream, peer, why);
@@ -371,8 +383,8 @@ impl<
     }
 
     /// Tells a caller that the service ends, and notes why it got no session.
-    fn refuse(&self, stream: &TcpStream, peer: SocketAddr, why: SessionRefusal) {
-        self.note(peer, why);
+    fn refuse(&self, stream: &TcpStream, peer: Admitted, why: SessionRefusal) {
+        self.note(peer.peer(), why);
         turn_away(stream, SERVICE_ENDS);
     }
 

@@ -1,8 +1,9 @@
 //! A caller on the way to its session's thread.
 
 use std::alloc::Global;
-use std::net::{SocketAddr, TcpStream};
+use std::net::TcpStream;
 use std::sync::Arc;
+use text_networks::Admitted;
 
 /// How the callers of a listener come.
 #[derive(Clone, Copy, PartialEq, Eq)]
@@ -20,6 +21,7 @@ pub struct Caller {
     /// Its seat among the guests. It is free once its session's thread is.
     pub seat: usize,
     pub way: Way,
-    pub peer: SocketAddr,
+    /// Its address. Of one that comes by a proxy it is the proxy's until the proxy has said for whom it connects.
+    pub peer: Admitted,
     pub stream: Arc<TcpStream, Global>,
 }

@@ -10,7 +10,7 @@ use std::io::{ErrorKind, Read};
 use std::net::{SocketAddr, TcpStream};
 use std::sync::Wait;
 use std::time::{Clock, Duration, Instant};
-use text_networks::{PROXY_LINE, Proxied, may_call, read_proxy_line};
+use text_networks::{Admitted, PROXY_LINE, Proxied, admit_proxied, read_proxy_line};
 
 /// How long a read of the line waits before it looks whether the server ends, in milliseconds.
 const LOOK_MILLIS: u64 = 200;
@@ -57,37 +57,47 @@ pub fn identify<R: Wait + Clock, K: Kern, G>(
     }
 }
 
-/// The address of a caller by a proxy, and its seat by that address. A caller that is refused has no seat.
+/// The caller for whom a proxy connects, and its seat by its address. One that is refused has no seat.
 fn find<R: Wait + Clock, K, G>(
     shared: &Shared<'_, R, K, G>,
     doors: &Doors<'_>,
     caller: &Caller,
-) -> Result<(SocketAddr, usize), Refused> {
-    let found = match read_line(shared, &caller.stream) {
-        Ok(Proxied::From(address, port)) => Ok(SocketAddr::new(address, port)),
-        Ok(Proxied::Unknown) => Ok(caller.peer),
-        Err(why) => Err(Refused {
-            peer: caller.peer,
-            why,
-        }),
-    };
-    let peer = match found {
-        Ok(peer) if may_call(doors.networks, peer.ip()) => peer,
-        Ok(peer) => {
-            doors.free(shared.rt, caller.seat);
-            return Err(Refused {
-                peer,
-                why: SessionRefusal::Access,
-            });
-        }
+) -> Result<(Admitted, usize), Refused> {
+    let peer = match let_in(shared, doors, caller) {
+        Ok(peer) => peer,
         Err(refused) => {
             doors.free(shared.rt, caller.seat);
             return Err(refused);
         }
     };
-    match doors.name(shared.rt, caller.seat, peer.ip()) {
+    match doors.name(shared.rt, caller.seat, peer.peer().ip()) {
         Ok(seat) => Ok((peer, seat)),
-        Err(why) => Err(Refused { peer, why }),
+        Err(why) => Err(Refused {
+            peer: peer.peer(),
+            why,
+        }),
+    }
+}
+
+/// The caller for whom a proxy connects, if its line says so and that caller may call.
+fn let_in<R: Wait + Clock, K, G>(
+    shared: &Shared<'_, R, K, G>,
+    doors: &Doors<'_>,
+    caller: &Caller,
+) -> Result<Admitted, Refused> {
+    let named = match read_line(shared, &caller.stream) {
+        Ok(named) => named,
+        Err(why) => {
+            let peer = caller.peer.peer();
+            return Err(Refused { peer, why });
+        }
+    };
+    match admit_proxied(doors.networks, caller.peer, named) {
+        Ok(peer) => Ok(peer),
+        Err(peer) => Err(Refused {
+            peer,
+            why: SessionRefusal::Access,
+        }),
     }
 }
 

@@ -86,6 +86,7 @@ impl<'a, 'b, R: Wait + Clock, K: Kern, H: Hooks> SessionThread<'a, 'b, R, K, H> 
             peer,
             stream,
         } = call;
+        let peer = peer.peer();
         let mut counts = Counted::new();
         let Ok((writing, ending)) = two_more(&stream) else {
             kern.leave(*rt, sid);

@@ -86,8 +86,9 @@ abbrev pub posted_by : Octets → Spool → Session → ℕ → Octets → Repli
 posted_by host S x t text =
     let what = answers.spool_outcome (answers.same_id S text) (answers.groups_here S text)
     (closed_among closed.Refuse S (groups_of text)) in
-    said_of (refusal_by what) (answered (answers.article_answer (answers.awaiting x awaits.Line) received not_accepted (injected host (length S + 1) t text) t what)
-    (outcome_reads S what))
+    let stored = injected host (length S + 1) t text in
+    said_of (refusal_by what) (answered
+    (answers.article_answer (answers.awaiting x awaits.Line) received not_accepted stored t what) (outcome_reads S what))
 
 -- the outcome of an article whose existing groups are these, and the last serial that names one that prevents the
 -- filing

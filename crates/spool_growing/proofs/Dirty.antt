@@ -1,8 +1,8 @@
 -- How many blocks a change dirties.
-use Rattle.std.proofs.Common.{◌≡◌, ◌⊎◌, inl, inr, ◌<◌, ◌≤◌, ◌↔◌, ℕ, zero, suc, ◌+◌, List, [], ◌∷◌, ◌++◌, length, refl, sym, ◌∙◌, arith}
+use Rattle.std.proofs.Common.{◌≡◌, ◌⊎◌, inl, inr, ◌≤◌, ◌↔◌, ℕ, zero, suc, ◌+◌, List, [], ◌∷◌, ◌++◌, length, refl, sym, ◌∙◌, arith}
 use Rattle.std.proofs.Common.{length-append}
 use Rattle.std.specs.List.{Contains, range_with_len, remove}
-use Rattle.std.proofs.lemmas.Bool.{cases_eq, cases_lt}
+use Rattle.std.proofs.lemmas.Bool.{cases_lt}
 use Rattle.std.proofs.lemmas.List.FromFn.{length-range_with_len}
 use Rattle.std.proofs.lemmas.List.{get_or_default}
 use Rattle.std.proofs.lemmas.List.Elements.{Contains-append_left, Contains-append_right}
@@ -11,6 +11,7 @@ use Rattle.std.specs.Prelude.{IsPermutation}
 use Rattle.model.specs.Files.{bitmap_blocks}
 use Rattle.model.specs.Stream.{Octets}
 use Rattle.model.specs.Volume.{AreDistinct}
+use Rattle.model.proofs.Counting.{in_range}
 use Rattle.fs.specs.Touches.{Touches}
 use Rattle.fs_inodes.proofs.Owners.{contained}
 use Rattle.journal_volume.specs.Volume.{Differs}
@@ -32,14 +33,6 @@ fewer (x ∷ xs) ys once within =
     left_over z has (zero, low, is) =
         absurd (once 0 (suc has.0) (omega arith) (omega (arith, has.1)) (is ∙ sym has.2 ∙ get_or_default xs has.0 z 0 has.1))
     left_over z has (suc k, low, is) = (k, omega arith, is)
-
--- a number of a range
-in_range : (a n b : ℕ) → a ≤ b → b < a + n → Contains (range_with_len a n) b
-in_range a zero b low high = absurd (omega arith)
-in_range a (suc n) b low high = elim (cases_eq a b) [
-  | inl same ↦ (0, omega arith, same)
-  | inr other ↦ let rest = in_range (a + 1) n b (omega arith) (omega arith) in (suc rest.0, omega (arith, rest.1), rest.2)
-]
 
 -- the blocks that a change touches: those of the bitmap, and others
 abbrev all_touched : (old new : List Octets) → Touches 254 old new → List ℕ

@@ -24,7 +24,7 @@ use Rattle.model.specs.declared.change.Change.{Change}
 use Rattle.model.specs.declared.change.Change.TheVariants.{Group, Article, Expire}
 use Rattle.model.proofs.HoldsOne.{no_change}
 use Rattle.model.proofs.Inodes.{is_among}
-use Rattle.model.proofs.Packing.{pack_said, pack_size, pack_stored}
+use Rattle.model.proofs.Packing.{joined_first, pack_said, pack_size, pack_stored}
 use Rattle.model.proofs.Strings.{append_split, counted_split, length-little, little_split}
 use Rattle.fs_layout.specs.Table.{IsFileAt}
 use Rattle.spool_index.specs.Viewed.{place_of}
@@ -52,12 +52,6 @@ pub no_octets : pack_octets [] ≡ []
 unfolding pack_octets
 no_octets = refl
 
-joined : (f : File) (rest : Octets)
-    → member_octets f ++ rest ≡ length f.name ∷ f.name ++ (little_bytes 4 (length f.content) ++ (f.content ++ rest))
-joined f rest =
-    append_assoc (length f.name ∷ f.name) (little_bytes 4 (length f.content) ++ f.content) rest
-    ∙ ap (λ (o : Octets). length f.name ∷ f.name ++ o) (append_assoc (little_bytes 4 (length f.content)) f.content rest)
-
 pub member_size : (f : File) → length (member_octets f) ≡ 5 + length f.name + length f.content
 member_size f =
     omega (
@@ -80,7 +74,7 @@ some_octets f more =
 pub member_once : (f g : File) (rest other : Octets) → IsMember f → IsMember g → member_octets f ++ rest ≡ member_octets g ++ other
     → (f ≡ g) × (rest ≡ other)
 member_once f g rest other one also is =
-    let names = counted_split f.name g.name _ _ (sym (joined f rest) ∙ is ∙ joined g other) in
+    let names = counted_split f.name g.name _ _ (sym (joined_first f rest) ∙ is ∙ joined_first g other) in
     let sizes = little_split 4 (length f.content) (length g.content) _ _ one.fits also.fits names.1 in
     let contents = append_split f.content g.content _ _ sizes.0 sizes.1 in
     ((λ i. record { name = names.0 i; content = contents.0 i }), contents.1)
@@ -247,7 +241,7 @@ module _ (octets : Octets) (may : MayBeMember octets) where
   after = little_bytes 4 (length f.content) ++ (f.content ++ may.rest)
 
   octets_are : octets ≡ length f.name ∷ f.name ++ after
-  octets_are = may.is ∙ joined f may.rest
+  octets_are = may.is ∙ joined_first f may.rest
 
   pub may_long : 17 + length f.content ≤ length octets
   may_long =
@@ -321,7 +315,7 @@ is_member_of (x ∷ xs) count serial long front kind size small some fits says =
     ap (λ (n : ℕ). little_bytes 4 n ++ (content ++ more)) content_long ∙ ap (λ (o : Octets). o ++ (content ++ more)) (sym size)
     ∙ ap (λ (o : Octets). take 4 after ++ o) (take-append-drop count rest) ∙ take-append-drop 4 after in
     let whole : member_octets file ++ more ≡ x ∷ xs =
-    joined file more
+    joined_first file more
     ∙ (λ i. (name_long ∙ sym front) i ∷ name ++ after_is i)
     ∙ ap (λ (o : Octets). x ∷ o) (take-append-drop 12 xs) in
     record {

@@ -1,5 +1,5 @@
 -- Lines stay what they are, whatever changes come after them.
-use Rattle.std.proofs.Common.{◌≡◌, ◌≤◌, ℕ, zero, suc, ◌+◌, ◌-◌, Bool, List, [], ◌∷◌, ◌++◌, length, take, drop, sym, ◌∙◌, ap, arith}
+use Rattle.std.proofs.Common.{◌≡◌, ◌≤◌, ℕ, ◌+◌, ◌-◌, Bool, List, ◌++◌, length, take, drop, sym, ◌∙◌, ap, arith}
 use Rattle.std.proofs.Common.{length-append, length-drop}
 use Rattle.std.specs.Prelude.{Some, filter, filter_map, flat_map, slice_get}
 use Rattle.std.specs.List.{enumerate_from, list_any}
@@ -24,6 +24,7 @@ use Rattle.model.specs.Spool.{
 use Rattle.model.specs.Spool.{high, is_name}
 use Rattle.model.specs.Stream.{Octets, dot_line, line}
 use Rattle.model.proofs.Fronts.{entries_split}
+use Rattle.model.proofs.Numbers.{front_stays}
 use Rattle.kernel_outbox.specs.declared.made_lines.Lines.{Lines}
 use Rattle.spool_texts.specs.Parts.{HasLines, lines_in, lines_of}
 
@@ -49,11 +50,6 @@ filed_more S more g =
     ap (λ (es : List SpoolEntry). filter test (filter_map article_filed es)) (entries_more S more)
     ∙ ap (filter test) (filter_map-append article_filed (entries S) (entries_from (1 + length S) more))
     ∙ filter-append test (filter_map article_filed (entries S)) (filter_map article_filed (entries_from (1 + length S) more))
-
-front_stays : {X : Type 0} (xs ys : List X) (k : ℕ) (x : X) → slice_get xs k ≡ Some x → slice_get (xs ++ ys) k ≡ Some x
-front_stays [] ys k x is = absurd (cc)
-front_stays (y ∷ xs) ys zero x is = is
-front_stays (y ∷ xs) ys (suc k) x is = front_stays xs ys k x is
 
 -- the overviews of numbers that a group has had
 overviews_stay : (S more : Spool) (g : Octets) (from to : ℕ) → 1 ≤ from → from ≤ to + 1 → to ≤ high S g

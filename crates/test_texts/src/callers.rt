@@ -2,11 +2,14 @@
 //! proxy connects.
 
 use std::alloc::Global;
-use std::net::IpAddr;
+use std::net::{IpAddr, SocketAddr};
 use test_support_data::{Answer, Area, Arguments, RowError};
 use text_networks::{
-    Guest, Guests, Network, NoSeat, Proxied, may_call, read_endpoint, read_proxy_line,
+    Guest, Guests, Network, NoSeat, Proxied, admit, admit_proxied, read_endpoint, read_proxy_line,
 };
+
+/// The port from which callers come.
+const PORT: u16 = 50_000;
 
 #[derive(Drop)]
 pub struct Callers;
@@ -17,6 +20,7 @@ impl Area for Callers {
     /// let in where these networks are. `guests MOST SEATS ..`: what callers at free seats are answered, one after another,
     /// where MOST is the most of an address, or `any`; a number has the caller of that seat leave, `unnamed` is one by a proxy,
     /// and a number with an address gives the one of that seat its own. `proxy LINE`: for whom a proxy connects.
+    /// `admit_proxied PROXY LINE NETWORK ..`: the caller that is let in where a proxy of this address sends this line.
     fn answer(
         &mut self,
         alloc: Global,
@@ -35,9 +39,10 @@ impl Area for Callers {
             }
             "may_call" => {
                 let networks = read_networks(alloc, arguments)?;
-                let caller = address_of(text.as_str())?;
-                Ok(answer.is(may_call(networks.as_slice(), caller))?)
+                let caller = caller_of(text.as_str())?;
+                Ok(answer.is(admit(networks.as_slice(), caller).is_some())?)
             }
+            "admit_proxied" => answer_proxied(alloc, text.as_str(), arguments, answer),
             "guests" => answer_guests(alloc, text.as_str(), arguments, answer),
             "proxy" => answer_proxy(alloc, text.as_str(), answer),
             _ => Err(RowError::Unreadable),
@@ -89,6 +94,11 @@ fn address_of(text: &str) -> Result<IpAddr, RowError> {
     text.parse::<IpAddr>().ok().ok_or(RowError::Unreadable)
 }
 
+/// A caller of an address, from a port.
+fn caller_of(text: &str) -> Result<SocketAddr, RowError> {
+    Ok(SocketAddr::new(address_of(text)?, PORT))
+}
+
 fn network_of(text: &str) -> Result<Network, RowError> {
     Network::read(text).ok_or(RowError::Unreadable)
 }
@@ -100,6 +110,31 @@ fn read_networks(alloc: Global, arguments: &mut Arguments<'_>) -> Result<Vec<Net
         networks.push(network_of(arguments.text()?.as_str())?)?;
     }
     Ok(networks)
+}
+
+/// The caller that is let in for a proxy, or the one that isn't.
+fn answer_proxied(
+    alloc: Global,
+    proxy: &str,
+    arguments: &mut Arguments<'_>,
+    answer: &mut Answer,
+) -> Result<(), RowError> {
+    let proxy = admit(&[], caller_of(proxy)?).ok_or(RowError::Unreadable)?;
+    let line = arguments.text()?;
+    let named = read_proxy_line(line.as_str().as_bytes()).ok_or(RowError::Unreadable)?;
+    let networks = read_networks(alloc, arguments)?;
+    match admit_proxied(networks.as_slice(), proxy, named) {
+        Ok(caller) => answer_peer(alloc, caller.peer(), answer),
+        Err(peer) => {
+            answer.word("refused")?;
+            answer_peer(alloc, peer, answer)
+        }
+    }
+}
+
+fn answer_peer(alloc: Global, peer: SocketAddr, answer: &mut Answer) -> Result<(), RowError> {
+    let shown = format!(in alloc; "{peer}")?;
+    Ok(answer.word(shown.as_str())?)
 }
 
 fn answer_proxy(alloc: Global, line: &str, answer: &mut Answer) -> Result<(), RowError> {

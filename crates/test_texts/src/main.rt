@@ -4,7 +4,6 @@
 
 mod articles;
 mod batches;
-mod boxes;
 mod callers;
 mod command_lines;
 mod files;
@@ -20,7 +19,6 @@ mod streams;
 use anyhow::{Result, anyhow};
 use articles::Articles;
 use batches::Batches;
-use boxes::Boxes;
 use callers::Callers;
 use command_lines::CommandLines;
 use files::Files;
@@ -45,7 +43,6 @@ fn play_row<W: Write>(alloc: Global, row: &Row, texts: &Texts, output: &mut W) -
         "records" => play(alloc, &mut Files, row, texts, output),
         "networks" => play(alloc, &mut Callers, row, texts, output),
         "queues" => play(alloc, &mut Queues::new(alloc)?, row, texts, output),
-        "outboxes" => play(alloc, &mut Boxes::new(alloc)?, row, texts, output),
         "index" => play(alloc, &mut Indexes::new(alloc), row, texts, output),
         "script" => play(alloc, &mut ScriptLines, row, texts, output),
         "logging" => play(alloc, &mut LogLines, row, texts, output),

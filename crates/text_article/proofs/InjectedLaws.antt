@@ -1,22 +1,22 @@
 -- What is put before a posted text leaves its lines, its fields and its groups as they are.
 use Rattle.std.specs.Prelude.{◌≡◌, ℕ, ◌+◌, ◌<◌, ◌≤◌, ◌^◌, Bool, true, false, not, ◌||◌, ◌==◌, if◌then◌else◌, List, [], ◌∷◌, ◌++◌}
-use Rattle.std.specs.Prelude.{length, take, drop, find, codes, bytes_eq, count_by, nat_lt, Option, Some, None, option_map, unwrap_or}
+use Rattle.std.specs.Prelude.{length, take, drop, find, codes, bytes_eq, count_by, nat_lt, Option, None, option_map, unwrap_or}
 use Rattle.std.specs.Prelude.{IsTrue}
 use Rattle.std.specs.List.{concat, list_all, list_any, take_while}
 use Rattle.std.proofs.Common.{sym, ◌∙◌, ap, refl, subst, arith}
-use Rattle.std.proofs.lemmas.Bool.{cond-false, lt-ltb}
+use Rattle.std.proofs.lemmas.Bool.{lt-ltb}
 use Rattle.std.proofs.lemmas.List.{append_assoc, append-nil, length-append}
 use Rattle.std.proofs.lemmas.List.Folds.{concat-append, list_any-append}
 use Rattle.std.proofs.Math.Seq.{drop-append-add, take-append-add}
 use Rattle.model.specs.Stream.{Octets, crlf, line, lines}
-use Rattle.model.specs.Names.{begins, is_blank, is_host}
+use Rattle.model.specs.Names.{is_host}
 use Rattle.model.specs.Calendar.{date_header}
 use Rattle.model.specs.Article.{Posted, body, body_lines, cause, cause_but_long, content, content_of, fields, has_empty_line, header}
 use Rattle.model.specs.Article.{continues, fields_of_lines, header_lines, injected, is_named, made_id}
 use Rattle.model.proofs.Fronts.{first_none}
 use Rattle.model.proofs.Ids.{HasNoCause, no_cause}
-use Rattle.model.proofs.Stored.{date_plain, fields_front, grouped, header_front, is_no_lf, lines_front, made_plain, no_lf, path_plain}
-use Rattle.model.proofs.Stored.{perhaps, stored}
+use Rattle.model.proofs.Stored.{Begins, begins_more, date_plain, grouped, header_front, is_no_lf, lines_front, made_plain, no_lf}
+use Rattle.model.proofs.Stored.{passed, path_plain, perhaps, stored}
 use Rattle.model.proofs.LineLaws.{lines-empty}
 use Rattle.text_fields.specs.Header.{IsHeader}
 use Rattle.text_article.specs.Stored.{added_to, field_line, front, path_of}
@@ -28,26 +28,15 @@ front_fields host serial moment fields =
     ++ perhaps (count_by (is_named (codes "Date")) fields == 0) (field_line (codes "Date") (date_header moment))
     ++ perhaps (count_by (is_named (codes "Message-ID")) fields == 0) (field_line (codes "Message-ID") (made_id host serial))
 
--- the fields of a text, none of which continues another
-record Begun (more : List Octets) (whole : Octets) : Type 0 where
-  pub starts : continues (header_lines whole) ≡ false
-  pub fields_are : fields whole ≡ more
-
-begun_none : Begun [] []
+no_fields : fields [] ≡ []
 unfolding fields_of_lines
-begun_none = record {
-  starts = ap (λ ls. continues (take_while (λ l. not (bytes_eq l crlf)) ls)) lines-empty;
-  fields_are = ap (λ ls. fields_of_lines (take_while (λ l. not (bytes_eq l crlf)) ls)) lines-empty;
-}
+no_fields = ap (λ ls. fields_of_lines (take_while (λ l. not (bytes_eq l crlf)) ls)) lines-empty
 
-begun_more : (b : Bool) (body whole : Octets) (more : List Octets) → list_all is_no_lf body ≡ true → bytes_eq (line body) crlf ≡ false
-    → begins is_blank (line body) ≡ false → Begun more whole
-    → Begun (perhaps b (line body) ++ more) ((if b then line body else []) ++ whole)
-begun_more true body whole more plain some unblank old = record {
-  starts = ap continues (header_front body whole plain some) ∙ unblank;
-  fields_are = fields_front body whole plain some old.starts ∙ ap (λ fs. line body ∷ fs) old.fields_are;
+begins_none : Begins [] [] []
+begins_none = record {
+  starts = ap (λ ls. continues (take_while (λ l. not (bytes_eq l crlf)) ls)) lines-empty;
+  fields_are = refl;
 }
-begun_more false body whole more plain some unblank old = old
 
 -- lines before a text
 pub record Behind (text : Octets) (more : List Octets) (whole : Octets) : Type 0 where
@@ -112,11 +101,6 @@ module _ (text whole front : Octets) (more : List Octets) (behind : Behind text 
   }
 
 -- ---- the stored text
-
-passed : (name f : Octets) (b : Bool) (rest : List Octets) → is_named name f ≡ false
-    → find (is_named name) (perhaps b f ++ rest) ≡ find (is_named name) rest
-passed name f true rest other = cond-false (is_named name f) (Some f) (find (is_named name) rest) other
-passed name f false rest other = refl
 
 but_none : (host text : Octets) (serial : ℕ) → cause (Posted host serial) text ≡ None → cause_but_long (Posted host serial) text ≡ None
 unfolding cause
@@ -212,12 +196,13 @@ module _ (host text : Octets) (serial moment : ℕ) (good : IsTrue (is_host host
   fields_are : fields whole ≡ all ++ fields text
   fields_are = (stored host text serial moment good small sound).fields_are
 
-  begun : Begun all ((if lacks (codes "Path") then line path_body else []) ++ ((if lacks (codes "Date") then line date_body else [])
+  begun : Begins [] all ((if lacks (codes "Path") then line path_body else []) ++ ((if lacks (codes "Date") then line date_body else [])
       ++ ((if lacks (codes "Message-ID") then line id_body else []) ++ [])))
   begun =
-      begun_more (lacks (codes "Path")) path_body _ _ (no_lf path_body (path_plain host good)) refl refl
-      (begun_more (lacks (codes "Date")) date_body _ _ (no_lf date_body (date_plain moment)) refl refl
-      (begun_more (lacks (codes "Message-ID")) id_body [] [] (no_lf id_body (made_plain host serial good small)) refl refl begun_none))
+      begins_more (lacks (codes "Path")) path_body [] _ _ (no_lf path_body (path_plain host good)) refl refl
+      (begins_more (lacks (codes "Date")) date_body [] _ _ (no_lf date_body (date_plain moment)) refl refl
+      (begins_more (lacks (codes "Message-ID")) id_body [] [] [] (no_lf id_body (made_plain host serial good small)) refl refl
+      begins_none))
 
   front_whole : (if lacks (codes "Path") then line path_body else []) ++ ((if lacks (codes "Date") then line date_body else [])
       ++ ((if lacks (codes "Message-ID") then line id_body else []) ++ [])) ≡ front host serial moment (fields text)
@@ -228,7 +213,10 @@ module _ (host text : Octets) (serial moment : ℕ) (good : IsTrue (is_host host
       ap (λ l. path ++ (date ++ l)) (append-nil id) ∙ sym (append_assoc path date id)
 
   pub injected_fields : fields (front host serial moment (fields text)) ++ fields text ≡ fields whole
-  injected_fields = ap (λ fs. fs ++ fields text) (ap fields (sym front_whole) ∙ begun.fields_are) ∙ sym fields_are
+  injected_fields =
+      ap (λ fs. fs ++ fields text)
+      (ap fields (sym front_whole) ∙ begun.fields_are ∙ ap (λ fs. all ++ fs) no_fields ∙ append-nil all)
+      ∙ sym fields_are
 
   pub injected_newsgroups : content (codes "Newsgroups") whole ≡ content (codes "Newsgroups") text
   injected_newsgroups =

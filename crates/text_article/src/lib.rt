@@ -2,7 +2,7 @@
 //! `specs/Article.antt` of the crate `model` defines each word.
 #![tactic(auto)]
 
-ghost use Rattle.std.specs.Prelude.{◌≡◌, IfOk, IfErr, OnOk, IsTrue, Some, None, length, option_map};
+ghost use Rattle.std.specs.Prelude.{◌≡◌, ◌++◌, IfOk, IfErr, OnOk, IsTrue, Some, None, length, option_map};
 ghost use Rattle.model.specs.Article as model_article;
 ghost use Rattle.model.specs.Names.{is_host};
 ghost use Rattle.text_fields.specs.Header.{IsHeader};
@@ -12,7 +12,6 @@ ghost use Rattle.model.specs.declared.cause.Cause.{Cause as CauseView};
 
 mod added_fields;
 mod causes;
-mod header;
 mod injected;
 mod origin;
 mod plain_parts;
@@ -22,7 +21,6 @@ pub use added_fields::made_id;
 use added_fields::{added_length, push_front};
 use causes::{copied_groups, field_cause, front_length, is_short};
 pub use causes::{HEADER_LIMIT, TEXT_LIMIT};
-pub use header::{Header, body_line_count};
 pub use injected::Injected;
 use model::{Cause, Moment, Text};
 pub use origin::{Origin, ReadError};
@@ -30,7 +28,7 @@ use plain_parts::Parts;
 use std::alloc::{AllocError, Global};
 use std::borrow::CowSlice;
 use std::marker::Model;
-use text_fields::{find_field, id_in_field, line_count, unfold, value_of};
+use text_fields::{find_field, id_in_field, line_count, push_content, unfold, value_of};
 pub use text_reading::Reading;
 
 /// A text that is an article, seen by contracts as its octets.
@@ -124,6 +122,14 @@ impl<'t> Article<'t> {
             Some(field) => Ok(Some(unfold(alloc, value_of(field))?)),
             None => Ok(None),
         }
+    }
+
+    /// Appends the content of the first field of this name, as `field` gives it, or nothing if there is none. Refused
+    /// only for want of memory; then any octets may follow those that were already there.
+    pub fn push_content(&self, octets: &mut Vec<u8>, name: &[u8]) -> Result<(), AllocError>
+        ensures { OnOk result (octets.new.items ≡ octets.old.items ++ model_article.content name.now self.now) }
+    {
+        push_content(octets, &self.fields, name)
     }
 
     /// The message-id. An article that was posted may have none.

@@ -4,7 +4,7 @@ use Rattle.std.proofs.Common.{◌∙◌, ap, sym, subst}
 use Rattle.std.proofs.NetLemmas.Theorems.{IsIpText_unique}
 use Rattle.std.specs.declared.net.ip_addr.IpAddr.{IpAddr}
 use Rattle.std.specs.Net.Grammar.{IsIpText}
-use Rattle.text_networks.specs.Proxies.{IsEnds, IsFrom, IsSaid, family_word}
+use Rattle.text_networks.specs.Proxies.{IsEnds, IsSaid, family_word}
 use Rattle.text_networks.specs.declared.proxies.Proxied.{Proxied}
 use Rattle.text_networks.specs.declared.proxies.Proxied.TheVariants.{From, Unknown}
 

@@ -1,6 +1,9 @@
 -- Networks, and the callers that they hold.
 use Rattle.std.specs.Prelude.{◌≡◌, ℕ, ◌-◌, ◌&&◌, ◌⊎◌, true, nat_le, List, [], ◌∷◌, take, Any, if◌then◌else◌}
 use Rattle.std.specs.declared.net.ip_addr.IpAddr.{IpAddr}
+use Rattle.std.specs.declared.net.socket_addr.SocketAddr.{SocketAddr}
+use Rattle.std.specs.Net.Socket.{socket_ip}
+use Rattle.text_networks.specs.declared.callers.Admitted.{Admitted}
 use Rattle.text_networks.specs.declared.prefixes.Network.{Network}
 use Rattle.std.specs.Net.Addr.{is_ipv4, HasPrefix, IsV6And, IsLoopbackV6}
 use Rattle.text_networks.specs.Addresses.{octets_of_ip, caller_octets, bits_of, is_ipv4_caller, is_mapped}
@@ -30,3 +33,8 @@ AnyHolds networks a = Any (λ n. Holds n a) networks
 -- a caller of this address is let in
 abbrev pub MayCall : List Network → IpAddr → Type 0
 MayCall networks a = IsLoopback a ⊎ AnyHolds networks a
+
+-- this caller, who may call
+pub record IsAdmitted (networks : List Network) (peer : SocketAddr) (caller : Admitted) : Type 0 where
+  pub address : caller.peer ≡ peer
+  pub may : MayCall networks (socket_ip peer)

@@ -2,8 +2,10 @@
 use Rattle.std.specs.Prelude.{◌≡◌, ℕ, ◌-◌, ◌≤◌, ◌==◌, nat_eq, List, [], ◌∷◌, length, take, codes, decimal, IsTrue}
 use Rattle.std.specs.List.{slice_split, ends_with}
 use Rattle.std.specs.declared.net.ip_addr.IpAddr.{IpAddr}
+use Rattle.std.specs.declared.net.socket_addr.SocketAddr.{SocketAddr}
 use Rattle.std.specs.declared.net.ip_addr.IpAddr.TheVariants.{V4, V6}
 use Rattle.std.specs.Net.Grammar.{IsIpText}
+use Rattle.std.specs.Net.Socket.{socket_ip, socket_port}
 use Rattle.text_networks.specs.declared.proxies.Proxied.{Proxied}
 use Rattle.text_networks.specs.declared.proxies.Proxied.TheVariants.{From, Unknown}
 
@@ -51,3 +53,8 @@ pub record IsProxyLine (line : List ℕ) (proxied : Proxied) : Type 0 where
   pub few : length line ≤ 107
   pub ends_line : IsTrue (ends_with nat_eq line (codes "\r\n"))
   pub text : IsProxyText (take (length line - 2) line) proxied
+
+-- the caller for whom a proxy connects: the one that it names, or the proxy itself where it names none
+abbrev pub IsOfProxy : SocketAddr → Proxied → SocketAddr → Type 0
+IsOfProxy proxy (From address port) peer = (socket_ip peer ≡ address) × (socket_port peer ≡ port)
+IsOfProxy proxy Unknown peer = peer ≡ proxy

@@ -10,7 +10,7 @@ mod numerals;
 mod prefixes;
 mod proxies;
 
-pub use callers::{is_loopback, may_call};
+pub use callers::{Admitted, admit, admit_proxied, is_loopback};
 pub use endpoints::read_endpoint;
 pub use guests::{Guest, Guests, NoSeat, same_home};
 pub use prefixes::Network;

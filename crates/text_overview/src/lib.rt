@@ -3,13 +3,12 @@
 
 ghost use Rattle.std.specs.Prelude.{◌≡◌, ◌==◌, ◌++◌, codes, decimal, if◌then◌else◌, map, IfOk, OnOk};
 ghost use Rattle.model.specs.Article.{fields, overview_field, overview_line};
-ghost use Rattle.text_article.specs.Causes.{content_in};
 ghost use Rattle.text_overview.specs.Rest.{shown_fields};
 
 use itoa::Buffer;
 use std::alloc::{AllocError, Global};
 use std::marker::Model;
-use text_article::{Article, Header, body_line_count};
+use text_article::Article;
 
 const TAB: u8 = b'\t';
 
@@ -69,45 +68,6 @@ pub fn line(alloc: Global, number: u64, article: &Article<'_>) -> Result<Vec<u8>
     ensures { IfOk result (λ line. line.items ≡ overview_line number article.now) }
 {
     Overview::new(alloc, article)?.line(alloc, number)
-}
-
-/// Appends the line of a text, whether or not it is an article, with this number. It has no CRLF. Refused only for want
-/// of memory; then any octets may follow those that were already there.
-pub fn push_line(
-    alloc: Global,
-    line: &mut Vec<u8>,
-    number: u64,
-    text: &[u8],
-) -> Result<(), AllocError>
-    ensures { OnOk result (line.new.items ≡ line.old.items ++ overview_line number text.now) }
-{
-    let header = Header::read(alloc, text)?;
-    push_number(line, number)?;
-    push_contents(line, &header)?;
-    push_sizes(line, text.len(), body_line_count(text))
-}
-
-/// Appends the contents that the overview shows of a header, each after a TAB.
-fn push_contents(line: &mut Vec<u8>, header: &Header<'_>) -> Result<(), AllocError>
-    ensures { OnOk result (line.new.items ≡ line.old.items ++ shown_fields header.now) }
-{
-    push_content(line, header, b"Subject")?;
-    push_content(line, header, b"From")?;
-    push_content(line, header, b"Date")?;
-    push_content(line, header, b"Message-ID")?;
-    push_content(line, header, b"References")
-}
-
-/// Appends a TAB and the content of the field of this name, or only the TAB if the header has none.
-fn push_content(line: &mut Vec<u8>, header: &Header<'_>, name: &[u8]) -> Result<(), AllocError>
-    ensures { OnOk result (line.new.items ≡ line.old.items ++ codes "\t" ++ map (λ octet. if octet == 9 then 32 else octet)
-        (content_in name.now header.now)) }
-{
-    line.push(TAB)?;
-    let start = line.len();
-    header.push_content(line, name)?;
-    replace_tabs(&mut line[start..]);
-    Ok(())
 }
 
 /// Appends the contents that the overview shows of an article, each after a TAB.

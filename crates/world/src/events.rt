@@ -62,13 +62,13 @@ pub enum StepError {
     /// An allocation was refused in this call, and nothing changed.
     #[error("E2 Memory")]
     Memory,
-    /// An earlier device fault has halted the journal or the kernel.
+    /// The journal or the kernel is halted, by an earlier device fault or by a stop.
     #[error("E4 Halted")]
     Halted,
     /// There is no room for the change.
     #[error("E6 Full")]
     Full,
-    /// 64 sessions exist, or the greatest u64 was used as a session's number.
+    /// As many sessions exist as may, or the greatest u64 was used as a session's number.
     #[error("E7 TooManySessions")]
     TooManySessions,
     /// Too many blocks are dirty: ask again after a batch is taken.

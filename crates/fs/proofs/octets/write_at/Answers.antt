@@ -18,7 +18,9 @@ use Rattle.fs.proofs.Composing.{lowest_after, lowest_same, still_file, still_roo
 use Rattle.fs_layout.proofs.Tables.{no_slot, there_from_slot, there_once, file_from_slot}
 use Rattle.fs_layout.specs.Touches.{Touches, blocks_reached, touched_by_growth, touched_by_write}
 use Rattle.fs_layout.proofs.Touching.{touches_then, touches_more}
+use Rattle.fs.proofs.octets.write_at.Given.{Over}
 use Rattle.fs.proofs.octets.write_at.Goals as goal
+use Rattle.fs.proofs.octets.write_at.Goals.{In-Some}
 
 module _ (inodes at place : ℕ) (name : List ℕ) (old : List (List ℕ)) (room : HasRoom inodes old) (fs : IsFileSystem inodes old)
     (low : at < inodes) where
@@ -36,6 +38,20 @@ module _ (inodes at place : ℕ) (name : List ℕ) (old : List (List ℕ)) (room
   same_size front mid fits done =
       size_now inodes at (overwritten place front (content_of old (entry inodes old at))) old mid low done
       ∙ length-overwritten place front (content_of old (entry inodes old at)) (omega (arith, fits, long)) ∙ long
+
+-- the file that was found
+there_now : (g : Over) (c : In-Some g)
+    → IsFileAt (table c.args.inodes (g.B.Blocks.blocks c.args.blocks.now)) c.in-Some.at c.args.name.now
+    (content_of (g.B.Blocks.blocks c.args.blocks.now) (entry c.args.inodes (g.B.Blocks.blocks c.args.blocks.now) c.in-Some.at))
+there_now g c =
+    there_from_slot c.args.inodes (g.B.Blocks.blocks c.args.blocks.now) c.requires.rule c.in-Some.at c.args.name.now c.in-Some.ensures.below
+    c.requires.name.0 (c.in-Some.ensures.is ∙ c.slot_for.ensures)
+
+place_in : (g : Over) (c : In-Some g)
+    → c.args.place ≤ size (entry c.args.inodes (g.B.Blocks.blocks c.args.blocks.now) c.in-Some.at)
+place_in g c =
+    inside c.args.inodes c.in-Some.at c.args.place c.args.name.now (g.B.Blocks.blocks c.args.blocks.now) c.requires.room c.requires.rule
+    c.in-Some.ensures.below (there_now g c) c.requires.place
 
 -- octets in two pieces
 split_reach : (size place within count : ℕ) → within ≤ count → size ≡ place + within
@@ -66,10 +82,7 @@ pub overflow_add-end : goal.overflow_add-end
 overflow_add-end g c =
     let old = g.B.Blocks.blocks c.args.blocks.now in
     let found = c.in-Some.ensures in
-    let there = there_from_slot c.args.inodes old c.requires.rule c.in-Some.at c.args.name.now found.below c.requires.name.0 (found.is
-    ∙ c.slot_for.ensures) in
-    let low = inside c.args.inodes c.in-Some.at c.args.place c.args.name.now old c.requires.room c.requires.rule found.below there
-    c.requires.place in
+    let low = place_in g (goal.at.overflow_add-end g c).In-Some in
     let small = (file_from_slot c.args.inodes old c.requires.rule c.in-Some.at c.args.name.now found.below c.requires.name.0 (found.is
     ∙ c.slot_for.ensures)).small in
     omega (arith, low, small)
@@ -77,12 +90,10 @@ overflow_add-end g c =
 pub returns-then-end-size-clause-written : goal.returns-then-end-size-clause-written
 returns-then-end-size-clause-written g c =
     let old = g.B.Blocks.blocks c.args.blocks.now in
-    let found = c.in-Some.ensures in
     let done = c.in_ok-overwrite.ensures.done in (
       c.in-Some.at,
       content_of old (entry c.args.inodes old c.in-Some.at),
-      there_from_slot c.args.inodes old c.requires.rule c.in-Some.at c.args.name.now found.below c.requires.name.0 (found.is
-          ∙ c.slot_for.ensures),
+      there_now g (goal.at.returns-then-end-size-clause-written g c).In-Some,
       done,
       lowest_same old (g.B.Blocks.blocks c.overwrite.new.blocks) c.in_ok-overwrite.ensures.marks,
     )
@@ -96,8 +107,7 @@ returns-then-not-has_room_for-clause-full g c =
     λ e. (
       c.in-Some.at,
       content_of old (entry c.args.inodes old c.in-Some.at),
-      there_from_slot c.args.inodes old c.requires.rule c.in-Some.at c.args.name.now found.below c.requires.name.0 (found.is
-          ∙ c.slot_for.ensures),
+      there_now g (goal.at.returns-then-not-has_room_for-clause-full g c).In-Some,
       subst (λ (n : ℕ). HasNoRoomFor c.args.format old n (c.args.place + length c.args.octets.now)) is
           (OnFalse_at c.if-not-has_room_for.true c.has_room_for.ensures.full),
       refl,
@@ -105,23 +115,13 @@ returns-then-not-has_room_for-clause-full g c =
 
 pub overflow_sub-within : goal.overflow_sub-within
 overflow_sub-within g c =
-    let old = g.B.Blocks.blocks c.args.blocks.now in
-    let found = c.in-Some.ensures in
-    let there = there_from_slot c.args.inodes old c.requires.rule c.in-Some.at c.args.name.now found.below c.requires.name.0 (found.is
-    ∙ c.slot_for.ensures) in
-    let low = inside c.args.inodes c.in-Some.at c.args.place c.args.name.now old c.requires.room c.requires.rule found.below there
-    c.requires.place in
+    let low = place_in g (goal.at.overflow_sub-within g c).In-Some in
     let is = c.size_of-size.ensures in
     omega (arith, low, is)
 
 pub overwrite-requires-2-clause-fits : goal.overwrite-requires-2-clause-fits
 overwrite-requires-2-clause-fits g c =
-    let old = g.B.Blocks.blocks c.args.blocks.now in
-    let found = c.in-Some.ensures in
-    let there = there_from_slot c.args.inodes old c.requires.rule c.in-Some.at c.args.name.now found.below c.requires.name.0 (found.is
-    ∙ c.slot_for.ensures) in
-    let low = inside c.args.inodes c.in-Some.at c.args.place c.args.name.now old c.requires.room c.requires.rule found.below there
-    c.requires.place in
+    let low = place_in g (goal.at.overwrite-requires-2-clause-fits g c).In-Some in
     let is = c.size_of-size.ensures in
     let front = length-take-le (c.size_of-size.result - c.args.place) c.args.octets.now (omega arith) in
     omega (arith, low, is, front)
@@ -130,10 +130,7 @@ pub extend-requires-clause-file : goal.extend-requires-clause-file
 extend-requires-clause-file g c =
     let old = g.B.Blocks.blocks c.args.blocks.now in
     let found = c.in-Some.ensures in
-    let there = there_from_slot c.args.inodes old c.requires.rule c.in-Some.at c.args.name.now found.below c.requires.name.0 (found.is
-    ∙ c.slot_for.ensures) in
-    let low = inside c.args.inodes c.in-Some.at c.args.place c.args.name.now old c.requires.room c.requires.rule found.below there
-    c.requires.place in
+    let low = place_in g (goal.at.extend-requires-clause-file g c).In-Some in
     let is = c.size_of-size.ensures in
     still_file c.args.inodes c.in-Some.at c.args.place c.args.octets.now c.args.name.now old
     (g.B.Blocks.blocks c.overwrite-2.new.blocks) c.requires.room c.requires.rule found.below low
@@ -144,10 +141,7 @@ pub extend-requires-clause-enough : goal.extend-requires-clause-enough
 extend-requires-clause-enough g c =
     let old = g.B.Blocks.blocks c.args.blocks.now in
     let found = c.in-Some.ensures in
-    let there = there_from_slot c.args.inodes old c.requires.rule c.in-Some.at c.args.name.now found.below c.requires.name.0 (found.is
-    ∙ c.slot_for.ensures) in
-    let low = inside c.args.inodes c.in-Some.at c.args.place c.args.name.now old c.requires.room c.requires.rule found.below there
-    c.requires.place in
+    let low = place_in g (goal.at.extend-requires-clause-enough g c).In-Some in
     let is = c.size_of-size.ensures in
     still_room c.args.inodes c.in-Some.at c.args.place c.args.octets.now c.args.name.now old
     (g.B.Blocks.blocks c.overwrite-2.new.blocks) c.requires.room c.requires.rule found.below low
@@ -161,15 +155,12 @@ returns-clause-written g c =
     let mid = g.B.Blocks.blocks c.overwrite-2.new.blocks in
     let new = g.B.Blocks.blocks c.extend.new.blocks in
     let found = c.in-Some.ensures in
-    let there = there_from_slot c.args.inodes old c.requires.rule c.in-Some.at c.args.name.now found.below c.requires.name.0 (found.is
-    ∙ c.slot_for.ensures) in
-    let low = inside c.args.inodes c.in-Some.at c.args.place c.args.name.now old c.requires.room c.requires.rule found.below there
-    c.requires.place in
+    let low = place_in g (goal.at.returns-clause-written g c).In-Some in
     let is = c.size_of-size.ensures in
     let grows = c.in_ok-extend.ensures.grown in (
       c.in-Some.at,
       content_of old (entry c.args.inodes old c.in-Some.at),
-      there,
+      there_now g (goal.at.returns-clause-written g c).In-Some,
       written_past c.args.inodes c.in-Some.at c.args.place c.args.octets.now c.args.name.now old mid c.requires.room c.requires.rule
           found.below low (omega (arith, is)) c.size_of-size.result (c.size_of-size.result - c.args.place) is refl
           c.in_ok-overwrite-2.ensures.done c.in_ok-overwrite-2.ensures.marks new grows,
@@ -200,9 +191,7 @@ returns-clause-touches g c k content named =
     let octets = c.args.octets.now in
     let within = c.size_of-size.result - place in
     let found = c.in-Some.ensures in
-    let there = there_from_slot c.args.inodes old c.requires.rule at c.args.name.now found.below c.requires.name.0 (found.is
-    ∙ c.slot_for.ensures) in
-    let low = inside c.args.inodes at place c.args.name.now old c.requires.room c.requires.rule found.below there c.requires.place in
+    let low = place_in g (goal.at.returns-clause-touches g c).In-Some in
     let is = c.size_of-size.ensures in
     let front : length (take within octets) ≡ within = length-take-le within octets (omega arith) in
     let rest : length (take (length octets - within) (drop within octets)) ≡ length octets - within =
@@ -215,7 +204,8 @@ returns-clause-touches g c k content named =
     let second : Touches (touched_by_growth (place + within) (length octets - within)) mid new =
     subst (λ (n : ℕ). Touches (touched_by_growth n (length octets - within)) mid new) sized
     (subst (λ (n : ℕ). Touches (touched_by_growth (size (entry c.args.inodes mid at)) n) mid new) rest c.in_ok-extend.ensures.touches) in
-    let its = its_size c.args.inodes at k c.args.name.now content old c.requires.room c.requires.rule found.below there named in
+    let its = its_size c.args.inodes at k c.args.name.now content old c.requires.room c.requires.rule found.below (there_now g
+    (goal.at.returns-clause-touches g c).In-Some) named in
     touches_more (blocks_reached place within + touched_by_growth (place + within) (length octets - within))
     (touched_by_write (length content) place (length octets)) old new
     (split_reach (length content) place within (length octets) (omega arith) (omega (arith, its, low, is)))
@@ -244,9 +234,7 @@ returns-clause-format g c =
     let octets = c.args.octets.now in
     let within = c.size_of-size.result - place in
     let found = c.in-Some.ensures in
-    let there = there_from_slot c.args.inodes old c.requires.rule at c.args.name.now found.below c.requires.name.0 (found.is
-    ∙ c.slot_for.ensures) in
-    let low = inside c.args.inodes at place c.args.name.now old c.requires.room c.requires.rule found.below there c.requires.place in
+    let low = place_in g (goal.at.returns-clause-format g c).In-Some in
     let is = c.size_of-size.ensures in
     let front : length (take within octets) ≡ within = length-take-le within octets (omega arith) in
     let rest : length (take (length octets - within) (drop within octets)) ≡ length octets - within =

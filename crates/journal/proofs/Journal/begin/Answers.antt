@@ -5,37 +5,24 @@ use Rattle.journal.proofs.Journal.begin.Goals as goal
 
 pub invariant_of-self : goal.invariant_of-self
 invariant_of-self g c =
-    let v = c.self.inside in
-    begun_kept g.row.D.Denot g.D.Disk.device v.disk v.blocks v.superblock.items v.room.items c.fill.new.room.items v.filled
-    c.lowest_closed-filled.result v.is_last c.are_all-self-inside.result v.next v.halted c.args.last c.args.numbers.now
-    c.args.images.now c.self.invariant
+    begun_kept g.row.D.Denot g.D.Disk.device c.self.inside.disk _ _ _ _ _ _ _ _ _ _ _ _ _ c.self.invariant
     (subst (λ (j : JournalView g.row.D.Denot). MayBegin j c.args.numbers.now c.args.images.now) (sym c.self.view_is) c.requires)
     c.lowest_closed-filled.ensures c.fill.ensures.count c.fill.ensures.others c.fill.ensures.taken c.are_all-self-inside.ensures
 
 pub returns-clause-begins : goal.returns-clause-begins
 returns-clause-begins g c =
-    let v = c.self.inside in
-    rw (← c.self.view_is) (begun_as g.row.D.Denot g.D.Disk.device v.disk v.blocks v.superblock.items v.room.items c.fill.new.room.items
-    v.filled
-    c.lowest_closed-filled.result v.is_last c.are_all-self-inside.result v.next v.halted c.args.last c.args.numbers.now
-    c.args.images.now c.self.invariant
+    rw (← c.self.view_is) (begun_as g.row.D.Denot g.D.Disk.device c.self.inside.disk _ _ _ _ _ _ _ _ _ _ _ _ _ c.self.invariant
     (subst (λ (j : JournalView g.row.D.Denot). MayBegin j c.args.numbers.now c.args.images.now) (sym c.self.view_is) c.requires)
     c.lowest_closed-filled.ensures c.fill.ensures.count c.fill.ensures.others c.fill.ensures.taken c.are_all-self-inside.ensures)
 
 pub returns-clause-place : goal.returns-clause-place
 returns-clause-place g c =
-    let v = c.self.inside in
-    begun_next g.row.D.Denot g.D.Disk.device v.disk v.blocks v.superblock.items v.room.items c.fill.new.room.items v.filled
-    c.lowest_closed-filled.result v.is_last c.are_all-self-inside.result v.next v.halted c.args.last c.args.numbers.now
-    c.args.images.now c.self.invariant
+    begun_next g.row.D.Denot g.D.Disk.device c.self.inside.disk _ _ _ _ _ _ _ _ _ _ _ _ _ c.self.invariant
     (subst (λ (j : JournalView g.row.D.Denot). MayBegin j c.args.numbers.now c.args.images.now) (sym c.self.view_is) c.requires)
     c.lowest_closed-filled.ensures c.fill.ensures.count c.fill.ensures.others c.fill.ensures.taken c.are_all-self-inside.ensures
 
 pub returns-clause-now : goal.returns-clause-now
 returns-clause-now g c =
-    let v = c.self.inside in
-    begun_admits g.row.D.Denot g.D.Disk.device v.disk v.blocks v.superblock.items v.room.items c.fill.new.room.items v.filled
-    c.lowest_closed-filled.result v.is_last c.are_all-self-inside.result v.next v.halted c.args.last c.args.numbers.now
-    c.args.images.now c.self.invariant
+    begun_admits g.row.D.Denot g.D.Disk.device c.self.inside.disk _ _ _ _ _ _ _ _ _ _ _ _ _ c.self.invariant
     (subst (λ (j : JournalView g.row.D.Denot). MayBegin j c.args.numbers.now c.args.images.now) (sym c.self.view_is) c.requires)
     c.lowest_closed-filled.ensures c.fill.ensures.count c.fill.ensures.others c.fill.ensures.taken c.are_all-self-inside.ensures

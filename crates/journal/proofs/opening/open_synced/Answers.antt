@@ -1,67 +1,35 @@
-use Rattle.std.proofs.Common.{◌≡◌, ◌≢◌, ◌+◌, IsTrue, refl, sym, ◌∙◌, subst}
+use Rattle.std.proofs.Common.{◌≡◌, ◌≢◌, ◌+◌, refl, sym, ◌∙◌}
 use Rattle.std.proofs.lemmas.Result.{IfOk-weaker}
-use Rattle.disk.specs.Device.{Elapses}
-use Rattle.journal_segments.specs.Found.{IsQuiet, IsStill}
-use Rattle.journal.specs.Inside.{IsVolume, LeftAs}
 use Rattle.std.specs.List.{sum}
-use Rattle.journal.specs.Journal.{IsCaused, IsDuring, IsReady, JournalView, sizes}
+use Rattle.journal.specs.Journal.{JournalView, sizes}
 use Rattle.journal.specs.Opening.{Opens, Refuses}
 use Rattle.journal.specs.Order.{closings}
-use Rattle.model.specs.Volume.{StandsFor, format_number, open_segments}
 use Rattle.journal.specs.declared.JournalError.{JournalError}
 use Rattle.journal.specs.declared.JournalError.TheVariants.{Fault, Memory, NotAVolume, Halted}
 use Rattle.journal_segments.specs.declared.SegmentError.{SegmentError}
 use Rattle.journal_segments.specs.declared.SegmentError.TheVariants.{Fault as ReadFault, NotAVolume as ReadNotAVolume}
 use Rattle.journal.specs.declared.Refused.{Refused}
-use Rattle.journal.specs.Opening.{Costs, IsMore, home_syncs, home_writes}
+use Rattle.journal.specs.Opening.{Costs}
 use Rattle.journal.proofs.Found.{costs_none, costs_replayed, opens_replayed, refuses_replayed, refuses_found, err_weaker_both}
 use Rattle.journal.proofs.opening.open_synced.Goals as goal
 
 pub returns-in-Ok-clause-ok : goal.returns-in-Ok-clause-ok
 returns-in-Ok-clause-ok g c =
-    let device = g.D.Disk.device in
-    let journal = c.to_be_replayed.result in
-    let quiet = subst (λ (d : g.row.D.Denot). IsQuiet (g.D.Disk.device c.args.disk) (g.D.Disk.device d))
-    (sym c.to_be_replayed.ensures.disk) c.load.ensures.quiet in
-    let still = subst (λ (d : g.row.D.Denot). IsStill (g.D.Disk.device c.args.disk) (g.D.Disk.device d))
-    (sym c.to_be_replayed.ensures.disk) c.in-Ok.ensures.still in
-    let stands = subst (λ (d : g.row.D.Denot). IsTrue (g.D.Disk.device d).tells
-    → StandsFor (g.D.Disk.device d).content c.to_be_replayed.result.label c.to_be_replayed.result.blocks)
-    (sym c.to_be_replayed.ensures.disk) c.to_be_replayed.ensures.stands in
-    let format = subst (λ (d : g.row.D.Denot). IsTrue (g.D.Disk.device d).tells
-    → format_number (g.D.Disk.device d).content ≡ c.to_be_replayed.result.format)
-    (sym c.to_be_replayed.ensures.disk) c.to_be_replayed.ensures.format in
-    IfOk-weaker c.replay.result (λ (after : JournalView g.row.D.Denot). IsReady after
-    × IsDuring g.D.Disk.device c.to_be_replayed.result after
-    × ((g.D.Disk.device after.disk).failures ≡ (g.D.Disk.device c.to_be_replayed.result.disk).failures))
-    (Opens g.D.Disk.device c.args.disk)
-    (λ after h. opens_replayed g.D.Disk.device c.args.disk c.to_be_replayed.result quiet still stands c.to_be_replayed.ensures.whole format
-    c.to_be_replayed.ensures.rest after h.0 h.1 h.2)
+    let same = c.to_be_replayed.ensures.disk in
+    IfOk-weaker c.replay.result _ (Opens g.D.Disk.device c.args.disk)
+    (λ after h. opens_replayed g.D.Disk.device c.args.disk c.to_be_replayed.result (rw same c.load.ensures.quiet)
+    (rw same c.in-Ok.ensures.still) (rw same c.to_be_replayed.ensures.stands) c.to_be_replayed.ensures.whole
+    (rw same c.to_be_replayed.ensures.format) c.to_be_replayed.ensures.rest after h.0 h.1 h.2)
     c.replay.ensures.ok
 
 pub returns-in-Ok-clause-err : goal.returns-in-Ok-clause-err
 returns-in-Ok-clause-err g c =
-    let quiet = subst (λ (d : g.row.D.Denot). IsQuiet (g.D.Disk.device c.args.disk) (g.D.Disk.device d))
-    (sym c.to_be_replayed.ensures.disk) c.load.ensures.quiet in
-    let still = subst (λ (d : g.row.D.Denot). IsStill (g.D.Disk.device c.args.disk) (g.D.Disk.device d))
-    (sym c.to_be_replayed.ensures.disk) c.in-Ok.ensures.still in
-    let stands = subst (λ (d : g.row.D.Denot). IsTrue (g.D.Disk.device d).tells
-    → StandsFor (g.D.Disk.device d).content c.to_be_replayed.result.label c.to_be_replayed.result.blocks)
-    (sym c.to_be_replayed.ensures.disk) c.to_be_replayed.ensures.stands in
-    let format = subst (λ (d : g.row.D.Denot). IsTrue (g.D.Disk.device d).tells
-    → format_number (g.D.Disk.device d).content ≡ c.to_be_replayed.result.format)
-    (sym c.to_be_replayed.ensures.disk) c.to_be_replayed.ensures.format in
-    err_weaker_both c.replay.result
-    (λ (refused : Refused g.row.D.Denot). IsCaused refused.error (g.D.Disk.device c.to_be_replayed.result.disk)
-    (g.D.Disk.device refused.disk) × Elapses (g.D.Disk.device c.to_be_replayed.result.disk) (g.D.Disk.device refused.disk)
-    × LeftAs (g.D.Disk.device c.to_be_replayed.result.disk) (g.D.Disk.device refused.disk) c.to_be_replayed.result.format
-    c.to_be_replayed.result.label c.to_be_replayed.result.blocks)
-    (λ (refused : Refused g.row.D.Denot). IsTrue (g.D.Disk.device c.to_be_replayed.result.disk).tells
-    → IsVolume c.to_be_replayed.result.format c.to_be_replayed.result.label c.to_be_replayed.result.blocks
-    (g.D.Disk.device refused.disk).content)
+    let same = c.to_be_replayed.ensures.disk in
+    err_weaker_both c.replay.result _ _
     (λ (refused : Refused g.row.D.Denot). Refuses g.D.Disk.device c.args.disk refused.disk refused.error)
-    (λ refused h holds. refuses_replayed g.D.Disk.device c.args.disk c.to_be_replayed.result quiet still stands
-    c.to_be_replayed.ensures.whole format refused.disk refused.error h.0 h.1 h.2 holds)
+    (λ refused h holds. refuses_replayed g.D.Disk.device c.args.disk c.to_be_replayed.result
+    (rw same c.load.ensures.quiet) (rw same c.in-Ok.ensures.still) (rw same c.to_be_replayed.ensures.stands)
+    c.to_be_replayed.ensures.whole (rw same c.to_be_replayed.ensures.format) refused.disk refused.error h.0 h.1 h.2 holds)
     c.replay.ensures.err c.replay.ensures.left
 
 -- a read's refusal, as the journal's
@@ -91,35 +59,18 @@ returns-in-Err-clause-err g c =
 
 pub returns-in-Ok-clause-cost : goal.returns-in-Ok-clause-cost
 returns-in-Ok-clause-cost g c t =
-    let found = c.to_be_replayed.result in
-    let device = g.D.Disk.device in
-    let quiet = subst (λ (d : g.row.D.Denot). IsQuiet (g.D.Disk.device c.args.disk) (g.D.Disk.device d))
-    (sym c.to_be_replayed.ensures.disk) c.load.ensures.quiet in
-    let still = subst (λ (d : g.row.D.Denot). IsStill (g.D.Disk.device c.args.disk) (g.D.Disk.device d))
-    (sym c.to_be_replayed.ensures.disk) c.in-Ok.ensures.still in
-    let writes = subst (λ (d : g.row.D.Denot). IsTrue (g.D.Disk.device d).tells
-    → home_writes (g.D.Disk.device d).content (open_segments (g.D.Disk.device d).content)
-    ≡ sum (sizes c.to_be_replayed.result).counts + closings (sizes c.to_be_replayed.result))
-    (sym c.to_be_replayed.ensures.disk) c.to_be_replayed.ensures.open in
-    let syncs = subst (λ (d : g.row.D.Denot). IsTrue (g.D.Disk.device d).tells
-    → home_syncs (g.D.Disk.device d).content (open_segments (g.D.Disk.device d).content) ≡ 1 + closings (sizes c.to_be_replayed.result))
-    (sym c.to_be_replayed.ensures.disk) c.to_be_replayed.ensures.syncs in
-    IfOk-weaker c.replay.result (λ (after : JournalView g.row.D.Denot). IsMore
-    (sum (sizes c.to_be_replayed.result).counts + closings (sizes c.to_be_replayed.result))
-    (g.D.Disk.device c.to_be_replayed.result.disk).writes
-    (g.D.Disk.device after.disk).writes × IsMore (1 + closings (sizes c.to_be_replayed.result))
-    (g.D.Disk.device c.to_be_replayed.result.disk).syncs (g.D.Disk.device after.disk).syncs)
+    let same = c.to_be_replayed.ensures.disk in
+    IfOk-weaker c.replay.result _
     (λ (after : JournalView g.row.D.Denot). Costs 0 (g.D.Disk.device c.args.disk).content (g.D.Disk.device c.args.disk)
     (g.D.Disk.device after.disk))
     (λ after h. costs_replayed (g.D.Disk.device c.args.disk) (g.D.Disk.device c.to_be_replayed.result.disk) (g.D.Disk.device after.disk)
     (sum (sizes c.to_be_replayed.result).counts + closings (sizes c.to_be_replayed.result))
-    (1 + closings (sizes c.to_be_replayed.result)) quiet
-    still writes syncs h.0 h.1 t)
+    (1 + closings (sizes c.to_be_replayed.result)) (rw same c.load.ensures.quiet)
+    (rw same c.in-Ok.ensures.still) (rw same c.to_be_replayed.ensures.open) (rw same c.to_be_replayed.ensures.syncs) h.0 h.1 t)
     c.replay.ensures.cost
 
 pub returns-in-Ok-default-eq0-clause-cost : goal.returns-in-Ok-default-eq0-clause-cost
 returns-in-Ok-default-eq0-clause-cost g c =
-    subst (λ (d : g.row.D.Denot). IsTrue (g.D.Disk.device c.args.disk).tells
-    → Costs 0 (g.D.Disk.device c.args.disk).content (g.D.Disk.device c.args.disk) (g.D.Disk.device d)) (sym c.at_rest.ensures.disk)
+    rw c.at_rest.ensures.disk
     (costs_none (g.D.Disk.device c.args.disk) (g.D.Disk.device c.load.new.disk) c.load.ensures.quiet c.in-Ok-default-eq0.ensures.still
     c.at_rest.ensures.none)

@@ -3,10 +3,9 @@ use Rattle.std.specs.List.{All, flat_map}
 use Rattle.std.proofs.lemmas.List.Elements.{All-from_get_or}
 use Rattle.byteorder.specs.Endian.{little_bytes}
 use Rattle.disk.specs.Image.{overwritten}
-use Rattle.model.specs.Volume.{number_at, listed}
-use Rattle.journal_layout.proofs.Numbers.{described, described_number, described_last, described_count, described_zero, described_listed}
-use Rattle.journal_layout.proofs.Numbers.{described_whole}
+use Rattle.journal_layout.proofs.Numbers.{IsDescribed, described, is_described}
 use Rattle.journal_layout.proofs.descriptor.describe.Goals as goal
+use Rattle.journal_layout.proofs.descriptor.describe.Goals.{After-put_numbers}
 
 -- the five writes one after the other
 written : (old a b c d e : List ℕ) (number last : ℕ) (ns : List ℕ) → a ≡ overwritten 0 (little_bytes 8 number) old
@@ -23,56 +22,30 @@ written old a b c d e number last ns ea eb ec ed ee whole few small_number small
 small_numbers : (ns : List ℕ) → ((k : ℕ) → get_or ns k 0 < 2 ^ 32) → All (λ n. n < 256 ^ 4) ns
 small_numbers ns each = All-from_get_or (λ n. n < 256 ^ 4) ns 0 (λ k within. omega (arith, each k))
 
-pub returns-clause-number : goal.returns-clause-number
-returns-clause-number c =
+described_all : (c : After-put_numbers)
+    → IsDescribed c.args.number c.args.last c.args.numbers.now c.args.descriptor.now c.put_numbers.new.octets
+described_all c =
     let small = small_numbers c.args.numbers.now (λ k. omega (arith, c.type_inv.numbers k)) in
     let fits : c.args.last < 256 ^ 8 = omega (arith, c.ranges.last.fits) in
     let its_number : c.args.number < 256 ^ 8 = omega (arith, c.ranges.number.fits) in
-    ap (number_at 0 8) (written _ _ _ _ _ _ c.args.number c.args.last c.args.numbers.now c.put64.ensures c.put64-2.ensures c.put32.ensures
-    c.put32-2.ensures c.put_numbers.ensures c.requires.whole c.requires.few its_number fits small)
-    ∙ described_number _ _ _ _ c.requires.whole c.requires.few its_number fits small
+    is_described c.args.descriptor.now c.args.number c.args.last c.args.numbers.now c.requires.whole c.requires.few its_number fits small _
+    (written _ _ _ _ _ _ c.args.number c.args.last c.args.numbers.now c.put64.ensures c.put64-2.ensures c.put32.ensures c.put32-2.ensures
+    c.put_numbers.ensures c.requires.whole c.requires.few its_number fits small)
+
+pub returns-clause-number : goal.returns-clause-number
+returns-clause-number c = (described_all (goal.at.returns-clause-number c).After-put_numbers).number_is
 
 pub returns-clause-last : goal.returns-clause-last
-returns-clause-last c =
-    let small = small_numbers c.args.numbers.now (λ k. omega (arith, c.type_inv.numbers k)) in
-    let fits : c.args.last < 256 ^ 8 = omega (arith, c.ranges.last.fits) in
-    let its_number : c.args.number < 256 ^ 8 = omega (arith, c.ranges.number.fits) in
-    ap (number_at 8 8) (written _ _ _ _ _ _ c.args.number c.args.last c.args.numbers.now c.put64.ensures c.put64-2.ensures c.put32.ensures
-    c.put32-2.ensures c.put_numbers.ensures c.requires.whole c.requires.few its_number fits small)
-    ∙ described_last _ _ _ _ c.requires.whole c.requires.few its_number fits small
+returns-clause-last c = (described_all (goal.at.returns-clause-last c).After-put_numbers).last_is
 
 pub returns-clause-count : goal.returns-clause-count
-returns-clause-count c =
-    let small = small_numbers c.args.numbers.now (λ k. omega (arith, c.type_inv.numbers k)) in
-    let fits : c.args.last < 256 ^ 8 = omega (arith, c.ranges.last.fits) in
-    let its_number : c.args.number < 256 ^ 8 = omega (arith, c.ranges.number.fits) in
-    ap (number_at 16 4) (written _ _ _ _ _ _ c.args.number c.args.last c.args.numbers.now c.put64.ensures c.put64-2.ensures c.put32.ensures
-    c.put32-2.ensures c.put_numbers.ensures c.requires.whole c.requires.few its_number fits small)
-    ∙ described_count _ _ _ _ c.requires.whole c.requires.few its_number fits small
+returns-clause-count c = (described_all (goal.at.returns-clause-count c).After-put_numbers).count
 
 pub returns-clause-zero : goal.returns-clause-zero
-returns-clause-zero c =
-    let small = small_numbers c.args.numbers.now (λ k. omega (arith, c.type_inv.numbers k)) in
-    let fits : c.args.last < 256 ^ 8 = omega (arith, c.ranges.last.fits) in
-    let its_number : c.args.number < 256 ^ 8 = omega (arith, c.ranges.number.fits) in
-    ap (number_at 20 4) (written _ _ _ _ _ _ c.args.number c.args.last c.args.numbers.now c.put64.ensures c.put64-2.ensures c.put32.ensures
-    c.put32-2.ensures c.put_numbers.ensures c.requires.whole c.requires.few its_number fits small)
-    ∙ described_zero _ _ _ _ c.requires.whole c.requires.few its_number fits small
+returns-clause-zero c = (described_all (goal.at.returns-clause-zero c).After-put_numbers).zero
 
 pub returns-clause-listed : goal.returns-clause-listed
-returns-clause-listed c =
-    let small = small_numbers c.args.numbers.now (λ k. omega (arith, c.type_inv.numbers k)) in
-    let fits : c.args.last < 256 ^ 8 = omega (arith, c.ranges.last.fits) in
-    let its_number : c.args.number < 256 ^ 8 = omega (arith, c.ranges.number.fits) in
-    ap listed (written _ _ _ _ _ _ c.args.number c.args.last c.args.numbers.now c.put64.ensures c.put64-2.ensures c.put32.ensures
-    c.put32-2.ensures c.put_numbers.ensures c.requires.whole c.requires.few its_number fits small)
-    ∙ described_listed _ _ _ _ c.requires.whole c.requires.few its_number fits small
+returns-clause-listed c = (described_all (goal.at.returns-clause-listed c).After-put_numbers).listed_are
 
 pub returns-clause-block : goal.returns-clause-block
-returns-clause-block c =
-    let small = small_numbers c.args.numbers.now (λ k. omega (arith, c.type_inv.numbers k)) in
-    let fits : c.args.last < 256 ^ 8 = omega (arith, c.ranges.last.fits) in
-    let its_number : c.args.number < 256 ^ 8 = omega (arith, c.ranges.number.fits) in
-    written _ _ _ _ _ _ c.args.number c.args.last c.args.numbers.now c.put64.ensures c.put64-2.ensures c.put32.ensures c.put32-2.ensures
-    c.put_numbers.ensures c.requires.whole c.requires.few its_number fits small
-    ∙ described_whole _ _ _ _ c.requires.whole c.requires.few its_number fits small c.requires.clear
+returns-clause-block c = (described_all (goal.at.returns-clause-block c).After-put_numbers).block c.requires.clear

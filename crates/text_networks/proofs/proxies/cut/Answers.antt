@@ -1,5 +1,4 @@
-use Rattle.std.proofs.Common.{◌≡◌, ◌+◌, ◌==◌, suc, ◌∙◌, ap, sym, drop, take, length, ◌∷◌, arith}
-use Rattle.std.specs.List.{slice_split}
+use Rattle.std.proofs.Common.{◌≡◌, ◌+◌, ◌==◌, suc, ◌∙◌, ap, sym, drop, take, ◌∷◌, arith}
 use Rattle.std.proofs.lemmas.Bool.{false_from_ne_true}
 use Rattle.std.proofs.lemmas.List.{take_rest}
 use Rattle.text_networks.specs.Proxies.{words_of}

@@ -1,4 +1,0 @@
-pub mod Plain
-pub mod Places
-pub mod Rising
-pub mod Releases

@@ -1,3 +1,0 @@
-pub mod Outbox
-pub mod Plain
-pub mod Sessions
