@@ -43,8 +43,8 @@ returns c =
     let early = passed of_expire (early_refusal c.args.self.now) c.in_ok-may_expire.field-0 c.in_ok-may_expire.ensures in
     let x : Expiry = record { group = c.args.name.now; number = c.args.number } in
     let s = c.self.inside.spool in
-    let done = subst (λ (g : Octets). (expiry_refusal s g x.number ≡ None) × (c.in-Ok.serial ≡ length s.changes + 1)
-    × Adds s c.expire.new.self (Expire (record { group = g; number = x.number }))) c.as_slice.ensures.value c.in-Ok.ensures in (
+    let done = subst (λ (g : Octets). (expiry_refusal s g x.number ≡ None) × ((c.in-Ok.serial ≡ length s.changes + 1)
+    × Adds s c.expire.new.self (Expire (record { group = g; number = x.number })))) c.as_slice.ensures.value c.in-Ok.ensures in (
       expiry_tests c.self.inside c.args.self.now c.self.view_is early x ∙ ap (option_map of_expiry) done.0,
       administers c.self.inside c.args.self.now c.self.view_is early c.expire.new.self (Expire x) c.in-Ok.serial c.self.invariant.lined
           done.1.0 done.1.1,
