@@ -48,8 +48,8 @@ invariant_of-self-2 c =
     let given = c.copy_entry.ensures ∙ given_behind c.self.inside.kernel c.args.number c.args.room _ _ _ held c.len-place.ensures.len
     c.give_ready.ensures.given in
     IsSound-along {old = releases_of (seen c.self.inside) c.args.number c.args.room}
-    (releases_so (seen c.self.inside) c.args.number c.args.room c.give_ready.new.self _ _ c.in_ok-buffer.buffer _ held c.give_ready.ensures.kept
-    c.file.ensures.sent c.make_room.ensures.sent given)
+    (releases_so (seen c.self.inside) c.args.number c.args.room c.give_ready.new.self _ _ c.in_ok-buffer.buffer _ held
+    c.give_ready.ensures.kept c.file.ensures.sent c.make_room.ensures.sent given)
     (c.file.ensures.input ∙ c.make_room.ensures.input)
     (sound_releases_of (seen c.self.inside) (inputs c.self.inside.peers.items) c.args.number c.args.room c.kept.ensures c.self.invariant)
 
@@ -59,6 +59,6 @@ returns-clause-ok c =
     omega (arith, c.in_ok-buffer.ensures.octets, c.min.ensures) in
     let given = c.copy_entry.ensures ∙ given_behind c.self.inside.kernel c.args.number c.args.room _ _ _ held c.len-place.ensures.len
     c.give_ready.ensures.given in
-    releases_so (seen c.self.inside) c.args.number c.args.room c.give_ready.new.self _ _ c.in_ok-buffer.buffer _ held c.give_ready.ensures.kept
-    c.file.ensures.sent c.make_room.ensures.sent given
+    releases_so (seen c.self.inside) c.args.number c.args.room c.give_ready.new.self _ _ c.in_ok-buffer.buffer _ held
+    c.give_ready.ensures.kept c.file.ensures.sent c.make_room.ensures.sent given
     ∙ ap (λ (v : TracedView). releases_of v c.args.number c.args.room) c.self.view_is
