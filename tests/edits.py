@@ -393,8 +393,8 @@ def what_is_left_is_tried_by_each_gate_and_not_for_ever():
         # a run of --write that is cut short: those of sum0 changed themselves, so they may not be left
         ran(top, "timeout", "3", os.path.join(top, "bin", "edits"), "--write", JUDGE_SECONDS="9")
         yield from ends_of(top, ([], 0, 2, 0), (["--rest", "60"], 0, 10, 0), (["--rest", "0"], 0, 0, 0))
-        for most, wanted in ((9, 1), (600, 0)):
-            changed(top, "bench/modules/ledger.py", "MOST_LEFT, LONGEST = %d," % (609 - most), "MOST_LEFT, LONGEST = %d," % most)
+        for most, wanted in ((9, 1), (1000, 0)):
+            changed(top, "bench/modules/ledger.py", "MOST_LEFT, LONGEST = %d," % (1009 - most), "MOST_LEFT, LONGEST = %d," % most)
             yield from ends_of(top, ([], wanted, 2, wanted))
         for number, wanted in ((5, 0), (6, 1)):
             with open(os.path.join(top, "edits.tsv")) as file:

@@ -13,9 +13,9 @@ import prover
 
 NAME, TREE, LEFT = "edits.tsv", "tree", "left"
 LINE = re.compile(r"^([^\t\n]+)\t(\d+)\t(\w+)\t(\w+)$", re.M)
-# how many edits may be left, and for how many trees. A change of `model` makes nearly all lines stale, and half of them take an hour on two
-# processors
-MOST_LEFT, LONGEST = 600, 3
+# how many edits may be left, and for how many trees. A change of `model` makes nearly all lines stale, and has all proofs and `must-fail/`
+# tried anew; of two processors' three hours that leaves time for a quarter of the edits
+MOST_LEFT, LONGEST = 1000, 3
 # how many of the others a gate tries, and how many of these at most are lines of the last tree
 SAMPLE, LATEST = 40, 20
 # What the judge means by "refused", as a number. Raise it by one whenever a change of edits.py, judging.py, trials.py or prover.py may
