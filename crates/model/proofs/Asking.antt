@@ -1,7 +1,7 @@
 -- How much room a change asks for, and how many blocks it changes.
-use Rattle.std.proofs.Common.{◌≡◌, ◌≤◌, ℕ, zero, suc, ◌+◌, ◌*◌, ◌/◌, ◌%◌, List, [], ◌∷◌, ◌++◌, length, refl, sym, ◌∙◌, ap, arith, Bool}
+use Rattle.std.proofs.Common.{◌≡◌, ◌≤◌, ℕ, zero, suc, ◌+◌, ◌*◌, ◌/◌, ◌%◌, List, [], ◌∷◌, ◌++◌, length, refl, sym, ◌∙◌, ap, subst, arith, Bool}
 use Rattle.std.proofs.Common.{true, false, cond, eqb, length-append}
-use Rattle.std.specs.Prelude.{flat_map, filter, filter_map, find, zip, bytes_eq, is_some, nat_lt, nat_le, ◌-◌, ◌&&◌, ◌||◌, Option, Some}
+use Rattle.std.specs.Prelude.{flat_map, filter, filter_map, find, zip, bytes_eq, is_some, nat_lt, nat_le, ◌-◌, ◌&&◌, ◌||◌, ◌==◌, Option, Some}
 use Rattle.std.specs.Prelude.{None}
 use Rattle.std.specs.List.{Contains, list_all, list_any, sum_by}
 use Rattle.std.proofs.lemmas.Bool.{and_parts, or_parts, leb-true, ltb-false, le-ltb, false≢true}
@@ -12,8 +12,8 @@ use Rattle.model.specs.Stream.{Octets}
 use Rattle.model.specs.Names.{is_group_name, is_group_octet, is_dotted}
 use Rattle.model.specs.Article.{Carried, are_distinct, cause, groups_of}
 use Rattle.model.specs.Spool.{Spool, entries_from, NewsArticle, NewsGroup, group_made, is_name, filed_in, group_named, groups, entries}
-use Rattle.model.specs.Spool.{is_here, news_article, news_group, status_octet}
-use Rattle.model.specs.Records.{group_record, article_record, expiry_record, largest_record}
+use Rattle.model.specs.Spool.{article_filed, articles, is_here, is_in, news_article, news_group, status_octet}
+use Rattle.model.specs.Records.{group_record, article_record, expiry_record, removal_record, amendment_record, largest_record}
 use Rattle.model.specs.SpoolFiles.{numbers_name, overview_name, number_record, number_records, numbers_of, numbers_file, overview_file}
 use Rattle.model.specs.FileCalls.{next_line, next_record, FileCall, Create, Append, filing_calls}
 use Rattle.model.specs.SpoolFiles.{overview_lines, change_file}
@@ -26,10 +26,12 @@ use Rattle.model.specs.Asked.{blocks_taken}
 use Rattle.model.specs.Room.{content_blocks, extends_large, files_made}
 use Rattle.model.specs.Asked.{pointers_put}
 use Rattle.model.specs.Room.{has_all_groups, is_full_for, is_large, octets_asked}
-use Rattle.model.specs.Lawful.{MayFile, IsLawfulAfter, IsLawful}
+use Rattle.model.specs.Lawful.{MayFile, MayRemove, IsLawfulAfter, IsLawful}
 use Rattle.model.specs.Laws.Room.{ChangesAskFew, FilesGrowByBlocks, NotFullHasRoom}
-use Rattle.model.specs.declared.change.Change.TheVariants.{Group, Article, Expire}
+use Rattle.model.specs.declared.change.Change.TheVariants.{Group, Article, Expire, Remove, Amend}
 use Rattle.model.specs.declared.change.Filing.{Filing}
+use Rattle.model.specs.declared.change.Removal.{Removal}
+use Rattle.model.proofs.Growing.{here_made}
 use Rattle.model.proofs.HoldsOne.{carried_cause, carried_size, high_few}
 use Rattle.model.proofs.Ids.{no_cause}
 use Rattle.model.proofs.LineSizes.{line_short}
@@ -120,6 +122,28 @@ expiry_size n number group =
       length-little 4 number,
     )
 
+removal_size : (n serial : ℕ) (groups : List Octets)
+    → length (removal_record (record { serial = n; article = serial; groups = groups })) ≡ 17 + length (flat_map (λ g. length g ∷ g) groups)
+removal_size n serial groups =
+    omega (
+      arith,
+      length-append (little_bytes 8 n ++ little_bytes 8 serial) (length groups ∷ flat_map (λ g. length g ∷ g) groups),
+      length-append (little_bytes 8 n) (little_bytes 8 serial),
+      length-little 8 n,
+      length-little 8 serial,
+    )
+
+amendment_size : (a : NewsGroup) → length (amendment_record a) ≡ 18 + length a.name + length a.description
+amendment_size a =
+    omega (
+      arith,
+      length-append (little_bytes 8 a.serial ++ little_bytes 8 a.moment) (status_octet a.status ∷ length a.name ∷ a.name ++ a.description),
+      length-append (little_bytes 8 a.serial) (little_bytes 8 a.moment),
+      length-append a.name a.description,
+      length-little 8 a.serial,
+      length-little 8 a.moment,
+    )
+
 -- ---- the groups of an article
 
 filter_all : (q p : Octets → Bool) (names : List Octets) → list_all q names ≡ true → list_all q (filter p names) ≡ true
@@ -152,6 +176,41 @@ few_groups host S f may =
       named = ap (list_all is_group_name) may.filed ∙ filter_all is_group_name (is_here S) names parts.1;
     }
 
+-- an article of a lawful spool is in few groups
+found_few : (host : Octets) (p : NewsArticle → Bool) (R cs : Spool) (n : ℕ) (a : NewsArticle) → IsLawfulAfter host R cs
+    → find p (filter_map article_filed (entries_from n cs)) ≡ Some a → AreFew a.groups
+found_few host p R [] n a lawful found = absurd (cc)
+found_few host p R (Group created ∷ cs) n a lawful found = found_few host p (R ++ Group created ∷ []) cs (suc n) a lawful.1 found
+found_few host p R (Expire expiry ∷ cs) n a lawful found = found_few host p (R ++ Expire expiry ∷ []) cs (suc n) a lawful.1 found
+found_few host p R (Remove removal ∷ cs) n a lawful found = found_few host p (R ++ Remove removal ∷ []) cs (suc n) a lawful.1 found
+found_few host p R (Amend amended ∷ cs) n a lawful found = found_few host p (R ++ Amend amended ∷ []) cs (suc n) a lawful.1 found
+found_few host p R (Article filing ∷ cs) n a lawful found =
+    by_pass (p filed) found (λ later. found_few host p (R ++ Article filing ∷ []) cs (suc n) a lawful.1 later) where
+      filed : NewsArticle
+      filed = news_article n filing
+
+      by_pass : (b : Bool) → cond b (Some filed) (find p (filter_map article_filed (entries_from (suc n) cs))) ≡ Some a
+          → (find p (filter_map article_filed (entries_from (suc n) cs)) ≡ Some a → AreFew a.groups) → AreFew a.groups
+      by_pass true same later =
+          let one : filed ≡ a = cc in
+          subst AreFew (ap (λ (x : NewsArticle). x.groups) one) (few_groups host R filing lawful.0)
+      by_pass false same later = later same
+
+removed_few : (host : Octets) (S : Spool) (r : Removal) → IsLawful host S → MayRemove S r → AreFew r.groups
+unfolding articles entries
+removed_few host S r lawful may =
+    let few = found_few host (λ (a : NewsArticle). a.serial == r.article) [] S 1 may.article lawful may.filed in
+    record {
+      count = omega (
+        arith,
+        ap (λ (l : List Octets). length l) may.whole,
+        length-filter (is_in S may.article) may.article.groups,
+        count_by-le-length (is_in S may.article) may.article.groups,
+        few.count,
+      );
+      named = ap (list_all is_group_name) may.whole ∙ filter_all is_group_name (is_in S may.article) may.article.groups few.named;
+    }
+
 -- a group that is here has a name
 here_from : (host : Octets) (before cs : Spool) (n : ℕ) (g : Octets) → IsLawfulAfter host before cs
     → is_some (find (λ (group : NewsGroup). is_name g group.name) (filter_map group_made (entries_from n cs))) ≡ true
@@ -160,6 +219,8 @@ here_from host before [] n g lawful here = absurd (false≢true here)
 here_from host before (Article filing ∷ cs) n g lawful here =
     here_from host (before ++ Article filing ∷ []) cs (suc n) g lawful.1 here
 here_from host before (Expire expiry ∷ cs) n g lawful here = here_from host (before ++ Expire expiry ∷ []) cs (suc n) g lawful.1 here
+here_from host before (Remove removal ∷ cs) n g lawful here = here_from host (before ++ Remove removal ∷ []) cs (suc n) g lawful.1 here
+here_from host before (Amend amended ∷ cs) n g lawful here = here_from host (before ++ Amend amended ∷ []) cs (suc n) g lawful.1 here
 here_from host before (Group created ∷ cs) n g lawful here =
     by_name (bytes_eq created.name g) refl here (here_from host (before ++ Group created ∷ []) cs (suc n) g lawful.1) where
       rest : Option NewsGroup
@@ -171,9 +232,9 @@ here_from host before (Group created ∷ cs) n g lawful here =
       by_name true is found later = ap is_group_name (sym ((bytes_eq-Decides created.name g).0 is)) ∙ lawful.0.is_name
       by_name false is found later = later found
 
-pub here_short : (host : Octets) (S : Spool) (g : Octets) → IsLawful host S → is_here S g ≡ true → length g ≤ 40
+pub made_short : (host : Octets) (S : Spool) (g : Octets) → IsLawful host S → is_some (group_named S g) ≡ true → length g ≤ 40
 unfolding group_named groups entries
-here_short host S g lawful here =
+made_short host S g lawful here =
     leb-true (length g) 40 (and_parts (nat_le (length g) 40) (is_dotted is_group_octet g) (here_from host [] S 1 g lawful here)).0
 
 -- ---- numbers stand in whole records
@@ -267,6 +328,9 @@ two_created first second = omega (
   sum_by-cons blocks_taken (Create second) [],
 )
 
+pub here_short : (host : Octets) (S : Spool) (g : Octets) → IsLawful host S → is_here S g ≡ true → length g ≤ 40
+here_short host S g lawful here = made_short host S g lawful (here_made S g here)
+
 -- ---- changes
 
 pub changes_ask_few : ChangesAskFew
@@ -320,6 +384,44 @@ changes_ask_few host S (Expire expiry) few lawful may =
     let its = change_file (record { serial = length S + 1; change = Expire expiry }) in
     let size : length its.content ≤ 53 =
     omega (arith, expiry_size (length S + 1) expiry.number expiry.group, here_short host S expiry.group lawful may.here) in
+    let calls : sum_by blocks_taken (making_calls its.name its.content) ≡ blocks_for_more (length its.content) =
+    omega (
+      arith,
+      sum_by-cons blocks_taken (Create its.name) (Append its.name its.content ∷ []),
+      sum_by-cons blocks_taken (Append its.name its.content) [],
+    ) in
+    record {
+      blocks = omega (arith, calls, size);
+      made = omega (arith, size);
+      lines = λ f g same. absurd (cc);
+      changed = omega (arith, small_blocks (length its.content) (omega (arith, size)), size);
+    }
+changes_ask_few host S (Remove removal) few lawful may =
+    let its = change_file (record { serial = length S + 1; change = Remove removal }) in
+    let groups_few = removed_few host S removal lawful may in
+    let size : length its.content ≤ 673 =
+    omega (
+      arith,
+      removal_size (length S + 1) removal.article removal.groups,
+      names_size removal.groups groups_few.named,
+      groups_few.count,
+    ) in
+    let calls : sum_by blocks_taken (making_calls its.name its.content) ≡ blocks_for_more (length its.content) =
+    omega (
+      arith,
+      sum_by-cons blocks_taken (Create its.name) (Append its.name its.content ∷ []),
+      sum_by-cons blocks_taken (Append its.name its.content) [],
+    ) in
+    record {
+      blocks = omega (arith, calls, size);
+      made = omega (arith, size);
+      lines = λ f g same. absurd (cc);
+      changed = omega (arith, small_blocks (length its.content) (omega (arith, size)), size);
+    }
+changes_ask_few host S (Amend amended) few lawful may =
+    let its = change_file (record { serial = length S + 1; change = Amend amended }) in
+    let size : length its.content ≤ 258 =
+    omega (arith, amendment_size (news_group (length S + 1) amended), made_short host S amended.name lawful may.made, may.short) in
     let calls : sum_by blocks_taken (making_calls its.name its.content) ≡ blocks_for_more (length its.content) =
     omega (
       arith,

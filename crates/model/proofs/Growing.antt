@@ -15,16 +15,17 @@ use Rattle.model.specs.Article.{Carried, are_distinct, groups_of, overview_line}
 use Rattle.model.specs.Names.{is_group_name}
 use Rattle.model.specs.Files.{File}
 use Rattle.model.specs.Spool.{Spool, SpoolEntry, entries_from, entries, NewsArticle, NewsGroup, group_made, article_filed, is_name, groups}
+use Rattle.model.specs.Spool.{group_here, group_now, groups_now, is_retired}
 use Rattle.model.specs.Spool.{articles, filed_in, group_named, is_here, news_article, news_group}
 use Rattle.model.specs.Records.{last_digits}
-use Rattle.model.specs.SpoolFiles.{group_name, numbers_name, overview_name, article_name, expiry_name, number_record, number_records}
+use Rattle.model.specs.SpoolFiles.{group_name, numbers_name, overview_name, article_name, expiry_name, removal_name, amendment_name, number_record, number_records}
 use Rattle.model.specs.SpoolFiles.{overview_lines, overview_of, numbers_of, overview_file, numbers_file, change_file, entry_files, files_of}
 use Rattle.model.specs.FileCalls.{FileCall, appended, after_call, after_calls, next_line, next_record, filing_calls, making_calls}
 use Rattle.model.specs.FileCalls.{change_calls}
 use Rattle.model.specs.Lawful.{IsLawfulAfter, IsLawful}
 use Rattle.model.specs.Laws.SpoolFiles.{FilesGrow}
 use Rattle.model.specs.declared.change.Change.{Change}
-use Rattle.model.specs.declared.change.Change.TheVariants.{Group, Article, Expire}
+use Rattle.model.specs.declared.change.Change.TheVariants.{Group, Article, Expire, Remove, Amend}
 use Rattle.model.specs.declared.change.Filing.{Filing}
 use Rattle.model.proofs.Fronts.{absent_cut}
 use Rattle.model.proofs.HoldsOne.{carried_cause}
@@ -167,12 +168,39 @@ named_front P Q name none =
     subst (λ R. find (λ (group : NewsGroup). is_name name group.name) (filter_map group_made (entries R)) ≡ None)
     (take_at P Q (length P) refl) cut
 
--- a group that is here stays
-pub here_stays : (P Q : Spool) (h : Octets) → is_here P h ≡ true → is_here (P ++ Q) h ≡ true
-here_stays P Q h here = by_found (group_named (P ++ Q) h) refl where
-  by_found : (o : Option NewsGroup) → group_named (P ++ Q) h ≡ o → is_some o ≡ true
+-- a group that was not made is not here
+none_now : (S : Spool) (name : Octets) (gs : List NewsGroup) → find (λ (group : NewsGroup). is_name name group.name) gs ≡ None
+    → find (λ (group : NewsGroup). is_name name group.name) (filter (λ (group : NewsGroup). not (is_retired group.status))
+    (map (group_now S) gs)) ≡ None
+none_now S name [] none = refl
+none_now S name (g ∷ gs) none = by_name (bytes_eq g.name name) refl none (none_now S name gs) where
+  now : List NewsGroup
+  now = filter (λ (group : NewsGroup). not (is_retired group.status)) (map (group_now S) gs)
+
+  by_live : (b : Bool) → bytes_eq g.name name ≡ false → find (λ (group : NewsGroup). is_name name group.name) now ≡ None
+      → find (λ (group : NewsGroup). is_name name group.name) (cond b (group_now S g ∷ now) now) ≡ None
+  by_live true other rest =
+      ap (λ c. cond c (Some (group_now S g)) (find (λ (group : NewsGroup). is_name name group.name) now)) other ∙ rest
+  by_live false other rest = rest
+
+  by_name : (b : Bool) → bytes_eq g.name name ≡ b
+      → cond b (Some g) (find (λ (group : NewsGroup). is_name name group.name) gs) ≡ None
+      → (find (λ (group : NewsGroup). is_name name group.name) gs ≡ None → find (λ (group : NewsGroup). is_name name group.name) now ≡ None)
+      → find (λ (group : NewsGroup). is_name name group.name)
+      (cond (not (is_retired (group_now S g).status)) (group_now S g ∷ now) now) ≡ None
+  by_name true is same rest = absurd (cc)
+  by_name false is same rest = by_live (not (is_retired (group_now S g).status)) is (rest same)
+
+pub unmade : (S : Spool) (name : Octets) → group_named S name ≡ None → is_here S name ≡ false
+unfolding group_named group_here groups_now
+unmade S name none = ap (λ (o : Option NewsGroup). is_some o) (none_now S name (groups S) none)
+
+-- a group that is here was made
+pub here_made : (S : Spool) (name : Octets) → is_here S name ≡ true → is_some (group_named S name) ≡ true
+here_made S name here = by_found (group_named S name) refl where
+  by_found : (o : Option NewsGroup) → group_named S name ≡ o → is_some o ≡ true
   by_found (Some g) is = refl
-  by_found None is = absurd (true≢false (sym here ∙ ap (λ (o : Option NewsGroup). is_some o) (named_front P Q h is)))
+  by_found None is = absurd (true≢false (sym here ∙ unmade S name is))
 
 -- the group that is found under a name has this name
 found_name : (name : Octets) (gs : List NewsGroup) (g : NewsGroup) → find (λ (h : NewsGroup). is_name name h.name) gs ≡ Some g
@@ -196,9 +224,13 @@ nothing_filed host before (Group created ∷ cs) n name lawful none =
     nothing_filed host (before ++ Group created ∷ []) cs (suc n) name lawful.1 (rw append_assoc none)
 nothing_filed host before (Expire expiry ∷ cs) n name lawful none =
     nothing_filed host (before ++ Expire expiry ∷ []) cs (suc n) name lawful.1 (rw append_assoc none)
+nothing_filed host before (Remove removal ∷ cs) n name lawful none =
+    nothing_filed host (before ++ Remove removal ∷ []) cs (suc n) name lawful.1 (rw append_assoc none)
+nothing_filed host before (Amend amended ∷ cs) n name lawful none =
+    nothing_filed host (before ++ Amend amended ∷ []) cs (suc n) name lawful.1 (rw append_assoc none)
 nothing_filed host before (Article filing ∷ cs) n name lawful none =
     let absent : is_here before name ≡ false =
-    ap (λ (o : Option NewsGroup). is_some o) (named_front before (Article filing ∷ cs) name none) in
+    unmade before name (named_front before (Article filing ∷ cs) name none) in
     let never : list_any (is_name name) filing.envelope.groups ≡ false = ap (list_any (is_name name)) lawful.0.filed
     ∙ none_here before name absent (groups_of filing.text) in
     let rest = nothing_filed host (before ++ Article filing ∷ []) cs (suc n) name lawful.1 (rw append_assoc none) in
@@ -238,6 +270,12 @@ left_entry R name octets own n (Article filing) other =
 left_entry R name octets own n (Expire expiry) other =
     let first = apart name octets (change_file (record { serial = n; change = Expire expiry })) other in
     λ i. first i ∷ []
+left_entry R name octets own n (Remove removal) other =
+    let first = apart name octets (change_file (record { serial = n; change = Remove removal })) other in
+    λ i. first i ∷ []
+left_entry R name octets own n (Amend amended) other =
+    let first = apart name octets (change_file (record { serial = n; change = Amend amended })) other in
+    λ i. first i ∷ []
 
 left_alone : (R : Spool) (name octets : Octets) → IsOfChange name → (n : ℕ) (S : Spool) → LackFrom name n S
     → map (appended name octets) (flat_map (entry_files R) (entries_from n S)) ≡ flat_map (entry_files R) (entries_from n S)
@@ -256,6 +294,8 @@ lacks_group : (name : Octets) (n : ℕ) (S : Spool)
 lacks_group name n [] none = tt
 lacks_group name n (Article filing ∷ S) none = (refl, lacks_group name (suc n) S none)
 lacks_group name n (Expire expiry ∷ S) none = (refl, lacks_group name (suc n) S none)
+lacks_group name n (Remove removal ∷ S) none = (refl, lacks_group name (suc n) S none)
+lacks_group name n (Amend amended ∷ S) none = (refl, lacks_group name (suc n) S none)
 lacks_group name n (Group created ∷ S) none = by_name (bytes_eq created.name name) refl none (lacks_group name (suc n) S) where
   rest : Option NewsGroup
   rest = find (λ (group : NewsGroup). is_name name group.name) (filter_map group_made (entries_from (suc n) S))
@@ -287,12 +327,33 @@ lacks_article m n (Group created ∷ S) later small = (refl, lacks_article m (su
 lacks_article m n (Article filing ∷ S) later small =
     (serials_apart m n (omega arith) small, lacks_article m (suc n) S (omega arith) small)
 lacks_article m n (Expire expiry ∷ S) later small = (refl, lacks_article m (suc n) S (omega arith) small)
+lacks_article m n (Remove removal ∷ S) later small = (refl, lacks_article m (suc n) S (omega arith) small)
+lacks_article m n (Amend amended ∷ S) later small = (refl, lacks_article m (suc n) S (omega arith) small)
 
 pub lacks_expiry : (m n : ℕ) (S : Spool) → n + length S ≤ m → m < 10 ^ 10 → LackFrom (expiry_name m) n S
 lacks_expiry m n [] later small = tt
 lacks_expiry m n (Group created ∷ S) later small = (refl, lacks_expiry m (suc n) S (omega arith) small)
 lacks_expiry m n (Article filing ∷ S) later small = (refl, lacks_expiry m (suc n) S (omega arith) small)
 lacks_expiry m n (Expire expiry ∷ S) later small = (serials_apart m n (omega arith) small, lacks_expiry m (suc n) S (omega arith) small)
+lacks_expiry m n (Remove removal ∷ S) later small = (refl, lacks_expiry m (suc n) S (omega arith) small)
+lacks_expiry m n (Amend amended ∷ S) later small = (refl, lacks_expiry m (suc n) S (omega arith) small)
+
+pub lacks_removal : (m n : ℕ) (S : Spool) → n + length S ≤ m → m < 10 ^ 10 → LackFrom (removal_name m) n S
+lacks_removal m n [] later small = tt
+lacks_removal m n (Group created ∷ S) later small = (refl, lacks_removal m (suc n) S (omega arith) small)
+lacks_removal m n (Article filing ∷ S) later small = (refl, lacks_removal m (suc n) S (omega arith) small)
+lacks_removal m n (Expire expiry ∷ S) later small = (refl, lacks_removal m (suc n) S (omega arith) small)
+lacks_removal m n (Remove removal ∷ S) later small = (serials_apart m n (omega arith) small, lacks_removal m (suc n) S (omega arith) small)
+lacks_removal m n (Amend amended ∷ S) later small = (refl, lacks_removal m (suc n) S (omega arith) small)
+
+pub lacks_amendment : (m n : ℕ) (S : Spool) → n + length S ≤ m → m < 10 ^ 10 → LackFrom (amendment_name m) n S
+lacks_amendment m n [] later small = tt
+lacks_amendment m n (Group created ∷ S) later small = (refl, lacks_amendment m (suc n) S (omega arith) small)
+lacks_amendment m n (Article filing ∷ S) later small = (refl, lacks_amendment m (suc n) S (omega arith) small)
+lacks_amendment m n (Expire expiry ∷ S) later small = (refl, lacks_amendment m (suc n) S (omega arith) small)
+lacks_amendment m n (Remove removal ∷ S) later small = (refl, lacks_amendment m (suc n) S (omega arith) small)
+lacks_amendment m n (Amend amended ∷ S) later small =
+    (serials_apart m n (omega arith) small, lacks_amendment m (suc n) S (omega arith) small)
 
 -- ---- a file is made
 
@@ -326,6 +387,8 @@ index_same R S same n (Group created) =
     } ∷ record { name = overview_name created.name; content = overview_of filed } ∷ []) (same created.name)
 index_same R S same n (Article filing) = refl
 index_same R S same n (Expire expiry) = refl
+index_same R S same n (Remove removal) = refl
+index_same R S same n (Amend amended) = refl
 
 -- the files of a spool with one more change, by change
 with_change : (S : Spool) (c : Change)
@@ -482,6 +545,14 @@ module _ (S : Spool) (filing : Filing) (distinct : are_distinct filing.envelope.
       let first = passes S filing.text filing.envelope.groups (change_file (record { serial = n; change = Expire expiry }))
       (λ g. (refl, refl)) in
       λ i. first i ∷ []
+  entry_grows n (Remove removal) =
+      let first = passes S filing.text filing.envelope.groups (change_file (record { serial = n; change = Remove removal }))
+      (λ g. (refl, refl)) in
+      λ i. first i ∷ []
+  entry_grows n (Amend amended) =
+      let first = passes S filing.text filing.envelope.groups (change_file (record { serial = n; change = Amend amended }))
+      (λ g. (refl, refl)) in
+      λ i. first i ∷ []
   entry_grows n (Group created) =
       let first = passes S filing.text filing.envelope.groups (change_file (record { serial = n; change = Group created }))
       (λ g. (refl, refl)) in
@@ -595,3 +666,19 @@ files_grow host S (Expire expiry) small lawful may =
     ∙ ap (λ fs. fs ++ its ∷ []) (entries_same (entry_files R) (entry_files S) (index_same R S (λ h. filed_no_more S h c refl)) (entries S)
     ∙ sym (files_by_change S))
     ∙ sym (made S its.name its.content (λ h. (refl, refl)) (lacks_expiry (length S + 1) 1 S (omega arith) small))
+files_grow host S (Remove removal) small lawful may =
+    let c = Remove removal in
+    let its = change_file (record { serial = length S + 1; change = c }) in
+    let R = S ++ c ∷ [] in
+    with_change S c
+    ∙ ap (λ fs. fs ++ its ∷ []) (entries_same (entry_files R) (entry_files S) (index_same R S (λ h. filed_no_more S h c refl)) (entries S)
+    ∙ sym (files_by_change S))
+    ∙ sym (made S its.name its.content (λ h. (refl, refl)) (lacks_removal (length S + 1) 1 S (omega arith) small))
+files_grow host S (Amend amended) small lawful may =
+    let c = Amend amended in
+    let its = change_file (record { serial = length S + 1; change = c }) in
+    let R = S ++ c ∷ [] in
+    with_change S c
+    ∙ ap (λ fs. fs ++ its ∷ []) (entries_same (entry_files R) (entry_files S) (index_same R S (λ h. filed_no_more S h c refl)) (entries S)
+    ∙ sym (files_by_change S))
+    ∙ sym (made S its.name its.content (λ h. (refl, refl)) (lacks_amendment (length S + 1) 1 S (omega arith) small))

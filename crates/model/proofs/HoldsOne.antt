@@ -1,10 +1,10 @@
 -- Blocks hold one spool.
 use Rattle.std.proofs.Common.{◌≡◌, ◌≢◌, inl, inr, ◌<◌, ◌≤◌, ◌^◌, ℕ, zero, suc, ◌+◌, List, [], ◌∷◌, ◌++◌, length, get_or, refl, sym, ◌∙◌}
-use Rattle.std.proofs.Common.{ap, subst, arith, Bool, true, false, length-append}
-use Rattle.std.specs.Prelude.{flat_map, filter_map, replicate, Option, Some, None, nat_le, if◌then◌else◌}
+use Rattle.std.proofs.Common.{ap, subst, arith, Bool, true, false, cond, length-append}
+use Rattle.std.specs.Prelude.{flat_map, filter_map, find, ◌==◌, replicate, Option, Some, None, nat_le, if◌then◌else◌}
 use Rattle.std.specs.List.{Contains, list_any}
 use Rattle.std.specs.Option.{option_or, option_to_list}
-use Rattle.std.proofs.lemmas.Bool.{cases_lt, and_parts, leb-true}
+use Rattle.std.proofs.lemmas.Bool.{cases_lt, and_parts, leb-true, eqb-true}
 use Rattle.std.proofs.lemmas.List.{append_assoc, same_lists, get_or_default}
 use Rattle.std.proofs.lemmas.List.FromFn.{length-map-range_with_len}
 use Rattle.std.proofs.lemmas.List.Elements.{All-nil, Contains-append_right}
@@ -16,19 +16,21 @@ use Rattle.model.specs.Article.{Carried, cause, cause_but_long, header, is_short
 use Rattle.model.specs.Files.{File, table, file_at}
 use Rattle.model.specs.Spool.{Spool, SpoolEntry, entries_from, entries, NewsArticle, article_filed, articles, filed_in, is_name}
 use Rattle.model.specs.Spool.{news_article}
-use Rattle.model.specs.Spool.{filing_of, news_expiry, news_group, status_octet}
-use Rattle.model.specs.Records.{group_record, article_record, expiry_record}
+use Rattle.model.specs.Spool.{filing_of, news_expiry, news_group, news_removal, status_octet}
+use Rattle.model.specs.Records.{group_record, article_record, expiry_record, removal_record, amendment_record}
 use Rattle.model.specs.FileKinds.{HasRoomInFile}
 use Rattle.model.specs.SpoolFiles.{change_file, entry_files, files_of, index_files}
-use Rattle.model.specs.Lawful.{MayFollow, IsLawfulAfter}
+use Rattle.model.specs.Lawful.{MayFollow, MayRemove, IsLawfulAfter}
 use Rattle.model.specs.Laws.SpoolFiles.{BlocksHoldOne, ChangesAreFew, EmptyHoldsNone}
 use Rattle.model.specs.declared.cause.Cause.{Cause}
 use Rattle.model.specs.declared.cause.Cause.TheVariants.{Long}
 use Rattle.model.specs.declared.change.Change.{Change}
-use Rattle.model.specs.declared.change.Change.TheVariants.{Group, Article, Expire}
+use Rattle.model.specs.declared.change.Change.TheVariants.{Group, Article, Expire, Remove, Amend}
+use Rattle.model.specs.declared.change.Removal.{Removal}
 use Rattle.model.specs.declared.values.Status.{Status}
-use Rattle.model.specs.declared.values.Status.TheVariants.{Open, Closed}
+use Rattle.model.specs.declared.values.Status.TheVariants.{Open, Closed, Retired}
 use Rattle.model.specs.Packs.{StandFor, most_changes, most_packed, pack_name, pack_octets, pack_of}
+use Rattle.model.proofs.Fronts.{article_within}
 use Rattle.model.proofs.Inodes.{content_small}
 use Rattle.model.proofs.Joined.{joined_has, joined_from}
 use Rattle.model.proofs.Packing.{pack_size, shared, stand_alone}
@@ -62,6 +64,8 @@ filed_few n [] = omega arith
 filed_few n (Group created ∷ S) = omega (arith, filed_few (suc n) S)
 filed_few n (Article filing ∷ S) = omega (arith, filed_few (suc n) S)
 filed_few n (Expire expiry ∷ S) = omega (arith, filed_few (suc n) S)
+filed_few n (Remove removal ∷ S) = omega (arith, filed_few (suc n) S)
+filed_few n (Amend amended ∷ S) = omega (arith, filed_few (suc n) S)
 
 pub high_few : (S : Spool) (g : Octets) → length (filed_in S g) ≤ length S
 unfolding filed_in articles entries
@@ -69,12 +73,30 @@ high_few S g =
     let p : NewsArticle → Bool = λ a. list_any (is_name g) a.groups in
     omega (arith, length-filter p (articles S), count_by-le-length p (articles S), filed_few 1 S)
 
+-- what is found passes the test
+found_passes : {X : Type 0} (p : X → Bool) (xs : List X) (x : X) → find p xs ≡ Some x → p x ≡ true
+found_passes p [] x is = absurd (cc)
+found_passes {X} p (y ∷ ys) x is = by_test (p y) refl is (found_passes p ys x) where
+  by_test : (b : Bool) → p y ≡ b → cond b (Some y) (find p ys) ≡ Some x → (find p ys ≡ Some x → p x ≡ true) → p x ≡ true
+  by_test true passed same rest = let one : y ≡ x = cc in ap p (sym one) ∙ passed
+  by_test false failed same rest = rest same
+
+removed_few : (before : Spool) (r : Removal) → MayRemove before r → r.article ≤ length before
+unfolding articles entries
+removed_few before r may =
+    let serial : may.article.serial ≡ r.article =
+    eqb-true may.article.serial r.article
+    (found_passes (λ (a : NewsArticle). a.serial == r.article) (filter_map article_filed (entries_from 1 before)) may.article may.filed) in
+    omega (arith, article_within (λ (a : NewsArticle). a.serial == r.article) 1 before may.article may.filed)
+
 fits_one : (host : Octets) (before : Spool) (n : ℕ) (c : Change) → MayFollow host before c → n < 256 ^ 8 → length before ≤ most_changes
     → HasRoomInFile n c
 fits_one host before n (Group created) may small few = (small, omega (arith, may.in_time))
 fits_one host before n (Article filing) may small few =
     (small, may.fits, omega (arith, carried_size filing.text may.carried))
 fits_one host before n (Expire expiry) may small few = (small, omega (arith, may.to_high, high_few before expiry.group))
+fits_one host before n (Amend amended) may small few = (small, omega (arith, may.in_time))
+fits_one host before n (Remove removal) may small few = (small, omega (arith, removed_few before removal may))
 
 pub no_change : Change
 no_change = Expire (record { group = []; number = 0 })
@@ -103,6 +125,22 @@ same_status Open Open is = refl
 same_status Open Closed is = absurd (let octets : 121 ≡ 110 = is in omega arith)
 same_status Closed Open is = absurd (let octets : 110 ≡ 121 = is in omega arith)
 same_status Closed Closed is = refl
+same_status Open Retired is = absurd (let octets : 121 ≡ 120 = is in omega arith)
+same_status Closed Retired is = absurd (let octets : 110 ≡ 120 = is in omega arith)
+same_status Retired Open is = absurd (let octets : 120 ≡ 121 = is in omega arith)
+same_status Retired Closed is = absurd (let octets : 120 ≡ 110 = is in omega arith)
+same_status Retired Retired is = refl
+
+-- two fronts of one length, before what follows them
+front_split : (xs ys rest rest' : Octets) → length xs ≡ length ys → xs ++ rest ≡ ys ++ rest' → (xs ≡ ys) × (rest ≡ rest')
+front_split [] [] rest rest' size is = (refl, is)
+front_split [] (y ∷ ys) rest rest' size is = absurd (omega arith)
+front_split (x ∷ xs) [] rest rest' size is = absurd (omega arith)
+front_split (x ∷ xs) (y ∷ ys) rest rest' size is =
+    let heads : x ≡ y = cc in
+    let tails : xs ++ rest ≡ ys ++ rest' = cc in
+    let later = front_split xs ys rest rest' (omega (arith, size)) tails in
+    (λ i. heads i ∷ later.0 i, later.1)
 
 pub same_change : (n m : ℕ) (c d : Change) → HasRoomInFile n c → HasRoomInFile m d
     → change_file (record { serial = n; change = c }) ≡ change_file (record { serial = m; change = d }) → (n ≡ m) × (c ≡ d)
@@ -151,6 +189,63 @@ same_change n m (Expire expiry) (Expire expiry') fits fits' is =
     let numbers = little_split 4 expiry.number expiry'.number rest rest' fits.1 fits'.1 serials.1 in
     let names : expiry.group ≡ expiry'.group = let same = numbers.1 in cc in
     (serials.0, λ i. Expire (record { group = names i; number = numbers.0 i }))
+same_change n m (Remove removal) (Remove removal') fits fits' is =
+    let contents : removal_record (news_removal n removal) ≡ removal_record (news_removal m removal') = ap (λ (f : File). f.content) is in
+    let listed = flat_map (λ g. length g ∷ g) removal.groups in
+    let listed' = flat_map (λ g. length g ∷ g) removal'.groups in
+    let grouped : little_bytes 8 n ++ (little_bytes 8 removal.article ++ (length removal.groups ∷ listed))
+    ≡ little_bytes 8 m ++ (little_bytes 8 removal'.article ++ (length removal'.groups ∷ listed')) = simp append_assoc at contents in
+    let serials = little_split 8 n m _ _ fits.0 fits'.0 grouped in
+    let removed = little_split 8 removal.article removal'.article _ _ fits.1 fits'.1 serials.1 in
+    let counts : length removal.groups ≡ length removal'.groups = let same = removed.1 in cc in
+    let lists : listed ≡ listed' = let same = removed.1 in cc in
+    let names = counted_lists removal.groups removal'.groups [] [] counts (ap (λ (os : Octets). os ++ []) lists) in
+    (serials.0, λ i. Remove (record { article = removed.0 i; groups = names.0 i }))
+same_change n m (Group created) (Remove removal') fits fits' is =
+    absurd (let octets : 103 ≡ 114 = ap (λ (f : File). get_or f.name 0 0) is in omega arith)
+same_change n m (Article filing) (Remove removal') fits fits' is =
+    absurd (let octets : 97 ≡ 114 = ap (λ (f : File). get_or f.name 0 0) is in omega arith)
+same_change n m (Expire expiry) (Remove removal') fits fits' is =
+    absurd (let octets : 120 ≡ 114 = ap (λ (f : File). get_or f.name 0 0) is in omega arith)
+same_change n m (Remove removal) (Group created') fits fits' is =
+    absurd (let octets : 114 ≡ 103 = ap (λ (f : File). get_or f.name 0 0) is in omega arith)
+same_change n m (Remove removal) (Article filing') fits fits' is =
+    absurd (let octets : 114 ≡ 97 = ap (λ (f : File). get_or f.name 0 0) is in omega arith)
+same_change n m (Remove removal) (Expire expiry') fits fits' is =
+    absurd (let octets : 114 ≡ 120 = ap (λ (f : File). get_or f.name 0 0) is in omega arith)
+same_change n m (Amend amended) (Amend amended') fits fits' is =
+    let contents : amendment_record (news_group n amended) ≡ amendment_record (news_group m amended') = ap (λ (f : File). f.content) is in
+    let named = amended.name ++ amended.description in
+    let named' = amended'.name ++ amended'.description in
+    let grouped : little_bytes 8 n ++ (little_bytes 8 amended.moment ++ (status_octet amended.status ∷ length amended.name ∷ named))
+    ≡ little_bytes 8 m ++ (little_bytes 8 amended'.moment ++ (status_octet amended'.status ∷ length amended'.name ∷ named')) =
+    simp append_assoc at contents in
+    let serials = little_split 8 n m _ _ fits.0 fits'.0 grouped in
+    let moments = little_split 8 amended.moment amended'.moment _ _ fits.1 fits'.1 serials.1 in
+    let octets : status_octet amended.status ≡ status_octet amended'.status = let same = moments.1 in cc in
+    let statuses = same_status amended.status amended'.status octets in
+    let sizes : length amended.name ≡ length amended'.name = let same = moments.1 in cc in
+    let rest : named ≡ named' = let same = moments.1 in cc in
+    let parts = front_split amended.name amended'.name amended.description amended'.description sizes rest in (
+      serials.0,
+      λ i. Amend (record { name = parts.0 i; status = statuses i; description = parts.1 i; moment = moments.0 i }),
+    )
+same_change n m (Group created) (Amend amended') fits fits' is =
+    absurd (let octets : 103 ≡ 109 = ap (λ (f : File). get_or f.name 0 0) is in omega arith)
+same_change n m (Article filing) (Amend amended') fits fits' is =
+    absurd (let octets : 97 ≡ 109 = ap (λ (f : File). get_or f.name 0 0) is in omega arith)
+same_change n m (Expire expiry) (Amend amended') fits fits' is =
+    absurd (let octets : 120 ≡ 109 = ap (λ (f : File). get_or f.name 0 0) is in omega arith)
+same_change n m (Remove removal) (Amend amended') fits fits' is =
+    absurd (let octets : 114 ≡ 109 = ap (λ (f : File). get_or f.name 0 0) is in omega arith)
+same_change n m (Amend amended) (Group created') fits fits' is =
+    absurd (let octets : 109 ≡ 103 = ap (λ (f : File). get_or f.name 0 0) is in omega arith)
+same_change n m (Amend amended) (Article filing') fits fits' is =
+    absurd (let octets : 109 ≡ 97 = ap (λ (f : File). get_or f.name 0 0) is in omega arith)
+same_change n m (Amend amended) (Expire expiry') fits fits' is =
+    absurd (let octets : 109 ≡ 120 = ap (λ (f : File). get_or f.name 0 0) is in omega arith)
+same_change n m (Amend amended) (Remove removal') fits fits' is =
+    absurd (let octets : 109 ≡ 114 = ap (λ (f : File). get_or f.name 0 0) is in omega arith)
 same_change n m (Group created) (Article filing') fits fits' is =
     absurd (let octets : 103 ≡ 97 = ap (λ (f : File). get_or f.name 0 0) is in omega arith)
 same_change n m (Group created) (Expire expiry') fits fits' is =
@@ -165,25 +260,29 @@ same_change n m (Expire expiry) (Article filing') fits fits' is =
     absurd (let octets : 120 ≡ 97 = ap (λ (f : File). get_or f.name 0 0) is in omega arith)
 
 -- numbers and overviews are no file of a change
-not_index : (octet n : ℕ) (c : Change) → octet ≢ 103 → octet ≢ 97 → octet ≢ 120
+not_index : (octet n : ℕ) (c : Change) → octet ≢ 103 → octet ≢ 97 → octet ≢ 120 → octet ≢ 114 → octet ≢ 109
     → get_or (change_file (record { serial = n; change = c })).name 0 0 ≢ octet
-not_index octet n (Group created) group article expiry is = group (sym is)
-not_index octet n (Article filing) group article expiry is = article (sym is)
-not_index octet n (Expire e) group article expiry is = expiry (sym is)
+not_index octet n (Group created) group article expiry removal amendment is = group (sym is)
+not_index octet n (Article filing) group article expiry removal amendment is = article (sym is)
+not_index octet n (Expire e) group article expiry removal amendment is = expiry (sym is)
+not_index octet n (Remove r) group article expiry removal amendment is = removal (sym is)
+not_index octet n (Amend g) group article expiry removal amendment is = amendment (sym is)
 
 pub not_the_pack : (n : ℕ) (c : Change) → (change_file (record { serial = n; change = c })).name ≢ pack_name
 not_the_pack n c is =
-    not_index 112 n c (λ e. omega arith) (λ e. omega arith) (λ e. omega arith) (ap (λ (name : Octets). get_or name 0 0) is)
+    not_index 112 n c (λ e. omega arith) (λ e. omega arith) (λ e. omega arith) (λ e. omega arith) (λ e. omega arith) (ap (λ (name : Octets). get_or name 0 0) is)
 
 index_apart : (S : Spool) (d : Change) (n : ℕ) (c : Change) → Contains (index_files S d) (change_file (record { serial = n; change = c }))
     → ⊥
 index_apart S (Group created) n c (zero, low, is) =
-    not_index 110 n c (λ e. omega arith) (λ e. omega arith) (λ e. omega arith) (ap (λ (f : File). get_or f.name 0 0) (sym is))
+    not_index 110 n c (λ e. omega arith) (λ e. omega arith) (λ e. omega arith) (λ e. omega arith) (λ e. omega arith) (ap (λ (f : File). get_or f.name 0 0) (sym is))
 index_apart S (Group created) n c (suc zero, low, is) =
-    not_index 111 n c (λ e. omega arith) (λ e. omega arith) (λ e. omega arith) (ap (λ (f : File). get_or f.name 0 0) (sym is))
+    not_index 111 n c (λ e. omega arith) (λ e. omega arith) (λ e. omega arith) (λ e. omega arith) (λ e. omega arith) (ap (λ (f : File). get_or f.name 0 0) (sym is))
 index_apart S (Group created) n c (suc (suc k), low, is) = omega arith
 index_apart S (Article filing) n c (k, low, is) = omega arith
 index_apart S (Expire expiry) n c (k, low, is) = omega arith
+index_apart S (Remove removal) n c (k, low, is) = omega arith
+index_apart S (Amend amended) n c (k, low, is) = omega arith
 
 pub source_is : (S : Spool) (n m : ℕ) (c d : Change)
     → Contains (entry_files S (record { serial = n; change = d })) (change_file (record { serial = m; change = c }))

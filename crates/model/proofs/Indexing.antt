@@ -1,28 +1,32 @@
 -- The index of a spool with one more change.
 use Rattle.std.proofs.Common.{◌≡◌, ◌≤◌, ℕ, zero, suc, ◌+◌, ◌-◌, List, [], ◌∷◌, ◌++◌, length, get_or, map, take, drop, refl, sym, ◌∙◌, ap}
-use Rattle.std.proofs.Common.{arith, Bool, true, false, cond, length-append}
-use Rattle.std.specs.Prelude.{filter, filter_map, flat_map, bytes_eq, is_some, max, slice_get, zip, Option, Some, None}
+use Rattle.std.proofs.Common.{arith, Bool, true, false, cond, ◌||◌, length-append}
+use Rattle.std.specs.Prelude.{filter, filter_map, find, flat_map, bytes_eq, is_some, ◌==◌, max, slice_get, zip, Option, Some, None}
 use Rattle.std.specs.List.{list_any}
-use Rattle.std.proofs.lemmas.Bool.{cond-true, cond-false, true≢false}
+use Rattle.std.proofs.lemmas.Bool.{cond-true, cond-false, or_from, or_parts, true≢false}
 use Rattle.std.proofs.lemmas.List.{append-nil, append_assoc, map_push, take_at, drop-drop, drop_at}
-use Rattle.std.proofs.lemmas.List.Elements.{filter-append}
+use Rattle.std.proofs.lemmas.List.Elements.{filter-append, filter_map-append}
 use Rattle.std.proofs.lemmas.Option.{same_Some}
 use Rattle.std.proofs.lemmas.Slice.Eq.{bytes_eq-Decides}
 use Rattle.model.specs.Stream.{Octets}
-use Rattle.model.specs.Indexed.{ends_from, group_index, GroupIndex, line_start, new_index, note_of, with_article, with_expiry}
+use Rattle.model.specs.Indexed.{ends_from, group_index, GroupIndex, line_start, new_index, note_of, removals_of, with_article, with_expiry}
+use Rattle.model.specs.Indexed.{with_amendment, with_removal}
 use Rattle.model.specs.Lawful.{MayFollow, IsLawfulAfter, IsLawful}
 use Rattle.model.specs.Spool.{Spool, SpoolEntry, entries_from, entries, NewsExpiry, NewsArticle, NewsGroup, expiries_of, filed_in, greatest}
-use Rattle.model.specs.Spool.{is_here, is_name, last_naming, last_naming_one, low, names_one, expiry_made, articles, expiries, groups}
-use Rattle.model.specs.Spool.{group_named, by_id, news_article, news_expiry}
+use Rattle.model.specs.Spool.{is_here, is_name, last_naming, last_naming_one, names_one, expiry_made, articles, expiries, groups}
+use Rattle.model.specs.Spool.{amendment_made, amendments, amendments_of, as_amended, group_now, last_of, news_group}
+use Rattle.model.specs.Spool.{group_named, by_id, is_in, news_article, news_expiry, news_removal, removal_made, removals, NewsRemoval}
 use Rattle.model.specs.FileCalls.{next_line}
 use Rattle.model.specs.SpoolFiles.{numbers_of, overview_lines, overview_of}
 use Rattle.model.specs.Laws.Indexed.{ArticlesGrow, EmptyIndex, ExpiriesGrow, GroupsGrow, LinesStand, NotesGrow, NumbersAreWhole}
+use Rattle.model.specs.Laws.Indexed.{AmendmentsGrow, RemovalsGrow}
 use Rattle.model.specs.declared.change.Change.{Change}
-use Rattle.model.specs.declared.change.Change.TheVariants.{Group, Article, Expire}
+use Rattle.model.specs.declared.change.Change.TheVariants.{Group, Article, Expire, Remove, Amend}
 use Rattle.model.specs.declared.change.NewGroup.{NewGroup}
 use Rattle.model.proofs.Asking.{records_size}
-use Rattle.model.proofs.Growing.{entries_push, filed_article, filed_no_more, lines_push, lines_size, named_front, new_has_nothing}
+use Rattle.model.proofs.Growing.{entries_push, filed_article, filed_no_more, lines_push, lines_size, named_front, new_has_nothing, unmade}
 use Rattle.model.proofs.Joined.{bytes_differ}
+use Rattle.model.proofs.LawfulLaws.{lawful_more}
 use Rattle.model.proofs.Rising.{expiry_push}
 
 -- ---- numbers and lines
@@ -155,6 +159,46 @@ last_push S c test =
 
 -- ---- groups
 
+pub removal_push : (S : Spool) (g : Octets) (c : Change)
+    → removals_of (S ++ c ∷ []) g ≡ removals_of S g ++ filter (λ (r : NewsRemoval). list_any (is_name g) r.groups)
+    (filter_map removal_made (record { serial = length S + 1; change = c } ∷ []))
+unfolding removals_of removals entries
+removal_push S g c =
+    let e : SpoolEntry = record { serial = length S + 1; change = c } in
+    ap (λ es. filter (λ (x : NewsRemoval). list_any (is_name g) x.groups) (filter_map removal_made es)) (entries_push 1 S c)
+    ∙ ap (filter (λ (x : NewsRemoval). list_any (is_name g) x.groups)) (filter_map-append removal_made (entries_from 1 S) (e ∷ []))
+    ∙ filter-append (λ (x : NewsRemoval). list_any (is_name g) x.groups) (filter_map removal_made (entries_from 1 S))
+    (filter_map removal_made (e ∷ []))
+
+removed_same : (S : Spool) (g : Octets) (c : Change) → filter_map removal_made (record { serial = length S + 1; change = c } ∷ []) ≡ []
+    → removals_of (S ++ c ∷ []) g ≡ removals_of S g
+removed_same S g c none =
+    removal_push S g c
+    ∙ ap (λ (rs : List NewsRemoval). removals_of S g ++ filter (λ (r : NewsRemoval). list_any (is_name g) r.groups) rs) none
+    ∙ append-nil (removals_of S g)
+
+pub amendment_push : (S : Spool) (g : Octets) (c : Change)
+    → amendments_of (S ++ c ∷ []) g ≡ amendments_of S g ++ filter (λ (a : NewsGroup). is_name g a.name)
+    (filter_map amendment_made (record { serial = length S + 1; change = c } ∷ []))
+unfolding amendments_of amendments entries
+amendment_push S g c =
+    let e : SpoolEntry = record { serial = length S + 1; change = c } in
+    ap (λ es. filter (λ (x : NewsGroup). is_name g x.name) (filter_map amendment_made es)) (entries_push 1 S c)
+    ∙ ap (filter (λ (x : NewsGroup). is_name g x.name)) (filter_map-append amendment_made (entries_from 1 S) (e ∷ []))
+    ∙ filter-append (λ (x : NewsGroup). is_name g x.name) (filter_map amendment_made (entries_from 1 S)) (filter_map amendment_made (e ∷ []))
+
+-- a group as it is now, where no amendment of it is added
+now_same : (S : Spool) (g : NewsGroup) (c : Change)
+    → filter (λ (a : NewsGroup). is_name g.name a.name) (filter_map amendment_made (record { serial = length S + 1; change = c } ∷ [])) ≡ []
+    → group_now (S ++ c ∷ []) g ≡ group_now S g
+now_same S g c none =
+    ap (λ (l : List NewsGroup). as_amended g (last_of g l))
+    (amendment_push S g.name c ∙ ap (λ (l : List NewsGroup). amendments_of S g.name ++ l) none ∙ append-nil (amendments_of S g.name))
+
+last_pushed : (g a : NewsGroup) (l : List NewsGroup) → last_of g (l ++ a ∷ []) ≡ a
+last_pushed g a [] = refl
+last_pushed g a (b ∷ l) = last_pushed b a l
+
 expired_same : (S : Spool) (g : Octets) (c : Change) → filter_map expiry_made (record { serial = length S + 1; change = c } ∷ []) ≡ []
     → expiries_of (S ++ c ∷ []) g ≡ expiries_of S g
 expired_same S g c none =
@@ -166,23 +210,23 @@ unfolding entries
 notes_grow S c = ap (map note_of) (entries_push 1 S c) ∙ map_push note_of (entries_from 1 S) (record { serial = length S + 1; change = c })
 
 -- the parts of a group's index
-made_index : (i j : GroupIndex) → i.group ≡ j.group → i.filed ≡ j.filed → i.ends ≡ j.ends → i.low ≡ j.low → i.expired ≡ j.expired
-    → i.last ≡ j.last → i ≡ j
-made_index i j group filed ends low' expired last = λ t. record {
+made_index : (i j : GroupIndex) → i.group ≡ j.group → i.filed ≡ j.filed → i.ends ≡ j.ends → i.expired ≡ j.expired
+    → i.removed ≡ j.removed → i.last ≡ j.last → i ≡ j
+made_index i j group filed ends expired removed last = λ t. record {
   group = group t;
   filed = filed t;
   ends = ends t;
-  low = low' t;
   expired = expired t;
+  removed = removed t;
   last = last t;
 }
 
 index_parts : (S R : Spool) (g : NewsGroup) → filed_in R g.name ≡ filed_in S g.name → expiries_of R g.name ≡ expiries_of S g.name
-    → last_naming R g.name ≡ last_naming S g.name → group_index R g ≡ group_index S g
-index_parts S R g filed expired last =
-    made_index (group_index R g) (group_index S g) refl (ap (map (λ (a : NewsArticle). a.serial)) filed)
-    (ap (λ (f : List NewsArticle). ends_from 0 (overview_lines f)) filed)
-    (ap (λ (es : List NewsExpiry). 1 + greatest (map (λ (e : NewsExpiry). e.number) es)) expired) expired last
+    → removals_of R g.name ≡ removals_of S g.name
+    → last_naming R g.name ≡ last_naming S g.name → group_now R g ≡ group_now S g → group_index R g ≡ group_index S g
+index_parts S R g filed expired removed last now =
+    made_index (group_index R g) (group_index S g) now (ap (map (λ (a : NewsArticle). a.serial)) filed)
+    (ap (λ (f : List NewsArticle). ends_from 0 (overview_lines f)) filed) expired removed last
 
 size : (filed : List NewsArticle) (line : Octets)
     → 0 + length (flat_map (λ l. l) (overview_lines filed)) + length line ≡ length (overview_of filed) + length line
@@ -202,18 +246,21 @@ articles_grow S filing g =
       expired : expiries_of R g.name ≡ expiries_of S g.name
       expired = expired_same S g.name (Article filing) refl
 
+      removed : removals_of R g.name ≡ removals_of S g.name
+      removed = removed_same S g.name (Article filing) refl
+
       by_test : (b : Bool) → filed_in R g.name ≡ filed_in S g.name ++ cond b (its ∷ []) []
           → last_naming R g.name ≡ cond b (length S + 1) (last_naming S g.name)
           → group_index R g ≡ cond b (with_article S filing.text (group_index S g)) (group_index S g)
-      by_test false filed last = index_parts S R g (filed ∙ append-nil (filed_in S g.name)) expired last
+      by_test false filed last = index_parts S R g (filed ∙ append-nil (filed_in S g.name)) expired removed last (now_same S g (Article filing) refl)
       by_test true filed last =
-          made_index (group_index R g) (with_article S filing.text (group_index S g)) refl
+          made_index (group_index R g) (with_article S filing.text (group_index S g)) (now_same S g (Article filing) refl)
           (ap (map (λ (a : NewsArticle). a.serial)) filed ∙ map_push (λ (a : NewsArticle). a.serial) (filed_in S g.name) its)
           (ap (λ (f : List NewsArticle). ends_from 0 (overview_lines f)) filed ∙ ap (ends_from 0) (lines_push (filed_in S g.name) its)
           ∙ ends_push 0 (overview_lines (filed_in S g.name)) (next_line S filing.text g.name)
           ∙ ap (λ (n : ℕ). ends_from 0 (overview_lines (filed_in S g.name)) ++ n ∷ [])
           (size (filed_in S g.name) (next_line S filing.text g.name)))
-          (ap (λ (es : List NewsExpiry). 1 + greatest (map (λ (e : NewsExpiry). e.number) es)) expired) expired last
+          expired removed last
 
 pub expiries_grow : ExpiriesGrow
 expiries_grow host S expiry g may =
@@ -227,23 +274,78 @@ expiries_grow host S expiry g may =
       filed : filed_in R g.name ≡ filed_in S g.name
       filed = filed_no_more S g.name (Expire expiry) refl
 
+      removed : removals_of R g.name ≡ removals_of S g.name
+      removed = removed_same S g.name (Expire expiry) refl
+
       by_test : (b : Bool) → bytes_eq expiry.group g.name ≡ b → expiries_of R g.name ≡ expiries_of S g.name ++ cond b (its ∷ []) []
           → last_naming R g.name ≡ cond b (length S + 1) (last_naming S g.name)
           → group_index R g ≡ cond b (with_expiry S expiry.number (group_index S g)) (group_index S g)
-      by_test false is expired last = index_parts S R g filed (expired ∙ append-nil (expiries_of S g.name)) last
+      by_test false is expired last = index_parts S R g filed (expired ∙ append-nil (expiries_of S g.name)) removed last
+          (now_same S g (Expire expiry) refl)
       by_test true is expired last =
           let same : expiry.group ≡ g.name = (bytes_eq-Decides expiry.group g.name).0 is in
-          let small : greatest (map (λ (e : NewsExpiry). e.number) (expiries_of S g.name)) ≤ expiry.number =
-          omega (arith, may.from_low, ap (low S) same) in
           let named : NewsExpiry = record its { group = g.name } in
           let all : expiries_of R g.name ≡ expiries_of S g.name ++ named ∷ [] =
           expired ∙ ap (λ (n : Octets). expiries_of S g.name ++ record its { group = n } ∷ []) same in
-          made_index (group_index R g) (with_expiry S expiry.number (group_index S g)) refl (ap (map (λ (a : NewsArticle). a.serial)) filed)
-          (ap (λ (f : List NewsArticle). ends_from 0 (overview_lines f)) filed)
-          (ap (λ (ns : List ℕ). 1 + greatest ns) (ap (map (λ (e : NewsExpiry). e.number)) all
-          ∙ map_push (λ (e : NewsExpiry). e.number) (expiries_of S g.name) named)
-          ∙ ap (λ (n : ℕ). 1 + n) (greatest_push (map (λ (e : NewsExpiry). e.number) (expiries_of S g.name)) expiry.number small))
-          all last
+          made_index (group_index R g) (with_expiry S expiry.number (group_index S g)) (now_same S g (Expire expiry) refl) (ap (map (λ (a : NewsArticle). a.serial)) filed)
+          (ap (λ (f : List NewsArticle). ends_from 0 (overview_lines f)) filed) all removed last
+
+pub removals_grow : RemovalsGrow
+removals_grow S removal g =
+    by_test (list_any (is_name g.name) removal.groups) (removal_push S g.name (Remove removal))
+    (last_push S (Remove removal) (is_name g.name)) where
+      R : Spool
+      R = S ++ Remove removal ∷ []
+
+      its : NewsRemoval
+      its = news_removal (length S + 1) removal
+
+      filed : filed_in R g.name ≡ filed_in S g.name
+      filed = filed_no_more S g.name (Remove removal) refl
+
+      expired : expiries_of R g.name ≡ expiries_of S g.name
+      expired = expired_same S g.name (Remove removal) refl
+
+      by_test : (b : Bool) → removals_of R g.name ≡ removals_of S g.name ++ cond b (its ∷ []) []
+          → last_naming R g.name ≡ cond b (length S + 1) (last_naming S g.name)
+          → group_index R g ≡ cond b (with_removal S removal (group_index S g)) (group_index S g)
+      by_test false removed last = index_parts S R g filed expired (removed ∙ append-nil (removals_of S g.name)) last
+          (now_same S g (Remove removal) refl)
+      by_test true removed last =
+          made_index (group_index R g) (with_removal S removal (group_index S g)) (now_same S g (Remove removal) refl) (ap (map (λ (a : NewsArticle). a.serial)) filed)
+          (ap (λ (f : List NewsArticle). ends_from 0 (overview_lines f)) filed) expired removed last
+
+pub amendments_grow : AmendmentsGrow
+amendments_grow S amended g =
+    by_test (bytes_eq amended.name g.name) refl (last_push S (Amend amended) (is_name g.name)) where
+      R : Spool
+      R = S ++ Amend amended ∷ []
+
+      its : NewsGroup
+      its = news_group (length S + 1) amended
+
+      filed : filed_in R g.name ≡ filed_in S g.name
+      filed = filed_no_more S g.name (Amend amended) refl
+
+      expired : expiries_of R g.name ≡ expiries_of S g.name
+      expired = expired_same S g.name (Amend amended) refl
+
+      removed : removals_of R g.name ≡ removals_of S g.name
+      removed = removed_same S g.name (Amend amended) refl
+
+      now : (b : Bool) → bytes_eq amended.name g.name ≡ b → amendments_of R g.name ≡ amendments_of S g.name ++ cond b (its ∷ []) []
+      now b is = amendment_push S g.name (Amend amended) ∙ ap (λ c. amendments_of S g.name ++ cond c (its ∷ []) []) is
+
+      by_test : (b : Bool) → bytes_eq amended.name g.name ≡ b → last_naming R g.name ≡ cond b (length S + 1) (last_naming S g.name)
+          → group_index R g ≡ cond b (with_amendment S amended (group_index S g)) (group_index S g)
+      by_test false is last =
+          index_parts S R g filed expired removed last
+          (ap (λ (l : List NewsGroup). as_amended g (last_of g l)) (now false is ∙ append-nil (amendments_of S g.name)))
+      by_test true is last =
+          made_index (group_index R g) (with_amendment S amended (group_index S g))
+          (ap (as_amended g) (ap (last_of g) (now true is) ∙ last_pushed g its (amendments_of S g.name)))
+          (ap (map (λ (a : NewsArticle). a.serial)) filed)
+          (ap (λ (f : List NewsArticle). ends_from 0 (overview_lines f)) filed) expired removed last
 
 pub nothing_expired : (host : Octets) (before cs : Spool) (n : ℕ) (name : Octets) → IsLawfulAfter host before cs
     → group_named (before ++ cs) name ≡ None
@@ -253,9 +355,13 @@ nothing_expired host before (Group created ∷ cs) n name lawful none =
     nothing_expired host (before ++ Group created ∷ []) cs (suc n) name lawful.1 (rw append_assoc none)
 nothing_expired host before (Article filing ∷ cs) n name lawful none =
     nothing_expired host (before ++ Article filing ∷ []) cs (suc n) name lawful.1 (rw append_assoc none)
+nothing_expired host before (Remove removal ∷ cs) n name lawful none =
+    nothing_expired host (before ++ Remove removal ∷ []) cs (suc n) name lawful.1 (rw append_assoc none)
+nothing_expired host before (Amend amended ∷ cs) n name lawful none =
+    nothing_expired host (before ++ Amend amended ∷ []) cs (suc n) name lawful.1 (rw append_assoc none)
 nothing_expired host before (Expire expiry ∷ cs) n name lawful none =
     let absent : is_here before name ≡ false =
-    ap (λ (o : Option NewsGroup). is_some o) (named_front before (Expire expiry ∷ cs) name none) in
+    unmade before name (named_front before (Expire expiry ∷ cs) name none) in
     let other : bytes_eq expiry.group name ≡ false =
     bytes_differ expiry.group name (λ same. true≢false (sym lawful.0.here ∙ ap (is_here before) same ∙ absent)) in
     let rest = nothing_expired host (before ++ Expire expiry ∷ []) cs (suc n) name lawful.1 (rw append_assoc none) in
@@ -265,14 +371,94 @@ pub new_has_expired : (host : Octets) (S : Spool) (name : Octets) → IsLawful h
 unfolding expiries_of expiries entries
 new_has_expired host S name lawful none = nothing_expired host [] S 1 name lawful none
 
+-- a group that nothing was filed in has no removal
+found_fails : {X : Type 0} (p q : X → Bool) (xs : List X) (x : X) → find p xs ≡ Some x → filter q xs ≡ [] → q x ≡ false
+found_fails p q [] x is none = absurd (cc)
+found_fails {X} p q (y ∷ ys) x is none = by_tests (p y) (q y) refl is none (found_fails p q ys x) where
+  by_tests : (b d : Bool) → q y ≡ d → cond b (Some y) (find p ys) ≡ Some x → cond d (y ∷ filter q ys) (filter q ys) ≡ []
+      → (find p ys ≡ Some x → filter q ys ≡ [] → q x ≡ false) → q x ≡ false
+  by_tests b true failed same none rest = absurd (cc)
+  by_tests true false failed same none rest = let one : y ≡ x = cc in ap q (sym one) ∙ failed
+  by_tests false false failed same none rest = rest same none
+
+none_left : (p q : Octets → Bool) (names : List Octets) → list_any q names ≡ false → list_any q (filter p names) ≡ false
+none_left p q [] none = refl
+none_left p q (x ∷ names) none =
+    let parts = or_parts (q x) (list_any q names) none in
+    by_test (p x) parts.0 (none_left p q names parts.1) where
+      by_test : (b : Bool) → q x ≡ false → list_any q (filter p names) ≡ false → list_any q (cond b (x ∷ filter p names) (filter p names)) ≡ false
+      by_test true failed rest = or_from (q x) (list_any q (filter p names)) failed rest
+      by_test false failed rest = rest
+
+nothing_removed : (host : Octets) (before cs : Spool) (n : ℕ) (name : Octets) → IsLawful host before → IsLawfulAfter host before cs
+    → group_named (before ++ cs) name ≡ None
+    → filter (λ (r : NewsRemoval). list_any (is_name name) r.groups) (filter_map removal_made (entries_from n cs)) ≡ []
+unfolding filed_in
+nothing_removed host before [] n name first lawful none = refl
+nothing_removed host before (Group created ∷ cs) n name first lawful none =
+    nothing_removed host (before ++ Group created ∷ []) cs (suc n) name (lawful_more host [] before (Group created) first lawful.0) lawful.1
+    (rw append_assoc none)
+nothing_removed host before (Article filing ∷ cs) n name first lawful none =
+    nothing_removed host (before ++ Article filing ∷ []) cs (suc n) name (lawful_more host [] before (Article filing) first lawful.0)
+    lawful.1 (rw append_assoc none)
+nothing_removed host before (Expire expiry ∷ cs) n name first lawful none =
+    nothing_removed host (before ++ Expire expiry ∷ []) cs (suc n) name (lawful_more host [] before (Expire expiry) first lawful.0) lawful.1
+    (rw append_assoc none)
+nothing_removed host before (Amend amended ∷ cs) n name first lawful none =
+    nothing_removed host (before ++ Amend amended ∷ []) cs (suc n) name (lawful_more host [] before (Amend amended) first lawful.0)
+    lawful.1 (rw append_assoc none)
+nothing_removed host before (Remove removal ∷ cs) n name first lawful none =
+    let article = lawful.0.article in
+    let nowhere : filed_in before name ≡ [] =
+    new_has_nothing host before name first (named_front before (Remove removal ∷ cs) name none) in
+    let outside : list_any (is_name name) article.groups ≡ false =
+    found_fails (λ (a : NewsArticle). a.serial == removal.article) (λ (a : NewsArticle). list_any (is_name name) a.groups) (articles before)
+    article lawful.0.filed nowhere in
+    let other : list_any (is_name name) removal.groups ≡ false =
+    ap (list_any (is_name name)) lawful.0.whole ∙ none_left (is_in before article) (is_name name) article.groups outside in
+    let rest = nothing_removed host (before ++ Remove removal ∷ []) cs (suc n) name
+    (lawful_more host [] before (Remove removal) first lawful.0) lawful.1 (rw append_assoc none) in
+    cond-false (list_any (is_name name) removal.groups) _ _ other ∙ rest
+
+pub new_has_removed : (host : Octets) (S : Spool) (name : Octets) → IsLawful host S → group_named S name ≡ None → removals_of S name ≡ []
+unfolding removals_of removals entries
+new_has_removed host S name lawful none = nothing_removed host [] S 1 name tt lawful none
+
+-- a group that was not made has no amendment
+nothing_amended : (host : Octets) (before cs : Spool) (n : ℕ) (name : Octets) → IsLawfulAfter host before cs
+    → group_named (before ++ cs) name ≡ None
+    → filter (λ (a : NewsGroup). is_name name a.name) (filter_map amendment_made (entries_from n cs)) ≡ []
+nothing_amended host before [] n name lawful none = refl
+nothing_amended host before (Group created ∷ cs) n name lawful none =
+    nothing_amended host (before ++ Group created ∷ []) cs (suc n) name lawful.1 (rw append_assoc none)
+nothing_amended host before (Article filing ∷ cs) n name lawful none =
+    nothing_amended host (before ++ Article filing ∷ []) cs (suc n) name lawful.1 (rw append_assoc none)
+nothing_amended host before (Expire expiry ∷ cs) n name lawful none =
+    nothing_amended host (before ++ Expire expiry ∷ []) cs (suc n) name lawful.1 (rw append_assoc none)
+nothing_amended host before (Remove removal ∷ cs) n name lawful none =
+    nothing_amended host (before ++ Remove removal ∷ []) cs (suc n) name lawful.1 (rw append_assoc none)
+nothing_amended host before (Amend amended ∷ cs) n name lawful none =
+    let absent : is_some (group_named before name) ≡ false =
+    ap (λ (o : Option NewsGroup). is_some o) (named_front before (Amend amended ∷ cs) name none) in
+    let other : bytes_eq amended.name name ≡ false =
+    bytes_differ amended.name name
+    (λ same. true≢false (sym lawful.0.made ∙ ap (λ (x : Octets). is_some (group_named before x)) same ∙ absent)) in
+    let rest = nothing_amended host (before ++ Amend amended ∷ []) cs (suc n) name lawful.1 (rw append_assoc none) in
+    cond-false (bytes_eq amended.name name) _ _ other ∙ rest
+
+pub new_has_amended : (host : Octets) (S : Spool) (name : Octets) → IsLawful host S → group_named S name ≡ None → amendments_of S name ≡ []
+unfolding amendments_of amendments entries
+new_has_amended host S name lawful none = nothing_amended host [] S 1 name lawful none
+
 pub groups_grow : GroupsGrow
 groups_grow = record { others = others; its_own = its_own } where
   others : (S : Spool) (created : NewGroup) (g : NewsGroup) → bytes_eq created.name g.name ≡ false
       → group_index (S ++ Group created ∷ []) g ≡ group_index S g
   others S created g other =
       let c = Group created in
-      index_parts S (S ++ c ∷ []) g (filed_no_more S g.name c refl) (expired_same S g.name c refl) (last_push S c (is_name g.name)
-      ∙ cond-false (bytes_eq created.name g.name) (length S + 1) (last_naming S g.name) other)
+      index_parts S (S ++ c ∷ []) g (filed_no_more S g.name c refl) (expired_same S g.name c refl) (removed_same S g.name c refl)
+      (last_push S c (is_name g.name)
+      ∙ cond-false (bytes_eq created.name g.name) (length S + 1) (last_naming S g.name) other) (now_same S g c refl)
 
   its_own : (host : Octets) (S : Spool) (created : NewGroup) (g : NewsGroup) → IsLawful host S → MayFollow host S (Group created)
       → g.name ≡ created.name → group_index (S ++ Group created ∷ []) g ≡ new_index S g
@@ -282,12 +468,14 @@ groups_grow = record { others = others; its_own = its_own } where
       let none : group_named S g.name ≡ None = ap (group_named S) same ∙ may.new in
       let filed : filed_in R g.name ≡ [] = filed_no_more S g.name c refl ∙ new_has_nothing host S g.name lawful none in
       let expired : expiries_of R g.name ≡ [] = expired_same S g.name c refl ∙ new_has_expired host S g.name lawful none in
+      let removed : removals_of R g.name ≡ [] = removed_same S g.name c refl ∙ new_has_removed host S g.name lawful none in
       let last : last_naming R g.name ≡ length S + 1 = last_push S c (is_name g.name)
       ∙ cond-true (bytes_eq created.name g.name) (length S + 1) (last_naming S g.name)
       ((bytes_eq-Decides created.name g.name).1 (sym same)) in
-      made_index (group_index R g) (new_index S g) refl (ap (map (λ (a : NewsArticle). a.serial)) filed)
-      (ap (λ (f : List NewsArticle). ends_from 0 (overview_lines f)) filed)
-      (ap (λ (es : List NewsExpiry). 1 + greatest (map (λ (e : NewsExpiry). e.number) es)) expired) expired last
+      let now : group_now R g ≡ g =
+      now_same S g c refl ∙ ap (λ (l : List NewsGroup). as_amended g (last_of g l)) (new_has_amended host S g.name lawful none) in
+      made_index (group_index R g) (new_index S g) now (ap (map (λ (a : NewsArticle). a.serial)) filed)
+      (ap (λ (f : List NewsArticle). ends_from 0 (overview_lines f)) filed) expired removed last
 
 pub empty_index : EmptyIndex
 unfolding groups group_named by_id articles entries

@@ -16,7 +16,7 @@ pub mod NoLater
 pub mod Numbers
 pub mod Expiring
 pub mod Found
-pub mod Gone
+pub mod Removed
 pub mod Within
 pub mod Ids
 pub mod Stored
@@ -45,3 +45,4 @@ pub mod Blocks
 pub mod Tables
 pub mod Naming
 pub mod PackedGrowing
+pub mod Outs

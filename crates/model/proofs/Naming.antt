@@ -17,7 +17,7 @@ use Rattle.model.specs.Lawful.{IsLawful, MayFollow}
 use Rattle.model.specs.Laws.Packs.{SpoolsHaveNoPack}
 use Rattle.model.specs.Laws.SpoolFiles.{NamesAreDistinct}
 use Rattle.model.specs.declared.change.Change.{Change}
-use Rattle.model.specs.declared.change.Change.TheVariants.{Group, Article, Expire}
+use Rattle.model.specs.declared.change.Change.TheVariants.{Group, Article, Expire, Remove, Amend}
 use Rattle.model.specs.declared.change.NewGroup.{NewGroup}
 use Rattle.model.proofs.Growing.{digits_one}
 use Rattle.model.proofs.HoldsOne.{entry_at, no_change, not_the_pack}
@@ -55,6 +55,8 @@ from_entry S f k (Group g) there (suc (suc zero), low, is) = inr (inr (g, is))
 from_entry S f k (Group g) there (suc (suc (suc j)), low, is) = absurd (omega arith)
 from_entry S f k (Article a) there (suc j, low, is) = absurd (omega arith)
 from_entry S f k (Expire e) there (suc j, low, is) = absurd (omega arith)
+from_entry S f k (Remove r) there (suc j, low, is) = absurd (omega arith)
+from_entry S f k (Amend g) there (suc j, low, is) = absurd (omega arith)
 
 pub is_from : (S : Spool) (f : File) → Contains (files_of S) f → IsFrom S f
 unfolding files_of entries
@@ -79,8 +81,12 @@ made_here : (name : Octets) (n : ℕ) (R : Spool) (k : ℕ) (g : NewGroup) → s
 made_here name n [] k g is named = absurd (cc)
 made_here name n (Article f ∷ R) zero g is named = absurd (cc)
 made_here name n (Expire e ∷ R) zero g is named = absurd (cc)
+made_here name n (Remove r ∷ R) zero g is named = absurd (cc)
+made_here name n (Amend amended ∷ R) zero g is named = absurd (cc)
 made_here name n (Article f ∷ R) (suc k) g is named = made_here name (suc n) R k g is named
 made_here name n (Expire e ∷ R) (suc k) g is named = made_here name (suc n) R k g is named
+made_here name n (Remove r ∷ R) (suc k) g is named = made_here name (suc n) R k g is named
+made_here name n (Amend amended ∷ R) (suc k) g is named = made_here name (suc n) R k g is named
 made_here name n (Group created ∷ R) zero g is named =
     let one : created ≡ g = cc in
     let same : bytes_eq created.name name ≡ true =
@@ -150,6 +156,48 @@ changes_apart host S k l (Expire a) (Expire b) small lawful first second named =
     let also = within S l (Expire b) second in
     let one = digits_one 10 (1 + k) (1 + l) (omega (arith, low)) (omega (arith, also)) digits in
     omega arith
+changes_apart host S k l (Remove a) (Remove b) small lawful first second named =
+    let digits : last_digits 10 (1 + k) ≡ last_digits 10 (1 + l) =
+    let names : 114 ∷ 46 ∷ last_digits 10 (1 + k) ≡ 114 ∷ 46 ∷ last_digits 10 (1 + l) = named in cc in
+    let low = within S k (Remove a) first in
+    let also = within S l (Remove b) second in
+    let one = digits_one 10 (1 + k) (1 + l) (omega (arith, low)) (omega (arith, also)) digits in
+    omega arith
+changes_apart host S k l (Group a) (Remove b) small lawful first second named =
+    absurd (let octets : 103 ≡ 114 = ap (λ (o : Octets). get_or o 0 0) named in omega arith)
+changes_apart host S k l (Article a) (Remove b) small lawful first second named =
+    absurd (let octets : 97 ≡ 114 = ap (λ (o : Octets). get_or o 0 0) named in omega arith)
+changes_apart host S k l (Expire a) (Remove b) small lawful first second named =
+    absurd (let octets : 120 ≡ 114 = ap (λ (o : Octets). get_or o 0 0) named in omega arith)
+changes_apart host S k l (Remove a) (Group b) small lawful first second named =
+    absurd (let octets : 114 ≡ 103 = ap (λ (o : Octets). get_or o 0 0) named in omega arith)
+changes_apart host S k l (Remove a) (Article b) small lawful first second named =
+    absurd (let octets : 114 ≡ 97 = ap (λ (o : Octets). get_or o 0 0) named in omega arith)
+changes_apart host S k l (Remove a) (Expire b) small lawful first second named =
+    absurd (let octets : 114 ≡ 120 = ap (λ (o : Octets). get_or o 0 0) named in omega arith)
+changes_apart host S k l (Amend a) (Amend b) small lawful first second named =
+    let digits : last_digits 10 (1 + k) ≡ last_digits 10 (1 + l) =
+    let names : 109 ∷ 46 ∷ last_digits 10 (1 + k) ≡ 109 ∷ 46 ∷ last_digits 10 (1 + l) = named in cc in
+    let low = within S k (Amend a) first in
+    let also = within S l (Amend b) second in
+    let one = digits_one 10 (1 + k) (1 + l) (omega (arith, low)) (omega (arith, also)) digits in
+    omega arith
+changes_apart host S k l (Group a) (Amend b) small lawful first second named =
+    absurd (let octets : 103 ≡ 109 = ap (λ (o : Octets). get_or o 0 0) named in omega arith)
+changes_apart host S k l (Article a) (Amend b) small lawful first second named =
+    absurd (let octets : 97 ≡ 109 = ap (λ (o : Octets). get_or o 0 0) named in omega arith)
+changes_apart host S k l (Expire a) (Amend b) small lawful first second named =
+    absurd (let octets : 120 ≡ 109 = ap (λ (o : Octets). get_or o 0 0) named in omega arith)
+changes_apart host S k l (Remove a) (Amend b) small lawful first second named =
+    absurd (let octets : 114 ≡ 109 = ap (λ (o : Octets). get_or o 0 0) named in omega arith)
+changes_apart host S k l (Amend a) (Group b) small lawful first second named =
+    absurd (let octets : 109 ≡ 103 = ap (λ (o : Octets). get_or o 0 0) named in omega arith)
+changes_apart host S k l (Amend a) (Article b) small lawful first second named =
+    absurd (let octets : 109 ≡ 97 = ap (λ (o : Octets). get_or o 0 0) named in omega arith)
+changes_apart host S k l (Amend a) (Expire b) small lawful first second named =
+    absurd (let octets : 109 ≡ 120 = ap (λ (o : Octets). get_or o 0 0) named in omega arith)
+changes_apart host S k l (Amend a) (Remove b) small lawful first second named =
+    absurd (let octets : 109 ≡ 114 = ap (λ (o : Octets). get_or o 0 0) named in omega arith)
 changes_apart host S k l (Group a) (Article b) small lawful first second named =
     absurd (let octets : 103 ≡ 97 = ap (λ (o : Octets). get_or o 0 0) named in omega arith)
 changes_apart host S k l (Group a) (Expire b) small lawful first second named =
@@ -171,6 +219,10 @@ index_apart octet rest k (Article a) which named =
     let octets : 97 ≡ octet = ap (λ (o : Octets). get_or o 0 0) named in elim which [ inl is ↦ omega arith | inr is ↦ omega arith ]
 index_apart octet rest k (Expire a) which named =
     let octets : 120 ≡ octet = ap (λ (o : Octets). get_or o 0 0) named in elim which [ inl is ↦ omega arith | inr is ↦ omega arith ]
+index_apart octet rest k (Remove a) which named =
+    let octets : 114 ≡ octet = ap (λ (o : Octets). get_or o 0 0) named in elim which [ inl is ↦ omega arith | inr is ↦ omega arith ]
+index_apart octet rest k (Amend a) which named =
+    let octets : 109 ≡ octet = ap (λ (o : Octets). get_or o 0 0) named in elim which [ inl is ↦ omega arith | inr is ↦ omega arith ]
 
 one_file : (host : Octets) (S : Spool) (f g : File) → length S + 1 < 10 ^ 10 → IsLawful host S → IsFrom S f → IsFrom S g → f.name ≡ g.name
     → f ≡ g

@@ -19,7 +19,7 @@ use Rattle.model.specs.Packs.{IsMember, IsStored, pack_name, pack_octets, pack_o
 use Rattle.model.specs.Laws.SpoolFiles.{ChangesAreCounted, ChangesAreRead, FilesAreCounted, FilesAreOnce, FilesMakeSpool, FrontsAreRead}
 use Rattle.model.specs.Laws.SpoolFiles.{IsOnce}
 use Rattle.model.specs.declared.change.Change.{Change}
-use Rattle.model.specs.declared.change.Change.TheVariants.{Group, Article, Expire}
+use Rattle.model.specs.declared.change.Change.TheVariants.{Group, Article, Expire, Remove, Amend}
 use Rattle.model.proofs.HoldsOne.{changes_few, entry_at, fits_lawful, no_change, not_the_pack, same_change, source_is}
 use Rattle.model.proofs.Inodes.{names_once, where_is}
 use Rattle.model.proofs.Joined.{joined_from}
@@ -99,6 +99,8 @@ counted_from S n [] = refl
 counted_from S n (Group created ∷ R) = omega (arith, counted_from S (suc n) R)
 counted_from S n (Article filing ∷ R) = omega (arith, counted_from S (suc n) R)
 counted_from S n (Expire expiry ∷ R) = omega (arith, counted_from S (suc n) R)
+counted_from S n (Remove removal ∷ R) = omega (arith, counted_from S (suc n) R)
+counted_from S n (Amend amended ∷ R) = omega (arith, counted_from S (suc n) R)
 
 pub files_counted : FilesAreCounted
 unfolding files_of entries groups
@@ -128,6 +130,8 @@ pub of_change : (n : ℕ) (c : Change) → is_of_change (change_file (record { s
 of_change n (Group created) = refl
 of_change n (Article filing) = refl
 of_change n (Expire expiry) = refl
+of_change n (Remove removal) = refl
+of_change n (Amend amended) = refl
 
 abbrev counted : List File → ℕ
 counted files = count_by is_of_change files
@@ -148,6 +152,8 @@ entry_counts S n (Group created) =
     omega (arith, one_counted its (second ∷ third ∷ []) refl, none_counted second (third ∷ []) refl, none_counted third [] refl)
 entry_counts S n (Article filing) = one_counted (change_file (record { serial = n; change = Article filing })) [] refl
 entry_counts S n (Expire expiry) = one_counted (change_file (record { serial = n; change = Expire expiry })) [] refl
+entry_counts S n (Remove removal) = one_counted (change_file (record { serial = n; change = Remove removal })) [] refl
+entry_counts S n (Amend amended) = one_counted (change_file (record { serial = n; change = Amend amended })) [] refl
 
 entries_count : (S : Spool) (n : ℕ) (R : Spool) → counted (flat_map (entry_files S) (entries_from n R)) ≡ length R
 entries_count S n [] = refl

@@ -1,6 +1,6 @@
 -- How a spool grows where some of its files are packed.
 use Rattle.std.proofs.Common.{◌≡◌, ◌≢◌, ◌⊎◌, inl, inr, ◌<◌, ◌^◌, ℕ, ◌+◌, List, [], ◌∷◌, ◌++◌, length, get_or, drop, refl, sym, ◌∙◌}
-use Rattle.std.proofs.Common.{ap, subst, arith, eqb}
+use Rattle.std.proofs.Common.{ap, subst, arith, eqb, ◌||◌}
 use Rattle.std.specs.Prelude.{All, flat_map, slice_get, Some}
 use Rattle.std.specs.List.{Contains}
 use Rattle.std.proofs.lemmas.Bool.{eqb-true, or_cases}
@@ -13,12 +13,12 @@ use Rattle.model.specs.FileCalls.{next_record}
 use Rattle.model.specs.Packs.{IsMember, StandFor, pack_name, packed_calls, packing_calls}
 use Rattle.model.specs.Records.{last_digits}
 use Rattle.model.specs.Spool.{Spool}
-use Rattle.model.specs.SpoolFiles.{article_name, change_file, expiry_name, files_of, numbers_name, overview_name}
+use Rattle.model.specs.SpoolFiles.{article_name, change_file, expiry_name, removal_name, amendment_name, files_of, numbers_name, overview_name}
 use Rattle.model.specs.Laws.Packs.{PackedSpoolsGrow}
 use Rattle.model.specs.Laws.SpoolFiles.{SpoolsGrow}
 use Rattle.model.specs.declared.change.Change.{Change}
-use Rattle.model.specs.declared.change.Change.TheVariants.{Group, Article, Expire}
-use Rattle.model.proofs.Growing.{calls_after, digits_one, files_grow, lacks_article, lacks_expiry, made}
+use Rattle.model.specs.declared.change.Change.TheVariants.{Group, Article, Expire, Remove, Amend}
+use Rattle.model.proofs.Growing.{calls_after, digits_one, files_grow, lacks_article, lacks_amendment, lacks_expiry, lacks_removal, made}
 use Rattle.model.proofs.LawfulLaws.{lawful_more}
 use Rattle.model.proofs.Naming.{IsFrom, is_from, within}
 use Rattle.model.proofs.Packing.{IsPlainCall, calls_plain, packs_grow, stored_same}
@@ -28,18 +28,28 @@ use Rattle.model.proofs.Packing.{IsPlainCall, calls_plain, packs_grow, stored_sa
 first_is : (f : File) (octet : ℕ) (rest : Octets) → f.name ≡ octet ∷ rest → get_or f.name 0 0 ≡ octet
 first_is f octet rest named = ap (λ (o : Octets). get_or o 0 0) named
 
--- a packed file is named as an article's or an expiry's
-pub not_of_index : (f : File) (octet : ℕ) (rest : Octets) → IsMember f → octet ≢ 97 → octet ≢ 120 → f.name ≢ octet ∷ rest
-not_of_index f octet rest one article expiry named =
-    elim (or_cases (eqb (get_or f.name 0 0) 97) (eqb (get_or f.name 0 0) 120) one.kind) [
+-- a packed file is named as an article's, an expiry's, a removal's or an amendment's
+pub not_of_index : (f : File) (octet : ℕ) (rest : Octets) → IsMember f → octet ≢ 97 → octet ≢ 120 → octet ≢ 114 → octet ≢ 109
+    → f.name ≢ octet ∷ rest
+not_of_index f octet rest one article expiry removal amendment named =
+    let which = or_cases (eqb (get_or f.name 0 0) 97)
+    (eqb (get_or f.name 0 0) 120 || (eqb (get_or f.name 0 0) 114 || eqb (get_or f.name 0 0) 109)) one.kind in
+    elim which [
       | inl is ↦ article (sym (first_is f octet rest named) ∙ eqb-true (get_or f.name 0 0) 97 is)
-      | inr is ↦ expiry (sym (first_is f octet rest named) ∙ eqb-true (get_or f.name 0 0) 120 is)
+      | inr other ↦ elim (or_cases (eqb (get_or f.name 0 0) 120) (eqb (get_or f.name 0 0) 114 || eqb (get_or f.name 0 0) 109) other) [
+        | inl is ↦ expiry (sym (first_is f octet rest named) ∙ eqb-true (get_or f.name 0 0) 120 is)
+        | inr last ↦ elim (or_cases (eqb (get_or f.name 0 0) 114) (eqb (get_or f.name 0 0) 109) last) [
+          | inl is ↦ removal (sym (first_is f octet rest named) ∙ eqb-true (get_or f.name 0 0) 114 is)
+          | inr is ↦ amendment (sym (first_is f octet rest named) ∙ eqb-true (get_or f.name 0 0) 109 is)
+        ]
+      ]
     ]
 
-all_not_of_index : (packed : List File) (octet : ℕ) (rest : Octets) → All IsMember packed → octet ≢ 97 → octet ≢ 120
-    → All (λ f. f.name ≢ octet ∷ rest) packed
-all_not_of_index packed octet rest each article expiry =
-    All-weaker IsMember (λ (f : File). f.name ≢ octet ∷ rest) (λ f one. not_of_index f octet rest one article expiry) packed each
+all_not_of_index : (packed : List File) (octet : ℕ) (rest : Octets) → All IsMember packed → octet ≢ 97 → octet ≢ 120 → octet ≢ 114
+    → octet ≢ 109 → All (λ f. f.name ≢ octet ∷ rest) packed
+all_not_of_index packed octet rest each article expiry removal amendment =
+    All-weaker IsMember (λ (f : File). f.name ≢ octet ∷ rest)
+    (λ f one. not_of_index f octet rest one article expiry removal amendment) packed each
 
 -- a serial that is still to come
 later_digits : (S : Spool) (k : ℕ) (c : Change) → length S + 1 < 10 ^ 10 → slice_get S k ≡ Some c
@@ -49,25 +59,36 @@ later_digits S k c small there same =
     let one : 1 + k ≡ length S + 1 = digits_one 10 (1 + k) (length S + 1) (omega (arith, low, small)) small same in
     omega (arith, low, one)
 
--- no file of the spool has the name of the next article or expiry
-not_next : (S : Spool) (f : File) (octet : ℕ) → length S + 1 < 10 ^ 10 → (octet ≡ 97) ⊎ (octet ≡ 120) → IsFrom S f
+none_of : (octet : ℕ) → (octet ≡ 97) ⊎ ((octet ≡ 120) ⊎ ((octet ≡ 114) ⊎ (octet ≡ 109))) → octet ≢ 97 → octet ≢ 120
+    → octet ≢ 114 → octet ≢ 109 → ⊥
+none_of octet (inl is) article expiry removal amendment = article is
+none_of octet (inr (inl is)) article expiry removal amendment = expiry is
+none_of octet (inr (inr (inl is))) article expiry removal amendment = removal is
+none_of octet (inr (inr (inr is))) article expiry removal amendment = amendment is
+
+-- no file of the spool has the name of the next article, expiry or removal
+not_next : (S : Spool) (f : File) (octet : ℕ) → length S + 1 < 10 ^ 10 → (octet ≡ 97) ⊎ ((octet ≡ 120) ⊎ ((octet ≡ 114) ⊎ (octet ≡ 109))) → IsFrom S f
     → f.name ≢ octet ∷ 46 ∷ last_digits 10 (length S + 1)
 not_next S f octet small which (inl (k, Group a, there, is)) named =
     let octets : 103 ≡ octet = ap (λ (g : File). get_or g.name 0 0) is ∙ first_is f octet (46 ∷ last_digits 10 (length S + 1)) named in
-    elim which [ inl one ↦ omega (arith, octets, one) | inr one ↦ omega (arith, octets, one) ]
+    none_of octet which (omega (arith, octets)) (omega (arith, octets)) (omega (arith, octets)) (omega (arith, octets))
 not_next S f octet small which (inl (k, Article a, there, is)) named =
     later_digits S k (Article a) small there (ap (λ (g : File). drop 2 g.name) is ∙ ap (drop 2) named)
 not_next S f octet small which (inl (k, Expire e, there, is)) named =
     later_digits S k (Expire e) small there (ap (λ (g : File). drop 2 g.name) is ∙ ap (drop 2) named)
+not_next S f octet small which (inl (k, Remove r, there, is)) named =
+    later_digits S k (Remove r) small there (ap (λ (g : File). drop 2 g.name) is ∙ ap (drop 2) named)
+not_next S f octet small which (inl (k, Amend a, there, is)) named =
+    later_digits S k (Amend a) small there (ap (λ (g : File). drop 2 g.name) is ∙ ap (drop 2) named)
 not_next S f octet small which (inr (inl (g, is))) named =
     let octets : 110 ≡ octet = ap (λ (h : File). get_or h.name 0 0) is ∙ first_is f octet (46 ∷ last_digits 10 (length S + 1)) named in
-    elim which [ inl one ↦ omega (arith, octets, one) | inr one ↦ omega (arith, octets, one) ]
+    none_of octet which (omega (arith, octets)) (omega (arith, octets)) (omega (arith, octets)) (omega (arith, octets))
 not_next S f octet small which (inr (inr (g, is))) named =
     let octets : 111 ≡ octet = ap (λ (h : File). get_or h.name 0 0) is ∙ first_is f octet (46 ∷ last_digits 10 (length S + 1)) named in
-    elim which [ inl one ↦ omega (arith, octets, one) | inr one ↦ omega (arith, octets, one) ]
+    none_of octet which (omega (arith, octets)) (omega (arith, octets)) (omega (arith, octets)) (omega (arith, octets))
 
 none_next : (S : Spool) (stored : List File) (s : StandFor stored (files_of S)) (octet : ℕ) → length S + 1 < 10 ^ 10
-    → (octet ≡ 97) ⊎ (octet ≡ 120) → All (λ f. f.name ≢ octet ∷ 46 ∷ last_digits 10 (length S + 1)) s.packed
+    → (octet ≡ 97) ⊎ ((octet ≡ 120) ⊎ ((octet ≡ 114) ⊎ (octet ≡ 109))) → All (λ f. f.name ≢ octet ∷ 46 ∷ last_digits 10 (length S + 1)) s.packed
 none_next S stored s octet small which =
     All-weaker (Contains s.packed) (λ (f : File). f.name ≢ octet ∷ 46 ∷ last_digits 10 (length S + 1))
     (λ f has. not_next S f octet small which (is_from S f (Contains-permutation (s.plain ++ s.packed) (files_of S) f s.files_are
@@ -83,10 +104,16 @@ filing_plain : (packed : List File) (S : Spool) (text : Octets) (gs : List Octet
 filing_plain packed S text [] each = All-nil (IsPlainCall packed)
 filing_plain packed S text (g ∷ gs) each =
     let rest = flat_map (filing_calls S text) gs in
-    All-cons (IsPlainCall packed) (Append (numbers_name g) (next_record S text g)) (Append (overview_name g) (next_line S text g) ∷ rest)
-    (not_pack 110 (46 ∷ g) (λ e. omega arith), all_not_of_index packed 110 (46 ∷ g) each (λ e. omega arith) (λ e. omega arith))
-    (All-cons (IsPlainCall packed) (Append (overview_name g) (next_line S text g)) rest
-    (not_pack 111 (46 ∷ g) (λ e. omega arith), all_not_of_index packed 111 (46 ∷ g) each (λ e. omega arith) (λ e. omega arith))
+    All-cons (IsPlainCall packed) (Append (numbers_name g) (next_record S text g)) (Append (overview_name g) (next_line S text g) ∷ rest) (
+      not_pack 110 (46 ∷ g) (λ e. omega arith),
+      all_not_of_index packed 110 (46 ∷ g) each (λ e. omega arith) (λ e. omega arith) (λ e. omega arith)
+          (λ e. omega arith),
+    )
+    (All-cons (IsPlainCall packed) (Append (overview_name g) (next_line S text g)) rest (
+      not_pack 111 (46 ∷ g) (λ e. omega arith),
+      all_not_of_index packed 111 (46 ∷ g) each (λ e. omega arith) (λ e. omega arith) (λ e. omega arith)
+          (λ e. omega arith),
+    )
     (filing_plain packed S text gs each))
 
 index_plain : (packed : List File) (S : Spool) (c : Change) → All IsMember packed → All (IsPlainCall packed) (index_calls S c)
@@ -97,6 +124,8 @@ index_plain packed S (Group g) each =
     (All-nil (IsPlainCall packed)))
 index_plain packed S (Article f) each = filing_plain packed S f.text f.envelope.groups each
 index_plain packed S (Expire e) each = All-nil (IsPlainCall packed)
+index_plain packed S (Remove r) each = All-nil (IsPlainCall packed)
+index_plain packed S (Amend g) each = All-nil (IsPlainCall packed)
 
 making_plain : (packed : List File) (octet : ℕ) (rest octets : Octets) → octet ≢ 112 → All (λ f. f.name ≢ octet ∷ rest) packed
     → All (IsPlainCall packed) (making_calls (octet ∷ rest) octets)
@@ -115,17 +144,24 @@ own_plain : (S : Spool) (c : Change) (stored : List File) (s : StandFor stored (
 unfolding own_calls
 own_plain S (Group g) stored s small =
     making_plain s.packed 103 (46 ∷ g.name) _ (λ e. omega arith)
-    (all_not_of_index s.packed 103 (46 ∷ g.name) s.members (λ e. omega arith) (λ e. omega arith))
+    (all_not_of_index s.packed 103 (46 ∷ g.name) s.members (λ e. omega arith) (λ e. omega arith) (λ e. omega arith)
+    (λ e. omega arith))
 own_plain S (Article f) stored s small =
     making_plain s.packed 97 (46 ∷ last_digits 10 (length S + 1)) _ (λ e. omega arith) (none_next S stored s 97 small (inl refl))
 own_plain S (Expire e) stored s small =
-    making_plain s.packed 120 (46 ∷ last_digits 10 (length S + 1)) _ (λ e. omega arith) (none_next S stored s 120 small (inr refl))
+    making_plain s.packed 120 (46 ∷ last_digits 10 (length S + 1)) _ (λ e. omega arith) (none_next S stored s 120 small (inr (inl refl)))
+own_plain S (Remove r) stored s small =
+    making_plain s.packed 114 (46 ∷ last_digits 10 (length S + 1)) _ (λ e. omega arith) (none_next S stored s 114 small (inr (inr (inl refl))))
+own_plain S (Amend g) stored s small =
+    making_plain s.packed 109 (46 ∷ last_digits 10 (length S + 1)) _ (λ e. omega arith) (none_next S stored s 109 small (inr (inr (inr refl))))
 
 all_calls : (S : Spool) (c : Change) → change_calls S c ≡ own_calls S c ++ index_calls S c
 unfolding own_calls
 all_calls S (Group g) = refl
 all_calls S (Article f) = refl
 all_calls S (Expire e) = refl
+all_calls S (Remove r) = refl
+all_calls S (Amend g) = refl
 
 -- ---- one more change
 
@@ -150,13 +186,19 @@ own_file : (S : Spool) (c : Change) → length S + 1 < 10 ^ 10 → IsMember (cha
 unfolding own_calls
 own_file S (Group g) small one =
     absurd (not_of_index (change_file (record { serial = length S + 1; change = Group g })) 103 (46 ∷ g.name) one (λ e. omega arith)
-    (λ e. omega arith) refl)
+    (λ e. omega arith) (λ e. omega arith) (λ e. omega arith) refl)
 own_file S (Article f) small one =
     made S (article_name (length S + 1)) (change_file (record { serial = length S + 1; change = Article f })).content (λ g. (refl, refl))
     (lacks_article (length S + 1) 1 S (omega arith) small)
 own_file S (Expire e) small one =
     made S (expiry_name (length S + 1)) (change_file (record { serial = length S + 1; change = Expire e })).content (λ g. (refl, refl))
     (lacks_expiry (length S + 1) 1 S (omega arith) small)
+own_file S (Remove r) small one =
+    made S (removal_name (length S + 1)) (change_file (record { serial = length S + 1; change = Remove r })).content (λ g. (refl, refl))
+    (lacks_removal (length S + 1) 1 S (omega arith) small)
+own_file S (Amend g) small one =
+    made S (amendment_name (length S + 1)) (change_file (record { serial = length S + 1; change = Amend g })).content (λ h. (refl, refl))
+    (lacks_amendment (length S + 1) 1 S (omega arith) small)
 
 pub packed_grow : PackedSpoolsGrow
 packed_grow host inodes blocks stored files S c small lawful may s one held same =

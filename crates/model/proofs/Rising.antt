@@ -10,11 +10,13 @@ use Rattle.std.proofs.Math.Nat.{le-max_left, le-max_right}
 use Rattle.model.specs.Stream.{Octets}
 use Rattle.model.specs.Spool.{Spool, SpoolEntry, entries_from, entries, NewsExpiry, NewsArticle, expiry_made, expiries, expiries_of}
 use Rattle.model.specs.Spool.{article_filed, articles, filed_in, greatest, is_name, low, news_article, news_expiry}
-use Rattle.model.specs.Lawful.{MayFollow, IsLawfulAfter}
+use Rattle.model.specs.Lawful.{MayFollow, IsLawfulAfter, IsLawful}
 use Rattle.model.specs.Laws.Indexed.{ExpiriesRise, FiledRise}
 use Rattle.model.specs.declared.change.Change.{Change}
-use Rattle.model.specs.declared.change.Change.TheVariants.{Group, Article, Expire}
+use Rattle.model.specs.declared.change.Change.TheVariants.{Group, Article, Expire, Remove, Amend}
 use Rattle.model.proofs.Growing.{entries_push}
+use Rattle.model.proofs.LawfulLaws.{lawful_more}
+use Rattle.model.proofs.Within.{reach_below}
 
 -- each number below all later ones
 abbrev Rises : List ℕ → Type 0
@@ -57,15 +59,21 @@ expiry_push S g c =
     ∙ ap (filter (λ (x : NewsExpiry). is_name g x.group)) (filter_map-append expiry_made (entries_from 1 S) (e ∷ []))
     ∙ filter-append (λ (x : NewsExpiry). is_name g x.group) (filter_map expiry_made (entries_from 1 S)) (filter_map expiry_made (e ∷ []))
 
-one_more : (host : Octets) (S : Spool) (g : Octets) (c : Change) → MayFollow host S c → Rises (numbers S g)
+one_more : (host : Octets) (S : Spool) (g : Octets) (c : Change) → IsLawful host S → MayFollow host S c → Rises (numbers S g)
     → Rises (numbers (S ++ c ∷ []) g)
-one_more host S g (Group created) may rise =
+one_more host S g (Group created) lawful may rise =
     subst (λ (es : List NewsExpiry). Rises (map (λ e. e.number) es))
     (sym (expiry_push S g (Group created) ∙ append-nil (expiries_of S g))) rise
-one_more host S g (Article filing) may rise =
+one_more host S g (Article filing) lawful may rise =
     subst (λ (es : List NewsExpiry). Rises (map (λ e. e.number) es))
     (sym (expiry_push S g (Article filing) ∙ append-nil (expiries_of S g))) rise
-one_more host S g (Expire expiry) may rise = by_name (bytes_eq expiry.group g) refl (expiry_push S g (Expire expiry)) where
+one_more host S g (Remove removal) lawful may rise =
+    subst (λ (es : List NewsExpiry). Rises (map (λ e. e.number) es))
+    (sym (expiry_push S g (Remove removal) ∙ append-nil (expiries_of S g))) rise
+one_more host S g (Amend amended) lawful may rise =
+    subst (λ (es : List NewsExpiry). Rises (map (λ e. e.number) es))
+    (sym (expiry_push S g (Amend amended) ∙ append-nil (expiries_of S g))) rise
+one_more host S g (Expire expiry) lawful may rise = by_name (bytes_eq expiry.group g) refl (expiry_push S g (Expire expiry)) where
   its : NewsExpiry
   its = news_expiry (length S + 1) expiry
 
@@ -74,18 +82,19 @@ one_more host S g (Expire expiry) may rise = by_name (bytes_eq expiry.group g) r
   by_name false is more = subst (λ (es : List NewsExpiry). Rises (map (λ e. e.number) es)) (sym (more ∙ append-nil (expiries_of S g))) rise
   by_name true is more =
       let same : expiry.group ≡ g = (bytes_eq-Decides expiry.group g).0 is in
-      let above : greatest (numbers S g) < expiry.number = omega (arith, may.from_low, ap (low S) same) in
+      let above : greatest (numbers S g) < expiry.number = omega (arith, may.from_low, ap (low S) same, reach_below host S g lawful) in
       subst Rises
       (sym (ap (map (λ (e : NewsExpiry). e.number)) more
       ∙ map-append (λ (e : NewsExpiry). e.number) (expiries_of S g) (its ∷ [])))
       (rises_push (numbers S g) expiry.number rise above)
 
-all_rise : (host : Octets) (before cs : Spool) (g : Octets) → IsLawfulAfter host before cs → Rises (numbers before g)
+all_rise : (host : Octets) (before cs : Spool) (g : Octets) → IsLawful host before → IsLawfulAfter host before cs → Rises (numbers before g)
     → Rises (numbers (before ++ cs) g)
-all_rise host before [] g lawful rise = subst (λ (S : Spool). Rises (numbers S g)) (sym (append-nil before)) rise
-all_rise host before (c ∷ cs) g lawful rise =
+all_rise host before [] g first lawful rise = subst (λ (S : Spool). Rises (numbers S g)) (sym (append-nil before)) rise
+all_rise host before (c ∷ cs) g first lawful rise =
     subst (λ (S : Spool). Rises (numbers S g)) (append_assoc before (c ∷ []) cs)
-    (all_rise host (before ++ c ∷ []) cs g lawful.1 (one_more host before g c lawful.0 rise))
+    (all_rise host (before ++ c ∷ []) cs g (lawful_more host [] before c first lawful.0) lawful.1
+    (one_more host before g c first lawful.0 rise))
 
 none_yet : (g : Octets) → Rises (numbers [] g)
 unfolding expiries_of expiries entries
@@ -93,7 +102,7 @@ none_yet g = tt
 
 pub expiries_rise : ExpiriesRise
 expiries_rise host S g i j lawful less within =
-    rises_at (numbers S g) (all_rise host [] S g lawful (none_yet g)) i j less
+    rises_at (numbers S g) (all_rise host [] S g tt lawful (none_yet g)) i j less
     (omega (arith, length-map (expiries_of S g) (λ (e : NewsExpiry). e.number)))
 
 -- ---- articles
@@ -108,6 +117,8 @@ serials_from g n [] = (tt, λ k low. absurd (omega arith))
 serials_from g n (Group created ∷ S) = let rest = serials_from g (suc n) S in
     (rest.0, λ k low. omega (arith, rest.1 k low))
 serials_from g n (Expire expiry ∷ S) = let rest = serials_from g (suc n) S in (rest.0, λ k low. omega (arith, rest.1 k low))
+serials_from g n (Remove removal ∷ S) = let rest = serials_from g (suc n) S in (rest.0, λ k low. omega (arith, rest.1 k low))
+serials_from g n (Amend amended ∷ S) = let rest = serials_from g (suc n) S in (rest.0, λ k low. omega (arith, rest.1 k low))
 serials_from g n (Article filing ∷ S) = by_test (list_any (is_name g) filing.envelope.groups) (serials_from g (suc n) S) where
   later : List NewsArticle
   later = filter (λ a. list_any (is_name g) a.groups) (filter_map article_filed (entries_from (suc n) S))

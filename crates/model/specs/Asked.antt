@@ -8,7 +8,7 @@ use Rattle.model.specs.Room.{blocks_for, content_blocks}
 use Rattle.model.specs.Spool.{Spool}
 use Rattle.model.specs.SpoolFiles.{change_file, numbers_file, overview_file}
 use Rattle.model.specs.declared.change.Change.{Change}
-use Rattle.model.specs.declared.change.Change.TheVariants.{Group, Article, Expire}
+use Rattle.model.specs.declared.change.Change.TheVariants.{Group, Article, Expire, Remove, Amend}
 
 -- ---- what a change asks for
 
@@ -63,6 +63,10 @@ blocks_changed S (Article f) =
     + sum_by (blocks_filed S f.text) f.envelope.groups
 blocks_changed S (Expire e) =
     blocks_made (length (change_file (record { serial = length S + 1; change = Expire e })).content)
+blocks_changed S (Remove r) =
+    blocks_made (length (change_file (record { serial = length S + 1; change = Remove r })).content)
+blocks_changed S (Amend g) =
+    blocks_made (length (change_file (record { serial = length S + 1; change = Amend g })).content)
 
 -- the most blocks that a change alters beside those of the bitmap: of an article 1 with its inode, 1 with its slot, 65 with its
 -- octets and one of pointers; for each of 16 groups 4 for its numbers and 7 for its overview

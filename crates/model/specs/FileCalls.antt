@@ -3,11 +3,11 @@ use Rattle.std.specs.Prelude.{◌+◌, List, [], ◌∷◌, ◌++◌, if◌then�
 use Rattle.model.specs.Stream.{Octets}
 use Rattle.model.specs.Article.{overview_line}
 use Rattle.model.specs.Files.{File}
-use Rattle.model.specs.Records.{group_record, article_record, expiry_record}
-use Rattle.model.specs.Spool.{Spool, high, news_article, news_expiry, news_group}
-use Rattle.model.specs.SpoolFiles.{group_name, numbers_name, overview_name, article_name, expiry_name, number_record, overview_file}
+use Rattle.model.specs.Records.{group_record, article_record, expiry_record, removal_record, amendment_record}
+use Rattle.model.specs.Spool.{Spool, high, news_article, news_expiry, news_group, news_removal}
+use Rattle.model.specs.SpoolFiles.{group_name, numbers_name, overview_name, article_name, expiry_name, removal_name, amendment_name, number_record, overview_file}
 use Rattle.model.specs.declared.change.Change.{Change}
-use Rattle.model.specs.declared.change.Change.TheVariants.{Group, Article, Expire}
+use Rattle.model.specs.declared.change.Change.TheVariants.{Group, Article, Expire, Remove, Amend}
 
 -- a call on files: an empty file is made; octets are appended to a file
 pub data FileCall : Type 0 where
@@ -46,6 +46,8 @@ abbrev pub index_calls : Spool → Change → List FileCall
 index_calls S (Group g) = Create (numbers_name g.name) ∷ Create (overview_name g.name) ∷ []
 index_calls S (Article f) = flat_map (filing_calls S f.text) f.envelope.groups
 index_calls S (Expire e) = []
+index_calls S (Remove r) = []
+index_calls S (Amend g) = []
 
 -- the calls that a change makes after these changes
 abbrev pub change_calls : Spool → Change → List FileCall
@@ -57,3 +59,7 @@ change_calls S (Article f) =
     ++ flat_map (filing_calls S f.text) f.envelope.groups
 change_calls S (Expire e) =
     making_calls (expiry_name (length S + 1)) (expiry_record (news_expiry (length S + 1) e))
+change_calls S (Remove r) =
+    making_calls (removal_name (length S + 1)) (removal_record (news_removal (length S + 1) r))
+change_calls S (Amend g) =
+    making_calls (amendment_name (length S + 1)) (amendment_record (news_group (length S + 1) g))

@@ -1,13 +1,13 @@
 -- The files of a spool by kind, and which numbers fit into them.
 use Rattle.std.specs.Prelude.{ℕ, ◌^◌, ◌<◌, Bool, ◌==◌, ◌||◌, slice_index, List, [], ◌∷◌, ◌++◌, map, flat_map, length}
 use Rattle.model.specs.Files.{File}
-use Rattle.model.specs.Records.{group_record, article_record, expiry_record}
-use Rattle.model.specs.Spool.{IsEnvelope, Spool, NewsGroup, NewsArticle, NewsExpiry, groups, articles, expiries}
-use Rattle.model.specs.SpoolFiles.{group_name, numbers_name, overview_name, article_name, expiry_name, numbers_file, overview_file}
+use Rattle.model.specs.Records.{group_record, article_record, expiry_record, removal_record, amendment_record}
+use Rattle.model.specs.Spool.{IsEnvelope, Spool, NewsGroup, NewsArticle, NewsExpiry, NewsRemoval, groups, articles, expiries, removals, amendments}
+use Rattle.model.specs.SpoolFiles.{group_name, numbers_name, overview_name, article_name, expiry_name, removal_name, amendment_name, numbers_file, overview_file}
 use Rattle.model.specs.declared.change.Change.{Change}
-use Rattle.model.specs.declared.change.Change.TheVariants.{Group, Article, Expire}
+use Rattle.model.specs.declared.change.Change.TheVariants.{Group, Article, Expire, Remove, Amend}
 
--- by kind: three of each group, one of each article, one of each expiry
+-- by kind: three of each group, one of each article, one of each expiry, one of each removal, one of each amendment
 abbrev pub group_files : Spool → NewsGroup → List File
 group_files S g =
     record { name = group_name g.name; content = group_record g }
@@ -21,15 +21,23 @@ article_file a = record { name = article_name a.serial; content = article_record
 abbrev pub expiry_file : NewsExpiry → File
 expiry_file e = record { name = expiry_name e.serial; content = expiry_record e }
 
-unfoldable pub files_by_kind : Spool → List File
-files_by_kind S = flat_map (group_files S) (groups S) ++ (map article_file (articles S) ++ map expiry_file (expiries S))
+abbrev pub removal_file : NewsRemoval → File
+removal_file r = record { name = removal_name r.serial; content = removal_record r }
 
--- a file of a change, by the first octet of its name: g, a or x
+abbrev pub amendment_file : NewsGroup → File
+amendment_file a = record { name = amendment_name a.serial; content = amendment_record a }
+
+unfoldable pub files_by_kind : Spool → List File
+files_by_kind S = flat_map (group_files S) (groups S) ++ (map article_file (articles S) ++ (map expiry_file (expiries S) ++ (map removal_file (removals S) ++ map amendment_file (amendments S))))
+
+-- a file of a change, by the first octet of its name: g, a, x, r or m
 abbrev pub is_of_change : File → Bool
-is_of_change file = slice_index file.name 0 == 103 || (slice_index file.name 0 == 97 || slice_index file.name 0 == 120)
+is_of_change file = slice_index file.name 0 == 103 || (slice_index file.name 0 == 97 || (slice_index file.name 0 == 120 || (slice_index file.name 0 == 114 || slice_index file.name 0 == 109)))
 
 -- the serial and the numbers of a change fit into its file
 abbrev pub HasRoomInFile : ℕ → Change → Type 0
 HasRoomInFile n (Group g) = (n < 256 ^ 8) × (g.moment < 256 ^ 8)
 HasRoomInFile n (Article f) = (n < 256 ^ 8) × IsEnvelope f.envelope × (length f.text < 256 ^ 4)
 HasRoomInFile n (Expire e) = (n < 256 ^ 8) × (e.number < 256 ^ 4)
+HasRoomInFile n (Remove r) = (n < 256 ^ 8) × (r.article < 256 ^ 8)
+HasRoomInFile n (Amend g) = (n < 256 ^ 8) × (g.moment < 256 ^ 8)

@@ -1,18 +1,21 @@
 -- What is kept in memory besides the files of a spool, so that no look-up searches the files. Each field is an equation
 -- with the spool, and one more change alters each field by at most one element. All of it is this project's own choice.
-use Rattle.std.specs.Prelude.{◌≡◌, ℕ, zero, suc, ◌+◌, List, [], ◌∷◌, ◌++◌, map, length, slice_index, slice_index_or, Option, Some, None}
-use Rattle.std.specs.Prelude.{bytes_eq, option_map}
+use Rattle.std.specs.Prelude.{◌≡◌, ℕ, zero, suc, min, ◌+◌, List, [], ◌∷◌, ◌++◌, map, length, slice_index, slice_index_or, Option, Some, None}
+use Rattle.std.specs.Prelude.{bytes_eq, filter, option_map}
+use Rattle.std.specs.List.{list_any}
 use Rattle.std.specs.Map.{lookup}
 use Rattle.model.specs.Stream.{Octets}
 use Rattle.model.specs.Files.{File, table}
-use Rattle.model.specs.Spool.{Spool, SpoolEntry, entries, NewsGroup, NewsExpiry, groups, group_named, filed_in, expiries_of, low}
-use Rattle.model.specs.Spool.{last_naming}
-use Rattle.model.specs.Spool.{by_id, news_group}
+use Rattle.model.specs.Spool.{Spool, SpoolEntry, entries, NewsGroup, NewsExpiry, NewsRemoval, groups, group_named, filed_in, expiries_of}
+use Rattle.model.specs.Spool.{as_amended, group_now, is_name, last_naming, removals}
+use Rattle.model.specs.Spool.{by_id, news_group, news_removal}
 use Rattle.model.specs.FileCalls.{next_line}
 use Rattle.model.specs.Packs.{member_octets, pack_name}
 use Rattle.model.specs.SpoolFiles.{change_file, numbers_name, overview_name, numbers_file, overview_file, overview_lines}
 use Rattle.model.specs.declared.change.Change.{Change}
-use Rattle.model.specs.declared.change.Change.TheVariants.{Group, Article, Expire}
+use Rattle.model.specs.declared.change.NewGroup.{NewGroup}
+use Rattle.model.specs.declared.change.Removal.{Removal}
+use Rattle.model.specs.declared.change.Change.TheVariants.{Group, Article, Expire, Remove, Amend}
 
 -- ---- a change, without its text
 
@@ -21,6 +24,8 @@ pub data Note : Type 0 where
   GroupNote : NewsGroup → Note
   ArticleNote : ℕ → List Octets → ℕ → Note
   ExpiryNote : Octets → ℕ → Note
+  RemovalNote : ℕ → List Octets → Note
+  AmendmentNote : NewsGroup → Note
 
 -- of an article: the length of its text, its groups, its moment
 abbrev pub note_of : SpoolEntry → Note
@@ -29,6 +34,8 @@ note_of e = by_change e.serial e.change where
   by_change n (Group g) = GroupNote (news_group n g)
   by_change n (Article f) = ArticleNote (length f.text) f.envelope.groups f.envelope.moment
   by_change n (Expire e) = ExpiryNote e.group e.number
+  by_change n (Remove r) = RemovalNote r.article r.groups
+  by_change n (Amend g) = AmendmentNote (news_group n g)
 
 -- ---- a group
 
@@ -43,21 +50,42 @@ pub record GroupIndex : Type 0 where
   pub filed : List ℕ
   -- where the overview line of each ends
   pub ends : List ℕ
-  pub low : ℕ
   -- its expiries, by rising number
   pub expired : List NewsExpiry
+  -- the removals from it, by rising serial
+  pub removed : List NewsRemoval
   -- the last serial that names it
   pub last : ℕ
 
+-- the removals from a group in rising serial
+unfoldable pub removals_of : Spool → Octets → List NewsRemoval
+removals_of S g = filter (λ r. list_any (is_name g) r.groups) (removals S)
+
 abbrev pub group_index : Spool → NewsGroup → GroupIndex
 group_index S g = record {
-  group = g;
+  group = group_now S g;
   filed = map (λ a. a.serial) (filed_in S g.name);
   ends = ends_from 0 (overview_lines (filed_in S g.name));
-  low = low S g.name;
   expired = expiries_of S g.name;
+  removed = removals_of S g.name;
   last = last_naming S g.name;
 }
+
+-- ---- which change removed a number
+
+-- the earlier of two serials, of which 0 is none
+abbrev pub earlier : ℕ → ℕ → ℕ
+earlier zero n = n
+earlier (suc m) zero = suc m
+earlier (suc m) (suc n) = min (suc m) (suc n)
+
+abbrev pub expiry_serial : Option NewsExpiry → ℕ
+expiry_serial None = 0
+expiry_serial (Some e) = e.serial
+
+abbrev pub removal_serial : Option NewsRemoval → ℕ
+removal_serial None = 0
+removal_serial (Some r) = r.serial
 
 -- where the line with place k begins, and where the last one ends
 abbrev pub line_start : List ℕ → ℕ → ℕ
@@ -75,13 +103,21 @@ with_article S text i = record i {
 
 abbrev pub with_expiry : Spool → ℕ → GroupIndex → GroupIndex
 with_expiry S number i = record i {
-  low = 1 + number;
   expired = i.expired ++ record { serial = length S + 1; group = i.group.name; number = number } ∷ [];
   last = length S + 1;
 }
 
+abbrev pub with_removal : Spool → Removal → GroupIndex → GroupIndex
+with_removal S r i = record i {
+  removed = i.removed ++ news_removal (length S + 1) r ∷ [];
+  last = length S + 1;
+}
+
+abbrev pub with_amendment : Spool → NewGroup → GroupIndex → GroupIndex
+with_amendment S g i = record i { group = as_amended i.group (news_group (length S + 1) g); last = length S + 1 }
+
 abbrev pub new_index : Spool → NewsGroup → GroupIndex
-new_index S g = record { group = g; filed = []; ends = []; low = 1; expired = []; last = length S + 1 }
+new_index S g = record { group = g; filed = []; ends = []; expired = []; removed = []; last = length S + 1 }
 
 -- ---- the whole
 

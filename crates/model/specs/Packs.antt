@@ -34,9 +34,10 @@ member_in octets = record {
 abbrev pub member_at : ℕ → Octets → File
 member_at from octets = member_in (drop from octets)
 
--- a file that may stand in the pack: that of an article or of an expiry, by the first octet of its name, a or x. Such a file never grows.
+-- a file that may stand in the pack: that of an article, of an expiry, of a removal or of an amendment, by the first octet of its name, a, x,
+-- r or m. Such a file never grows.
 pub record IsMember (f : File) : Type 0 where
-  pub kind : IsTrue (slice_index f.name 0 == 97 || slice_index f.name 0 == 120)
+  pub kind : IsTrue (slice_index f.name 0 == 97 || (slice_index f.name 0 == 120 || (slice_index f.name 0 == 114 || slice_index f.name 0 == 109)))
   pub fits : length f.content < 256 ^ 4
 
 -- the pack of these files; if there are none, there is no pack

@@ -3,7 +3,7 @@
 use Rattle.std.specs.Prelude.{ℕ, zero, suc, ◌+◌, ◌/◌, ◌%◌, [], ◌∷◌, ◌++◌, flat_map, length}
 use Rattle.byteorder.specs.Endian.{little_bytes}
 use Rattle.model.specs.Stream.{Octets}
-use Rattle.model.specs.Spool.{NewsGroup, NewsArticle, NewsExpiry, status_octet}
+use Rattle.model.specs.Spool.{NewsGroup, NewsArticle, NewsExpiry, NewsRemoval, status_octet}
 
 -- the last decimal digits of a number, this many of them
 abbrev pub last_digits : ℕ → ℕ → Octets
@@ -26,3 +26,12 @@ largest_record = 262_821
 -- an expiry: serial, number, the group's name after its length
 abbrev pub expiry_record : NewsExpiry → Octets
 expiry_record e = little_bytes 8 e.serial ++ little_bytes 4 e.number ++ length e.group ∷ e.group
+
+-- a removal: serial, the article's serial, the number of groups, their names with their lengths
+abbrev pub removal_record : NewsRemoval → Octets
+removal_record r = little_bytes 8 r.serial ++ little_bytes 8 r.article ++ length r.groups ∷ flat_map (λ g. length g ∷ g) r.groups
+
+-- an amendment: serial, moment, status, the group's name after its length, the description
+abbrev pub amendment_record : NewsGroup → Octets
+amendment_record a =
+    little_bytes 8 a.serial ++ little_bytes 8 a.moment ++ status_octet a.status ∷ length a.name ∷ a.name ++ a.description

@@ -8,7 +8,7 @@ use Rattle.model.specs.Files.{File, first_data, free_blocks, free_inodes, indire
 use Rattle.model.specs.Spool.{Spool, groups}
 use Rattle.model.specs.SpoolFiles.{numbers_file, overview_file}
 use Rattle.model.specs.declared.change.Change.{Change}
-use Rattle.model.specs.declared.change.Change.TheVariants.{Group, Article, Expire}
+use Rattle.model.specs.declared.change.Change.TheVariants.{Group, Article, Expire, Remove, Amend}
 
 -- ---- free blocks and inodes
 
@@ -53,6 +53,8 @@ abbrev pub files_made : Change → ℕ
 files_made (Group g) = 3
 files_made (Article f) = 1
 files_made (Expire e) = 1
+files_made (Remove r) = 1
+files_made (Amend g) = 1
 
 abbrev pub is_large : Octets → Bool
 is_large content = nat_lt (largest_file - octets_asked) (length content)
@@ -62,12 +64,16 @@ abbrev pub extends_large : Spool → Change → Bool
 extends_large S (Group g) = false
 extends_large S (Article f) = list_any (λ g. is_large (numbers_file S g) || is_large (overview_file S g)) f.envelope.groups
 extends_large S (Expire e) = false
+extends_large S (Remove r) = false
+extends_large S (Amend g) = false
 
 -- the spool has the most groups that it may have
 abbrev pub has_all_groups : Spool → Change → Bool
 has_all_groups S (Group g) = nat_le most_groups (length (groups S))
 has_all_groups S (Article f) = false
 has_all_groups S (Expire e) = false
+has_all_groups S (Remove r) = false
+has_all_groups S (Amend g) = false
 
 -- whether there is no room for this change where this many blocks and inodes are free
 unfoldable pub is_full_for : ℕ → ℕ → Spool → Change → Bool
@@ -82,12 +88,16 @@ abbrev pub blocks_left : ℕ → Change → ℕ
 blocks_left blocks (Group g) = 0
 blocks_left blocks (Article f) = if nat_lt blocks 8_192 then 0 else 320
 blocks_left blocks (Expire e) = 0
+blocks_left blocks (Remove r) = 0
+blocks_left blocks (Amend g) = 0
 
 -- and the inodes
 abbrev pub inodes_left : ℕ → Change → ℕ
 inodes_left inodes (Group g) = 0
 inodes_left inodes (Article f) = if nat_lt inodes 2_048 then 0 else 64
 inodes_left inodes (Expire e) = 0
+inodes_left inodes (Remove r) = 0
+inodes_left inodes (Amend g) = 0
 
 -- the blocks and the inodes that are free for this change in a volume of these blocks, with this many inodes
 abbrev pub blocks_for_change : List Octets → Change → ℕ

@@ -6,10 +6,10 @@ use Rattle.byteorder.specs.Endian.{little_bytes}
 use Rattle.model.specs.Stream.{Octets}
 use Rattle.model.specs.Article.{overview_line}
 use Rattle.model.specs.Files.{File}
-use Rattle.model.specs.Records.{last_digits, group_record, article_record, expiry_record}
-use Rattle.model.specs.Spool.{Spool, SpoolEntry, entries, NewsArticle, filed_in, news_article, news_expiry, news_group}
+use Rattle.model.specs.Records.{last_digits, group_record, article_record, expiry_record, removal_record, amendment_record}
+use Rattle.model.specs.Spool.{Spool, SpoolEntry, entries, NewsArticle, filed_in, news_article, news_expiry, news_group, news_removal}
 use Rattle.model.specs.declared.change.Change.{Change}
-use Rattle.model.specs.declared.change.Change.TheVariants.{Group, Article, Expire}
+use Rattle.model.specs.declared.change.Change.TheVariants.{Group, Article, Expire, Remove, Amend}
 
 -- ---- names of files
 
@@ -23,12 +23,18 @@ numbers_name g = codes "n." ++ g
 abbrev pub overview_name : Octets → Octets
 overview_name g = codes "o." ++ g
 
--- of an article and of an expiry, by serial
+-- of an article, of an expiry, of a removal and of an amendment, by serial
 abbrev pub article_name : ℕ → Octets
 article_name serial = codes "a." ++ last_digits 10 serial
 
 abbrev pub expiry_name : ℕ → Octets
 expiry_name serial = codes "x." ++ last_digits 10 serial
+
+abbrev pub removal_name : ℕ → Octets
+removal_name serial = codes "r." ++ last_digits 10 serial
+
+abbrev pub amendment_name : ℕ → Octets
+amendment_name serial = codes "m." ++ last_digits 10 serial
 
 -- ---- numbers and overview of a group
 
@@ -67,6 +73,8 @@ change_file e = by_change e.serial e.change where
   by_change n (Group g) = record { name = group_name g.name; content = group_record (news_group n g) }
   by_change n (Article f) = record { name = article_name n; content = article_record (news_article n f) }
   by_change n (Expire e) = record { name = expiry_name n; content = expiry_record (news_expiry n e) }
+  by_change n (Remove r) = record { name = removal_name n; content = removal_record (news_removal n r) }
+  by_change n (Amend g) = record { name = amendment_name n; content = amendment_record (news_group n g) }
 
 -- the numbers and the overview of the group that it makes
 abbrev pub index_files : Spool → Change → List File
@@ -77,6 +85,8 @@ index_files S (Group g) =
     } ∷ []
 index_files S (Article f) = []
 index_files S (Expire e) = []
+index_files S (Remove r) = []
+index_files S (Amend g) = []
 
 -- the files that a change made, as the spool has them
 abbrev pub entry_files : Spool → SpoolEntry → List File

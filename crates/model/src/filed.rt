@@ -1,7 +1,7 @@
 //! Laws of the spool in files. Each function does nothing, and its contract is the law.
 
 ghost use Rattle.model.specs.Laws.Formats.{FilesOfFormatOne, ReadAsFormatOne, SizesBoundFiles};
-ghost use Rattle.model.specs.Laws.Indexed.{ArticlesGrow, EmptyIndex, ExpiriesGrow, ExpiriesRise, FiledRise, GroupsGrow, LinesStand};
+ghost use Rattle.model.specs.Laws.Indexed.{AmendmentsGrow, ArticlesGrow, EmptyIndex, ExpiriesGrow, RemovalsGrow, ExpiriesRise, FiledRise, GroupsGrow, LinesStand, OutsAreFound};
 ghost use Rattle.model.specs.Laws.Indexed.{NotesGrow, NumbersAreWhole};
 ghost use Rattle.model.specs.Laws.Layout.{EmptyVolumesStand, FormatsMayRise, ImagesStandForOne, VersionIsOne};
 ghost use Rattle.model.specs.Laws.Room.{ChangesAskFew, FilesGrowByBlocks, FreeIsBeside, NotFullHasRoom};
@@ -96,6 +96,7 @@ pub fn format_one_is_as_it_was()
 /// What is sorted in the index, and where it is found.
 pub fn index_rises()
     ensures expiries { ExpiriesRise }
+    ensures outs { OutsAreFound }
     ensures filed { FiledRise }
     ensures numbers { NumbersAreWhole }
     ensures lines { LinesStand }
@@ -107,5 +108,7 @@ pub fn index_grows()
     ensures groups { GroupsGrow }
     ensures articles { ArticlesGrow }
     ensures expiries { ExpiriesGrow }
+    ensures removals { RemovalsGrow }
+    ensures amendments { AmendmentsGrow }
     ensures empty { EmptyIndex }
 {}

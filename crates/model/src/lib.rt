@@ -23,7 +23,7 @@ mod texts;
 mod values;
 
 pub use cause::Cause;
-pub use change::{Change, Envelope, Expiry, Filing, NewGroup};
+pub use change::{Change, Envelope, Expiry, Filing, NewGroup, Removal};
 pub use command::{
     Command, KEYWORDS, Keyword, LISTINGS, Listing, Parsed, Part, Range, Selector, Wanted,
 };

@@ -16,20 +16,23 @@ pub enum Status {
     Open,
     /// They may not.
     Closed,
+    /// The group is not here any more.
+    Retired,
 }
 
 impl Status {
-    /// The octet that stands for it: `y` or `n`.
+    /// The octet that stands for it: `y`, `n` or `x`.
     pub fn octet(self) -> u8
         ensures { result ≡ status_octet self }
     {
         match self {
             Status::Open => b'y',
             Status::Closed => b'n',
+            Status::Retired => b'x',
         }
     }
 
-    /// The status for which an octet stands. `None` exactly if the octet is neither `y` nor `n`.
+    /// The status for which an octet stands. `None` exactly if the octet is none of `y`, `n` and `x`.
     pub fn of(octet: u8) -> Option<Status>
         ensures some { IfSome result (λ status. status_octet status ≡ octet) }
         ensures none { (result ≡ None) ↔ IsNoStatus octet }
@@ -37,6 +40,7 @@ impl Status {
         match octet {
             b'y' => Some(Status::Open),
             b'n' => Some(Status::Closed),
+            b'x' => Some(Status::Retired),
             _ => None,
         }
     }

@@ -1,21 +1,20 @@
 -- Two spools that differ only in the texts of articles that are gone, and not in their ids, answer alike.
-use Rattle.std.proofs.Common.{◌≡◌, ◌⊎◌, inl, inr, ℕ, zero, suc, ◌+◌, ◌-◌, ◌≤◌, List, [], ◌∷◌, map, refl, sym, ◌∙◌, ap, arith, Bool, true}
+use Rattle.std.proofs.Common.{◌≡◌, ◌⊎◌, inl, inr, ℕ, zero, suc, ◌+◌, ◌-◌, List, [], ◌∷◌, map, refl, sym, ◌∙◌, ap, arith, Bool, true}
 use Rattle.std.proofs.Common.{false, cond, not, ◌||◌}
-use Rattle.std.specs.Prelude.{filter, find, length, slice_get, Option, Some, None, option_map, option_and_then, is_some, nat_le, nat_lt}
-use Rattle.std.specs.Prelude.{◌==◌}
+use Rattle.std.specs.Prelude.{filter, find, length, slice_get, Option, Some, None, option_map, option_and_then, is_some, nat_le, ◌==◌}
 use Rattle.std.specs.List.{list_any, enumerate_from}
-use Rattle.std.proofs.lemmas.Bool.{true≢false, leb-true, le-leb, ltb-false, le-ltb, ne_eqb}
+use Rattle.std.proofs.lemmas.Bool.{true≢false, ne_eqb}
 use Rattle.std.proofs.lemmas.List.{length-map}
 use Rattle.std.proofs.lemmas.Option.{slice_get-map}
 use Rattle.std.proofs.lemmas.Slice.Eq.{bytes_eq-Decides}
 use Rattle.model.specs.Stream.{Octets}
-use Rattle.model.specs.Spool.{Spool, NewsGroup, NewsArticle, NewsExpiry, groups, articles, expiries, expiries_of, filed_in, low, high}
-use Rattle.model.specs.Spool.{contents, numbered, numbered_articles, by_number, number_in, is_in, is_gone}
-use Rattle.model.specs.Spool.{unless_gone, here_by_id, by_id, as_it_is, articles_now, expired_at, gone_at, greatest, listed, is_name}
+use Rattle.model.specs.Spool.{Spool, SpoolEntry, NewsGroup, NewsArticle, Contents, article_at, groups, articles, filed_in, low, lowest, high}
+use Rattle.model.specs.Spool.{contents, numbered, by_number, number_in, is_in, is_gone, is_shown, shown_in, removal_of, out_at}
+use Rattle.model.specs.Spool.{unless_gone, here_by_id, by_id, as_it_is, articles_now, gone_at, greatest, listed, is_name}
 use Rattle.model.specs.Spool.{group_named, is_here, last_naming_one, serial_of}
-use Rattle.model.proofs.Found.{has_number, numbers_are_ranks}
+use Rattle.model.specs.Spool.{amendments, amendments_of, as_amended, group_here, group_now, groups_now, is_retired, last_of}
 use Rattle.model.proofs.LookUps.{any_more}
-use Rattle.model.proofs.Numbers.{is_filed_in}
+use Rattle.model.proofs.Numbers.{is_filed_in, number_is_rank}
 
 -- ---- lists
 
@@ -30,13 +29,25 @@ filter_mapped {X} h q r same (x ∷ xs) = by_test (q (h x)) (r x) (same x) (filt
   by_test false true is rest = absurd (true≢false (sym is))
   by_test false false is rest = rest
 
-map_same : {X Y : Type 0} (f k : X → Y) → ((x : X) → f x ≡ k x) → (xs : List X) → map f xs ≡ map k xs
+pub map_same : {X Y : Type 0} (f k : X → Y) → ((x : X) → f x ≡ k x) → (xs : List X) → map f xs ≡ map k xs
 map_same f k same [] = refl
 map_same f k same (x ∷ xs) = λ i. same x i ∷ map_same f k same xs i
 
 any_same : (p q : Octets → Bool) → ((g : Octets) → p g ≡ q g) → (gs : List Octets) → list_any p gs ≡ list_any q gs
 any_same p q same [] = refl
 any_same p q same (g ∷ gs) = λ i. same g i || any_same p q same gs i
+
+-- a search that the map leaves alone
+pub find_mapped : {X : Type 0} (h : X → X) (q r : X → Bool) → ((x : X) → q (h x) ≡ r x) → (xs : List X)
+    → find q (map h xs) ≡ option_map h (find r xs)
+find_mapped h q r same [] = refl
+find_mapped {X} h q r same (x ∷ xs) = by_test (q (h x)) (r x) (same x) (find_mapped h q r same xs) where
+  by_test : (b d : Bool) → b ≡ d → find q (map h xs) ≡ option_map h (find r xs)
+      → cond b (Some (h x)) (find q (map h xs)) ≡ option_map h (cond d (Some x) (find r xs))
+  by_test true true is rest = refl
+  by_test true false is rest = absurd (true≢false is)
+  by_test false true is rest = absurd (true≢false (sym is))
+  by_test false false is rest = rest
 
 -- what is kept passes
 kept_passes : {X : Type 0} (q : X → Bool) (xs : List X) (i : ℕ) (x : X) → slice_get (filter q xs) i ≡ Some x → q x ≡ true
@@ -76,7 +87,8 @@ filter_either {X} {Y} f k q either (x ∷ xs) = elim (either x) [
 pub record AreAlike (S R : Spool) (h : NewsArticle → NewsArticle) : Type 0 where
   pub as_long : length R ≡ length S
   pub same_groups : groups R ≡ groups S
-  pub same_expiries : expiries R ≡ expiries S
+  pub same_amendments : amendments R ≡ amendments S
+  pub same_removals : (g : Octets) (n serial : ℕ) → removal_of R g n serial ≡ removal_of S g n serial
   pub same_names : (test : Octets → Bool) → last_naming_one R test ≡ last_naming_one S test
   pub articles_are : articles R ≡ map h (articles S)
   pub same_serial : (a : NewsArticle) → (h a).serial ≡ a.serial
@@ -91,19 +103,24 @@ module _ (S R : Spool) (h : NewsArticle → NewsArticle) (alike : AreAlike S R h
   unfolding group_named
   group_alike g = ap (λ (gs : List NewsGroup). find (λ (group : NewsGroup). is_name g group.name) gs) alike.same_groups
 
+  now_alike : (group : NewsGroup) → group_now R group ≡ group_now S group
+  unfolding amendments_of
+  now_alike group =
+      ap (λ (l : List NewsGroup). as_amended group (last_of group (filter (λ (a : NewsGroup). is_name group.name a.name) l)))
+      alike.same_amendments
+
+  pub groups_now_alike : groups_now R ≡ groups_now S
+  unfolding groups_now
+  groups_now_alike =
+      ap (filter (λ (group : NewsGroup). not (is_retired group.status)))
+      (ap (map (group_now R)) alike.same_groups ∙ map_same (group_now R) (group_now S) now_alike (groups S))
+
+  pub group_here_alike : (g : Octets) → group_here R g ≡ group_here S g
+  unfolding group_here
+  group_here_alike g = ap (λ (gs : List NewsGroup). find (λ (group : NewsGroup). is_name g group.name) gs) groups_now_alike
+
   pub here_alike : (g : Octets) → is_here R g ≡ is_here S g
-  here_alike g = ap is_some (group_alike g)
-
-  expiries_alike : (g : Octets) → expiries_of R g ≡ expiries_of S g
-  unfolding expiries_of
-  expiries_alike g = ap (λ (es : List NewsExpiry). filter (λ (e : NewsExpiry). is_name g e.group) es) alike.same_expiries
-
-  pub low_alike : (g : Octets) → low R g ≡ low S g
-  low_alike g = ap (λ (es : List NewsExpiry). 1 + greatest (map (λ (e : NewsExpiry). e.number) es)) (expiries_alike g)
-
-  pub expired_alike : (g : Octets) (n : ℕ) → expired_at R g n ≡ expired_at S g n
-  unfolding expired_at
-  expired_alike g n = ap (λ (es : List NewsExpiry). serial_of (find (λ (e : NewsExpiry). nat_le n e.number) es)) (expiries_alike g)
+  here_alike g = ap is_some (group_here_alike g)
 
   pub filed_alike : (g : Octets) → filed_in R g ≡ map h (filed_in S g)
   unfolding filed_in
@@ -113,15 +130,46 @@ module _ (S R : Spool) (h : NewsArticle → NewsArticle) (alike : AreAlike S R h
   pub high_alike : (g : Octets) → high R g ≡ high S g
   high_alike g = ap (λ (l : List NewsArticle). length l) (filed_alike g) ∙ length-map (filed_in S g) h
 
+  -- ---- what a group shows
+
+  pub shown_alike : (g : Octets) (n : ℕ) (a : NewsArticle) → is_shown R g n (h a) ≡ is_shown S g n a
+  shown_alike g n a =
+      ap (λ (m : ℕ). not (is_some (removal_of R g n m))) (alike.same_serial a)
+      ∙ ap (λ (o : Option SpoolEntry). not (is_some o)) (alike.same_removals g n a.serial)
+
+  -- an article with its number, and h of it
+  abbrev pub on : ℕ × NewsArticle → ℕ × NewsArticle
+  on p = (p.0, h p.1)
+
+  numbered_on : (m : ℕ) (filed : List NewsArticle) → enumerate_from m (map h filed) ≡ map on (enumerate_from m filed)
+  numbered_on m [] = refl
+  numbered_on m (a ∷ filed) = ap (λ (ps : List (ℕ × NewsArticle)). (m, h a) ∷ ps) (numbered_on (m + 1) filed)
+
+  pub shown_mapped : (g : Octets) → shown_in R g ≡ map on (shown_in S g)
+  unfolding shown_in
+  shown_mapped g =
+      ap (λ (l : List NewsArticle). filter (λ (p : ℕ × NewsArticle). is_shown R g p.0 p.1) (enumerate_from 1 l)) (filed_alike g)
+      ∙ ap (filter (λ (p : ℕ × NewsArticle). is_shown R g p.0 p.1)) (numbered_on 1 (filed_in S g))
+      ∙ filter_mapped on (λ (p : ℕ × NewsArticle). is_shown R g p.0 p.1) (λ (p : ℕ × NewsArticle). is_shown S g p.0 p.1)
+      (λ p. shown_alike g p.0 p.1) (enumerate_from 1 (filed_in S g))
+
+  lowest_mapped : (high : ℕ) (ps : List (ℕ × NewsArticle)) → lowest high (map on ps) ≡ lowest high ps
+  lowest_mapped high [] = refl
+  lowest_mapped high (p ∷ ps) = refl
+
+  pub low_alike : (g : Octets) → low R g ≡ low S g
+  low_alike g =
+      (λ i. lowest (high_alike g i) (shown_mapped g i)) ∙ lowest_mapped (high S g) (shown_in S g)
+
   pub listed_alike : (test : Octets → Bool) → listed R test ≡ listed S test
   unfolding listed
   listed_alike test =
       ap (λ (gs : List NewsGroup). map (λ (group : NewsGroup). record { group = group; low = low R group.name; high = high R group.name })
-      (filter (λ (group : NewsGroup). test group.name) gs)) alike.same_groups
+      (filter (λ (group : NewsGroup). test group.name) gs)) groups_now_alike
       ∙ map_same (λ (group : NewsGroup). record { group = group; low = low R group.name; high = high R group.name })
       (λ (group : NewsGroup). record { group = group; low = low S group.name; high = high S group.name })
       (λ group. λ i. record { group = group; low = low_alike group.name i; high = high_alike group.name i })
-      (filter (λ (group : NewsGroup). test group.name) (groups S))
+      (filter (λ (group : NewsGroup). test group.name) (groups_now S))
 
   -- ---- what is gone
 
@@ -133,19 +181,40 @@ module _ (S R : Spool) (h : NewsArticle → NewsArticle) (alike : AreAlike S R h
       ∙ length-map (filter (λ (b : NewsArticle). nat_le b.serial a.serial) (filed_in S g)) h
 
   pub in_alike : (a : NewsArticle) (g : Octets) → is_in R (h a) g ≡ is_in S a g
-  in_alike a g = λ i. nat_le (low_alike g i) (number_alike g a i)
+  in_alike a g = ap (λ (n : ℕ). is_shown R g n (h a)) (number_alike g a) ∙ shown_alike g (number_in S g a) a
 
   pub gone_alike : (a : NewsArticle) → is_gone R (h a) ≡ is_gone S a
   unfolding is_gone
   gone_alike a = ap not (ap (list_any (is_in R (h a))) (alike.same_groups_of a)
       ∙ any_same (is_in R (h a)) (is_in S a) (in_alike a) a.groups)
 
+  pub out_alike : (g : Octets) (n : ℕ) (a : NewsArticle) → out_at R g n (h a) ≡ out_at S g n a
+  out_alike g n a =
+      ap (λ (m : ℕ). serial_of (removal_of R g n m)) (alike.same_serial a)
+      ∙ ap serial_of (alike.same_removals g n a.serial)
+
   pub gone_at_alike : (a : NewsArticle) → gone_at R (h a) ≡ gone_at S a
   unfolding gone_at
   gone_at_alike a =
-      ap (λ (gs : List Octets). greatest (map (λ g. expired_at R g (number_in R g (h a))) gs)) (alike.same_groups_of a)
-      ∙ ap greatest (map_same (λ g. expired_at R g (number_in R g (h a))) (λ g. expired_at S g (number_in S g a))
-      (λ g. ap (expired_at R g) (number_alike g a) ∙ expired_alike g (number_in S g a)) a.groups)
+      ap (λ (gs : List Octets). greatest (map (λ g. out_at R g (number_in R g (h a)) (h a)) gs)) (alike.same_groups_of a)
+      ∙ ap greatest (map_same (λ g. out_at R g (number_in R g (h a)) (h a)) (λ g. out_at S g (number_in S g a) a)
+      (λ g. ap (λ (n : ℕ). out_at R g n (h a)) (number_alike g a) ∙ out_alike g (number_in S g a) a) a.groups)
+
+  -- the article that a removal names
+  pub serial_alike : (n : ℕ) → find (λ (a : NewsArticle). a.serial == n) (articles R)
+      ≡ option_map h (find (λ (a : NewsArticle). a.serial == n) (articles S))
+  serial_alike n =
+      ap (find (λ (a : NewsArticle). a.serial == n)) alike.articles_are
+      ∙ find_mapped h (λ (a : NewsArticle). a.serial == n) (λ (a : NewsArticle). a.serial == n)
+      (λ a. ap (λ (m : ℕ). m == n) (alike.same_serial a)) (articles S)
+
+  -- the numbers have the same articles, with h of each
+  pub filed_under : (g : Octets) (n : ℕ) → numbered (filed_in R g) n ≡ option_map h (numbered (filed_in S g) n)
+  filed_under g n = ap (λ (l : List NewsArticle). numbered l n) (filed_alike g) ∙ by_zero (n == 0) where
+    by_zero : (b : Bool) → cond b None (slice_get (map h (filed_in S g)) (n - 1))
+        ≡ option_map h (cond b None (slice_get (filed_in S g) (n - 1)))
+    by_zero true = refl
+    by_zero false = slice_get-map h (filed_in S g) (n - 1)
 
 -- h changes no article that is here
 module _ (S R : Spool) (h : NewsArticle → NewsArticle) (alike : AreAlike S R h)
@@ -163,87 +232,60 @@ module _ (S R : Spool) (h : NewsArticle → NewsArticle) (alike : AreAlike S R h
     by_found None = refl
     by_found (Some a) = by_gone a (is_gone S a) refl
 
-  -- ---- an article by its number
+  -- ---- what a group holds
 
-  numbered_mapped : (filed : List NewsArticle) (n : ℕ) → numbered (map h filed) n ≡ option_map h (numbered filed n)
-  numbered_mapped filed n = by_zero (n == 0) where
-    by_zero : (b : Bool) → cond b None (slice_get (map h filed) (n - 1)) ≡ option_map h (cond b None (slice_get filed (n - 1)))
-    by_zero true = refl
-    by_zero false = slice_get-map h filed (n - 1)
-
-  -- an article that a group has under a number is not gone
-  stays_here : (g : Octets) (n : ℕ) (a : NewsArticle) → by_number S g n ≡ Some a → low S g ≤ n → is_gone S a ≡ false
+  -- an article that a group shows is not gone
+  stays_here : (g : Octets) (i : ℕ) (a : NewsArticle) → slice_get (filed_in S g) i ≡ Some a → is_shown S g (1 + i) a ≡ true
+      → is_gone S a ≡ false
   unfolding is_gone filed_in
-  stays_here g n a is within =
+  stays_here g i a is shown =
       ap not (any_more (is_name g) (is_in S a) (λ name same. rw ((bytes_eq-Decides name g).0 same) in_group) a.groups files)
     where
-      in_group : is_in S a g ≡ true
-      in_group = le-leb (low S g) (number_in S g a) (omega (arith, numbers_are_ranks S g n a is))
+      place : 1 + i - 1 ≡ i
+      place = omega arith
 
-      at_place : (b : Bool) → cond b None (slice_get (filed_in S g) (n - 1)) ≡ Some a → is_filed_in g a ≡ true
-      at_place true same = absurd (cc)
-      at_place false same = kept_passes (is_filed_in g) (articles S) (n - 1) a same
+      found : numbered (filed_in S g) (1 + i) ≡ Some a
+      found = ap (λ b. cond b None (slice_get (filed_in S g) (1 + i - 1))) (ne_eqb (1 + i) 0 (λ none. omega arith))
+          ∙ ap (slice_get (filed_in S g)) place ∙ is
+
+      in_group : is_in S a g ≡ true
+      in_group = ap (λ (n : ℕ). is_shown S g n a) (number_is_rank S g (1 + i) a found) ∙ shown
 
       files : is_filed_in g a ≡ true
-      files = at_place (n == 0) (has_number S g n a is)
+      files = kept_passes (is_filed_in g) (articles S) i a is
+
+  same_from : (g : Octets) (m : ℕ) (filed : List NewsArticle)
+      → ((i : ℕ) (a : NewsArticle) → slice_get filed i ≡ Some a → is_shown S g (m + i) a ≡ true → h a ≡ a)
+      → map (on S R h alike) (filter (λ (p : ℕ × NewsArticle). is_shown S g p.0 p.1) (enumerate_from m filed))
+      ≡ filter (λ (p : ℕ × NewsArticle). is_shown S g p.0 p.1) (enumerate_from m filed)
+  same_from g m [] each = refl
+  same_from g m (a ∷ filed) each =
+      by_test (is_shown S g m a) refl (same_from g (m + 1) filed (λ i b is shown. each (suc i) b is (more i b shown))) where
+        rest : List (ℕ × NewsArticle)
+        rest = filter (λ (p : ℕ × NewsArticle). is_shown S g p.0 p.1) (enumerate_from (m + 1) filed)
+
+        more : (i : ℕ) (b : NewsArticle) → is_shown S g (m + 1 + i) b ≡ true → is_shown S g (m + suc i) b ≡ true
+        more i b shown = let same : m + suc i ≡ m + 1 + i = omega arith in ap (λ (n : ℕ). is_shown S g n b) same ∙ shown
+
+        first : is_shown S g m a ≡ true → is_shown S g (m + 0) a ≡ true
+        first shown = let same : m + 0 ≡ m = omega arith in ap (λ (n : ℕ). is_shown S g n a) same ∙ shown
+
+        by_test : (b : Bool) → is_shown S g m a ≡ b → map (on S R h alike) rest ≡ rest
+            → map (on S R h alike) (cond b ((m, a) ∷ rest) rest) ≡ cond b ((m, a) ∷ rest) rest
+        by_test true shown same =
+            let one : h a ≡ a = each 0 a refl (first shown) in
+            λ i. (m, one i) ∷ same i
+        by_test false out same = same
+
+  pub contents_alike : (g : Octets) → contents R g ≡ contents S g
+  unfolding shown_in
+  contents_alike g =
+      let same : shown_in R g ≡ shown_in S g =
+      shown_mapped S R h alike g ∙ same_from g 1 (filed_in S g) (λ i a is shown. kept a (stays_here g i a is shown)) in
+      λ i. record { high = high_alike S R h alike g i; shown = same i }
 
   pub by_number_alike : (g : Octets) (n : ℕ) → by_number R g n ≡ by_number S g n
-  by_number_alike g n =
-      ap (λ (m : ℕ). cond (nat_lt n m) None (numbered (filed_in R g) n)) (low_alike S R h alike g)
-      ∙ ap (λ (l : List NewsArticle). cond (nat_lt n (low S g)) None (numbered l n)) (filed_alike S R h alike g)
-      ∙ ap (λ (o : Option NewsArticle). cond (nat_lt n (low S g)) None o) (numbered_mapped (filed_in S g) n)
-      ∙ by_low (nat_lt n (low S g)) refl
-    where
-      by_found : (o : Option NewsArticle) → numbered (filed_in S g) n ≡ o → nat_lt n (low S g) ≡ false → option_map h o ≡ o
-      by_found None is high = refl
-      by_found (Some a) is high =
-          let found : by_number S g n ≡ Some a = ap (λ b. cond b None (numbered (filed_in S g) n)) high ∙ is in
-          ap Some (kept a (stays_here g n a found (ltb-false n (low S g) high)))
-
-      by_low : (b : Bool) → nat_lt n (low S g) ≡ b
-          → cond b None (option_map h (numbered (filed_in S g) n)) ≡ cond b None (numbered (filed_in S g) n)
-      by_low true is = refl
-      by_low false is = by_found (numbered (filed_in S g) n) refl is
-
-  -- ---- all articles in a group
-
-  kept_from : (least m : ℕ) (filed : List NewsArticle)
-      → ((i : ℕ) (a : NewsArticle) → slice_get filed i ≡ Some a → least ≤ m + i → h a ≡ a)
-      → filter (λ (p : ℕ × NewsArticle). nat_le least p.0) (enumerate_from m (map h filed))
-      ≡ filter (λ (p : ℕ × NewsArticle). nat_le least p.0) (enumerate_from m filed)
-  kept_from least m [] each = refl
-  kept_from least m (a ∷ filed) each =
-      by_low (nat_le least m) refl
-      (kept_from least (m + 1) filed (λ i b is within. each (suc i) b is (omega arith)))
-    where
-      mapped : List (ℕ × NewsArticle)
-      mapped = filter (λ (p : ℕ × NewsArticle). nat_le least p.0) (enumerate_from (m + 1) (map h filed))
-
-      rest : List (ℕ × NewsArticle)
-      rest = filter (λ (p : ℕ × NewsArticle). nat_le least p.0) (enumerate_from (m + 1) filed)
-
-      by_low : (b : Bool) → nat_le least m ≡ b → mapped ≡ rest → cond b ((m, h a) ∷ mapped) mapped ≡ cond b ((m, a) ∷ rest) rest
-      by_low true is same =
-          let one : h a ≡ a = each 0 a refl (omega (arith, leb-true least m is)) in
-          λ i. (m, one i) ∷ same i
-      by_low false is same = same
-
-  pub numbered_articles_alike : (g : Octets) → numbered_articles (contents R g) ≡ numbered_articles (contents S g)
-  numbered_articles_alike g =
-      ap (λ (m : ℕ). filter (λ (p : ℕ × NewsArticle). nat_le m p.0) (enumerate_from 1 (filed_in R g))) (low_alike S R h alike g)
-      ∙ ap (λ (l : List NewsArticle). filter (λ (p : ℕ × NewsArticle). nat_le (low S g) p.0) (enumerate_from 1 l))
-      (filed_alike S R h alike g)
-      ∙ kept_from (low S g) 1 (filed_in S g) each
-    where
-      each : (i : ℕ) (a : NewsArticle) → slice_get (filed_in S g) i ≡ Some a → low S g ≤ 1 + i → h a ≡ a
-      each i a is within =
-          let place : 1 + i - 1 ≡ i = omega arith in
-          let found : numbered (filed_in S g) (1 + i) ≡ Some a =
-          ap (λ b. cond b None (slice_get (filed_in S g) (1 + i - 1))) (ne_eqb (1 + i) 0 (λ none. omega arith))
-          ∙ ap (slice_get (filed_in S g)) place ∙ is in
-          let here : by_number S g (1 + i) ≡ Some a =
-          ap (λ b. cond b None (numbered (filed_in S g) (1 + i))) (le-ltb (1 + i) (low S g) within) ∙ found in
-          kept a (stays_here g (1 + i) a here within)
+  by_number_alike g n = ap (λ (c : Contents). article_at c n) (contents_alike g)
 
   -- ---- all articles
 

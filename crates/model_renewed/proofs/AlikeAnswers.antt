@@ -1,14 +1,14 @@
 -- Two spools that differ only in the texts of articles that are gone, and not in their ids, answer each message alike, and it reads the
 -- same of both.
 use Rattle.std.proofs.Common.{◌≡◌, ℕ, ◌+◌, ◌-◌, List, [], ◌∷◌, refl, ◌∙◌, ap, Bool, true, false, cond, ◌&&◌}
-use Rattle.std.specs.Prelude.{filter, find, length, nat_le, nat_lt, Option, Some, None, is_some, option_map, option_and_then, unwrap_or, ℤ}
+use Rattle.std.specs.Prelude.{filter, find, map, length, nat_le, nat_lt, Option, Some, None, is_some, option_map, option_and_then, unwrap_or, ℤ}
 use Rattle.std.specs.List.{list_any}
 use Rattle.model.specs.Stream.{Octets}
 use Rattle.model.specs.Names.{is_of_host, wildmat_matches}
 use Rattle.model.specs.Calendar.{since}
 use Rattle.model.specs.Article.{Posted, Carried, own_id, groups_of, cause, cause_but_long, injected, overview_line}
-use Rattle.model.specs.Spool.{Spool, NewsGroup, NewsArticle, Contents, contents, contents_if_here, article_at, numbered_articles}
-use Rattle.model.specs.Spool.{group_named, by_id, by_number, articles_now, is_gone}
+use Rattle.model.specs.Spool.{Spool, NewsGroup, NewsArticle, Contents, contents, contents_if_here, filed_in, numbered}
+use Rattle.model.specs.Spool.{group_here, greatest, by_id, by_number, articles_now, is_gone}
 use Rattle.model.specs.Spool.{is_name, last_naming, forbids_posts}
 use Rattle.model.specs.Commands.{parsed_line}
 use Rattle.model.specs.Replies.{block, not_wanted, no_current_article, no_next_article, no_previous_article, overview_follows, received}
@@ -20,7 +20,7 @@ use Rattle.model.specs.Answer.{accepted, same_id, groups_here, closed_group, spo
 use Rattle.model.specs.Answer.{transfer_outcome, article_answer, post_answer, transfer_answer, offer_answer, offered, command_answer}
 use Rattle.model.specs.Answer.{line_answer, served, answer, moved_answer, part_reply, awaiting}
 use Rattle.model.specs.Reads.{group_reads, selected_reads, selected_number_reads, current_reads, found_reads, id_reads, number_reads}
-use Rattle.model.specs.Reads.{absent_reads, since_reads, offer_reads, outcome_reads, command_reads, line_reads, served_reads, reads}
+use Rattle.model.specs.Reads.{absent_reads, filed_reads, since_reads, offer_reads, outcome_reads, command_reads, line_reads, served_reads, reads}
 use Rattle.model.specs.declared.command.Command.{Command}
 use Rattle.model.specs.declared.command.Command.TheVariants as command
 use Rattle.model.specs.declared.command.Parsed.{Parsed}
@@ -37,73 +37,20 @@ use Rattle.model.specs.declared.session.Awaits.{Awaits}
 use Rattle.model.specs.declared.session.Awaits.TheVariants as awaits
 use Rattle.model.specs.declared.session.Answer.{Answer}
 use Rattle.model.specs.declared.session.Session.{Session}
-use Rattle.model_renewed.proofs.Alike.{
-  AreAlike,
-  group_alike,
-  here_alike,
-  low_alike,
-  high_alike,
-  listed_alike,
-  by_number_alike,
-  here_by_id_alike,
-}
-use Rattle.model_renewed.proofs.Alike.{numbered_articles_alike, articles_now_alike, expired_alike, gone_alike, gone_at_alike}
+use Rattle.model_renewed.proofs.Alike.{AreAlike, group_here_alike, here_alike, map_same, listed_alike, by_number_alike, here_by_id_alike}
+use Rattle.model_renewed.proofs.Alike.{contents_alike, articles_now_alike, filed_under, out_alike, gone_alike, gone_at_alike}
 
 module _ (S R : Spool) (h : NewsArticle → NewsArticle) (alike : AreAlike S R h)
     (kept : (a : NewsArticle) → is_gone S a ≡ false → h a ≡ a) where
-  -- ---- a group's contents: what is said of them is made of these three
+  selected_alike : (x : Session) (o : Option Octets) (f : Octets → Contents → Answer) → in_selected R x o f ≡ in_selected S x o f
+  selected_alike x None f = refl
+  selected_alike x (Some g) f = ap (f g) (contents_alike S R h alike kept g)
 
-  -- the same articles are in both, under the same numbers
-  record ShowAlike (c d : Contents) : Type 0 where
-    low : c.low ≡ d.low
-    high : length c.filed ≡ length d.filed
-    at : (n : ℕ) → article_at c n ≡ article_at d n
-    all : numbered_articles c ≡ numbered_articles d
-
-  contents_alike : (g : Octets) → ShowAlike (contents R g) (contents S g)
-  contents_alike g = record {
-    low = low_alike S R h alike g;
-    high = high_alike S R h alike g;
-    at = by_number_alike S R h alike kept g;
-    all = numbered_articles_alike S R h alike kept g;
-  }
-
-  selecting_alike : (x : Session) (g : Octets) (c d : Contents) → ShowAlike c d → selecting x g c ≡ selecting x g d
-  selecting_alike x g c d same = rw (same.low, same.high) refl
-
-  group_answer_alike : (x : Session) (g : Octets) (c d : Contents) → ShowAlike c d → group_answer x g c ≡ group_answer x g d
-  group_answer_alike x g c d same = rw (same.low, same.high) refl
-
-  listgroup_alike : (x : Session) (r : Range) (g : Octets) (c d : Contents) → ShowAlike c d
-      → listgroup_answer x r g c ≡ listgroup_answer x r g d
-  listgroup_alike x r g c d same = rw (same.all, same.low, same.high) refl
-
-  current_alike : (x : Session) (o : Option ℕ) (c d : Contents) → ShowAlike c d → (f : ℕ → Option NewsArticle → Answer)
-      → (at : ℕ → ℕ) → at_current x c o (λ n. f n (article_at c (at n))) ≡ at_current x d o (λ n. f n (article_at d (at n)))
-  current_alike x None c d same f at = refl
-  current_alike x (Some n) c d same f at =
-      ap (λ (a : Option NewsArticle). cond (nat_lt n c.low) (says x no_current_article) (f n a)) (same.at (at n))
-      ∙ ap (λ (m : ℕ). cond (nat_lt n m) (says x no_current_article) (f n (article_at d (at n)))) same.low
-
-  over_range_alike : (x : Session) (r : Range) (c d : Contents) → ShowAlike c d → over_range x r c ≡ over_range x r d
-  over_range_alike x r c d same = rw same.all refl
-
-  selected_alike : (x : Session) (o : Option Octets) (f : Octets → Contents → Answer)
-      → ((g : Octets) (c d : Contents) → ShowAlike c d → f g c ≡ f g d) → in_selected R x o f ≡ in_selected S x o f
-  selected_alike x None f same = refl
-  selected_alike x (Some g) f same = same g (contents R g) (contents S g) (contents_alike g)
-
-  if_here_alike : (x : Session) (g : Octets) (f : Contents → Answer) → ((c d : Contents) → ShowAlike c d → f c ≡ f d)
-      → if_here x (contents_if_here R g) f ≡ if_here x (contents_if_here S g) f
+  if_here_alike : (x : Session) (g : Octets) (f : Contents → Answer) → if_here x (contents_if_here R g) f ≡ if_here x (contents_if_here S g) f
   unfolding contents_if_here
-  if_here_alike x g f same =
-      ap (λ (o : Option NewsGroup). if_here x (option_map (λ group. contents R g) o) f) (group_alike S R h alike g)
-      ∙ by_group (group_named S g)
-    where
-      by_group : (o : Option NewsGroup) → if_here x (option_map (λ group. contents R g) o) f
-          ≡ if_here x (option_map (λ group. contents S g) o) f
-      by_group None = refl
-      by_group (Some group) = same (contents R g) (contents S g) (contents_alike g)
+  if_here_alike x g f =
+      ap (λ (o : Option NewsGroup). if_here x (option_map (λ group. contents R g) o) f) (group_here_alike S R h alike g)
+      ∙ ap (λ (c : Contents). if_here x (option_map (λ group. c) (group_here S g)) f) (contents_alike S R h alike kept g)
 
   -- ---- commands
 
@@ -132,23 +79,16 @@ module _ (S R : Spool) (h : NewsArticle → NewsArticle) (alike : AreAlike S R h
   command_alike host x t command.Quit = refl
   command_alike host x t command.Help = refl
   command_alike host x t command.Date = refl
-  command_alike host x t (command.Group g) = if_here_alike x g (group_answer x g) (group_answer_alike x g)
-  command_alike host x t (command.ListGroup None r) = selected_alike x x.group (listgroup_answer x r) (listgroup_alike x r)
-  command_alike host x t (command.ListGroup (Some g) r) = if_here_alike x g (listgroup_answer x r g) (listgroup_alike x r g)
-  command_alike host x t command.Next = selected_alike x x.group (λ g. next_answer x) (λ g c d same. current_alike x x.current c d same
-      (λ n a. if_found x no_next_article a (moved_answer x (n + 1))) (λ n. n + 1))
-  command_alike host x t command.Last = selected_alike x x.group (λ g. last_answer x) (λ g c d same. current_alike x x.current c d same
-      (λ n a. if_found x no_previous_article a (moved_answer x (n - 1))) (λ n. n - 1))
-  command_alike host x t (command.Fetch p selector.Current) =
-      selected_alike x x.group (λ g. fetch_current x p) (λ g c d same. current_alike x x.current c d same
-      (λ n a. if_found x no_current_article a (λ b. says x (part_reply p n b))) (λ n. n))
-  command_alike host x t (command.Fetch p (selector.Number n)) =
-      selected_alike x x.group (λ g. fetch_number x p n) (λ g c d same. rw (same.at n) refl)
+  command_alike host x t (command.Group g) = if_here_alike x g (group_answer x g)
+  command_alike host x t (command.ListGroup None r) = selected_alike x x.group (listgroup_answer x r)
+  command_alike host x t (command.ListGroup (Some g) r) = if_here_alike x g (listgroup_answer x r g)
+  command_alike host x t command.Next = selected_alike x x.group (λ g. next_answer x)
+  command_alike host x t command.Last = selected_alike x x.group (λ g. last_answer x)
+  command_alike host x t (command.Fetch p selector.Current) = selected_alike x x.group (λ g. fetch_current x p)
+  command_alike host x t (command.Fetch p (selector.Number n)) = selected_alike x x.group (λ g. fetch_number x p n)
   command_alike host x t (command.Fetch p (selector.Id id)) = ap (fetch_id x p) (here_by_id_alike S R h alike kept id)
-  command_alike host x t (command.Over wanted.Current) =
-      selected_alike x x.group (λ g. over_current x) (λ g c d same. current_alike x x.current c d same
-      (λ n a. if_found x no_current_article a (λ b. says x (block overview_follows (overview_line n b.text ∷ [])))) (λ n. n))
-  command_alike host x t (command.Over (wanted.Range r)) = selected_alike x x.group (λ g. over_range x r) (λ g. over_range_alike x r)
+  command_alike host x t (command.Over wanted.Current) = selected_alike x x.group (λ g. over_current x)
+  command_alike host x t (command.Over (wanted.Range r)) = selected_alike x x.group (λ g. over_range x r)
   command_alike host x t (command.Over (wanted.Id id)) = ap (over_id x) (here_by_id_alike S R h alike kept id)
   command_alike host x t (command.List listing.Active w) = rw (listed_alike S R h alike (is_listed w)) refl
   command_alike host x t (command.List listing.Times w) = rw (listed_alike S R h alike (is_listed w)) refl
@@ -171,7 +111,7 @@ module _ (S R : Spool) (h : NewsArticle → NewsArticle) (alike : AreAlike S R h
   groups_here_alike text = ap (λ (q : Octets → Bool). filter q (groups_of text)) (λ i g. here_alike S R h alike g i)
 
   closed_alike : (text : Octets) → closed_group R text ≡ closed_group S text
-  closed_alike text = ap (λ (q : Octets → Bool). find q (groups_of text)) (λ i g. is_closed_by (group_alike S R h alike g i)) where
+  closed_alike text = ap (λ (q : Octets → Bool). find q (groups_of text)) (λ i g. is_closed_by (group_here_alike S R h alike g i)) where
     is_closed_by : Option NewsGroup → Bool
     is_closed_by o = unwrap_or (option_map (λ group. forbids_posts group.status) o) false
 
@@ -179,16 +119,16 @@ module _ (S R : Spool) (h : NewsArticle → NewsArticle) (alike : AreAlike S R h
   abbrev mapped : Outcome → Outcome
   mapped not_an_article = not_an_article
   mapped (id_here a) = id_here (h a)
-  mapped no_group_here = no_group_here
+  mapped (no_group_here named) = no_group_here named
   mapped (group_closed g) = group_closed g
   mapped (accepted here) = accepted here
 
-  spool_mapped : (o : Option NewsArticle) (here : List Octets) (closed : Option Octets)
-      → spool_outcome (option_map h o) here closed ≡ mapped (spool_outcome o here closed)
-  spool_mapped (Some a) here closed = refl
-  spool_mapped None [] closed = refl
-  spool_mapped None (g ∷ here) (Some name) = refl
-  spool_mapped None (g ∷ here) None = refl
+  spool_mapped : (named : List Octets) (o : Option NewsArticle) (here : List Octets) (closed : Option Octets)
+      → spool_outcome named (option_map h o) here closed ≡ mapped (spool_outcome named o here closed)
+  spool_mapped named (Some a) here closed = refl
+  spool_mapped named None [] closed = refl
+  spool_mapped named None (g ∷ here) (Some name) = refl
+  spool_mapped named None (g ∷ here) None = refl
 
   post_outcome_alike : (host text : Octets) → post_outcome host R text ≡ mapped (post_outcome host S text)
   unfolding post_outcome
@@ -196,27 +136,27 @@ module _ (S R : Spool) (h : NewsArticle → NewsArticle) (alike : AreAlike S R h
       rw (alike.as_long, same_id_alike text, groups_here_alike text, closed_alike text)
       (by_cause (is_some (cause_but_long (Posted host (length S + 1)) text))) where
         by_cause : (b : Bool) → cond b not_an_article
-            (spool_outcome (option_map h (same_id S text)) (groups_here S text) (closed_group S text))
-            ≡ mapped (cond b not_an_article (spool_outcome (same_id S text) (groups_here S text) (closed_group S text)))
+            (spool_outcome (groups_of text) (option_map h (same_id S text)) (groups_here S text) (closed_group S text))
+            ≡ mapped (cond b not_an_article (spool_outcome (groups_of text) (same_id S text) (groups_here S text) (closed_group S text)))
         by_cause true = refl
-        by_cause false = spool_mapped (same_id S text) (groups_here S text) (closed_group S text)
+        by_cause false = spool_mapped (groups_of text) (same_id S text) (groups_here S text) (closed_group S text)
 
   transfer_outcome_alike : (id text : Octets) → transfer_outcome R id text ≡ mapped (transfer_outcome S id text)
   unfolding transfer_outcome
   transfer_outcome_alike id text =
       rw (same_id_alike text, groups_here_alike text) (by_tests (is_some (cause Carried text)) (has_other_id id text)) where
         by_tests : (b d : Bool) → cond b not_an_article
-            (cond d not_an_article (spool_outcome (option_map h (same_id S text)) (groups_here S text) None))
-            ≡ mapped (cond b not_an_article (cond d not_an_article (spool_outcome (same_id S text) (groups_here S text) None)))
+            (cond d not_an_article (spool_outcome (groups_of text) (option_map h (same_id S text)) (groups_here S text) None))
+            ≡ mapped (cond b not_an_article (cond d not_an_article (spool_outcome (groups_of text) (same_id S text) (groups_here S text) None)))
         by_tests true d = refl
         by_tests false true = refl
-        by_tests false false = spool_mapped (same_id S text) (groups_here S text) None
+        by_tests false false = spool_mapped (groups_of text) (same_id S text) (groups_here S text) None
 
   article_mapped : (x : Session) (welcome refusal stored : Octets) (t : ℕ) (o : Outcome)
       → article_answer x welcome refusal stored t (mapped o) ≡ article_answer x welcome refusal stored t o
   article_mapped x welcome refusal stored t not_an_article = refl
   article_mapped x welcome refusal stored t (id_here a) = refl
-  article_mapped x welcome refusal stored t no_group_here = refl
+  article_mapped x welcome refusal stored t (no_group_here named) = refl
   article_mapped x welcome refusal stored t (group_closed g) = refl
   article_mapped x welcome refusal stored t (accepted here) = refl
 
@@ -273,7 +213,10 @@ module _ (S R : Spool) (h : NewsArticle → NewsArticle) (alike : AreAlike S R h
     by_found (Some a) = λ i. cond (gone_alike S R h alike a i) (gone_at_alike S R h alike a i) (alike.same_serial a i)
 
   absent_alike : (g : Octets) (n : ℕ) → absent_reads R g n ≡ absent_reads S g n
-  absent_alike g n = λ i. cond (nat_le 1 n && nat_lt n (low_alike S R h alike g i)) (expired_alike S R h alike g n i) 0
+  absent_alike g n = ap (filed_reads R g n) (filed_under S R h alike g n) ∙ by_filed (numbered (filed_in S g) n) where
+    by_filed : (o : Option NewsArticle) → filed_reads R g n (option_map h o) ≡ filed_reads S g n o
+    by_filed None = refl
+    by_filed (Some a) = out_alike S R h alike g n a
 
   number_reads_alike : (g : Octets) (n : ℕ) → number_reads R g n (by_number R g n) ≡ number_reads S g n (by_number S g n)
   number_reads_alike g n = ap (number_reads R g n) (by_number_alike S R h alike kept g n) ∙ by_found (by_number S g n) where
@@ -297,7 +240,7 @@ module _ (S R : Spool) (h : NewsArticle → NewsArticle) (alike : AreAlike S R h
   selected_reads_alike (Some g) = naming_alike g
 
   group_reads_alike : (g : Octets) → group_reads R g ≡ group_reads S g
-  group_reads_alike g = λ i. cond (here_alike S R h alike g i) (naming_alike g i) 0
+  group_reads_alike g = naming_alike g
 
   since_alike : (o : Option ℤ) → since_reads R o ≡ since_reads S o
   since_alike None = refl
@@ -309,7 +252,7 @@ module _ (S R : Spool) (h : NewsArticle → NewsArticle) (alike : AreAlike S R h
   outcome_alike : (o : Outcome) → outcome_reads R (mapped o) ≡ outcome_reads S o
   outcome_alike not_an_article = refl
   outcome_alike (id_here a) = alike.same_serial a
-  outcome_alike no_group_here = refl
+  outcome_alike (no_group_here named) = ap greatest (map_same (last_naming R) (last_naming S) naming_alike named)
   outcome_alike (group_closed g) = naming_alike g
   outcome_alike (accepted here) = ap (λ (n : ℕ). n + 1) alike.as_long
 

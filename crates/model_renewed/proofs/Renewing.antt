@@ -1,33 +1,35 @@
 -- A renewed spool is lawful, and answers alike.
 use Rattle.std.proofs.Common.{◌≡◌, ℕ, zero, suc, ◌+◌, ◌≤◌, List, [], ◌∷◌, ◌++◌, map, inl, inr, refl, sym, ◌∙◌, ap, subst, arith, Bool}
 use Rattle.std.proofs.Common.{true, false, cond, ◌&&◌, length-append, add-zero, max}
-use Rattle.std.specs.Prelude.{slice_get, length, take, find, filter, filter_map, nat_le, Option, Some, None, option_map, unwrap_or}
+use Rattle.std.specs.Prelude.{slice_get, is_some, length, take, find, filter, filter_map, nat_le, Option, Some, None, option_map, unwrap_or}
 use Rattle.std.specs.Prelude.{bytes_eq, codes, ◌||◌, ◌==◌, if◌then◌else◌}
 use Rattle.std.specs.List.{All, list_all, list_any}
 use Rattle.std.proofs.lemmas.List.Elements.{All-cons, All-nil}
 use Rattle.std.proofs.lemmas.Bool.{true≢false, and_parts, or_cases, leb-true, le-leb, lt-leb, or_parts}
-use Rattle.std.proofs.lemmas.List.{append_assoc, append-nil}
+use Rattle.std.proofs.lemmas.List.{append_assoc, append-nil, length-map}
 use Rattle.std.proofs.lemmas.Option.{slice_get-map}
 use Rattle.std.proofs.Math.Seq.{take-append_seam}
 use Rattle.model.specs.Stream.{Octets}
 use Rattle.model.specs.Names.{is_group_name, is_message_id, is_of_host}
 use Rattle.model.specs.Article.{Carried, are_distinct, cause, field_count, groups_of, id, made_id, needed_fields}
 use Rattle.model.specs.Spool.{filing_of}
-use Rattle.model.specs.Spool.{Spool, NewsArticle, entries, entries_from, group_made, article_filed, expiry_made}
-use Rattle.model.specs.Spool.{groups, articles, expiries, is_gone, news_article, news_group, news_expiry, names_one, last_naming_one}
+use Rattle.model.specs.Spool.{Spool, SpoolEntry, NewsArticle, entries, entries_from, group_made, article_filed, amendment_made, amendments, removal_of}
+use Rattle.model.specs.Spool.{NewsGroup, removes, shown_in}
+use Rattle.model.specs.Spool.{groups, articles, is_gone, is_in, news_article, news_group, names_one, last_naming_one}
 use Rattle.model.specs.Spool.{has_id, by_id, is_here, low, high}
 use Rattle.model.specs.Lawful.{MayFile, MayFollow, IsLawful, IsLawfulAfter}
 use Rattle.model_renewed.specs.Renewed.{husk, husk_of, renewed, renewed_change}
 use Rattle.model.specs.Answer.{answer}
 use Rattle.model.specs.Reads.{reads}
 use Rattle.model_renewed.specs.Laws.{RenewedAt, RenewedFollows, RenewedIsAsLong, RenewedIsLawful, RenewedIsAnsweredAlike, RenewedIsSmall}
-use Rattle.model_renewed.specs.Laws.{RenewedOnce, RenewedReadsAlike}
+use Rattle.model_renewed.specs.Laws.{AreToldAgain, IsChangeAgain, RenewedForgets, RenewedOnce, RenewedReadsAlike}
 use Rattle.model.specs.declared.change.Change.{Change}
-use Rattle.model.specs.declared.change.Change.TheVariants.{Group, Article, Expire}
+use Rattle.model.specs.declared.change.Change.TheVariants.{Group, Article, Expire, Remove, Amend}
+use Rattle.model.specs.declared.change.Envelope.{Envelope}
 use Rattle.model.specs.declared.change.Filing.{Filing}
-use Rattle.model_renewed.proofs.Alike.{AreAlike, gone_alike, here_alike, group_alike, low_alike, high_alike}
+use Rattle.model_renewed.proofs.Alike.{AreAlike, gone_alike, here_alike, group_alike, in_alike, low_alike, high_alike, on, serial_alike, shown_mapped}
 use Rattle.model_renewed.proofs.AlikeAnswers.{answers_alike, reads_alike}
-use Rattle.model.proofs.Expiring.{still_here}
+use Rattle.model.proofs.Removed.{still_here}
 use Rattle.model.proofs.Fronts.{passing, greatest_serial}
 use Rattle.model_renewed.proofs.Husks.{husk_id, husk_groups, husk_carried, sizes}
 use Rattle.model.proofs.Ids.{no_cause}
@@ -45,6 +47,8 @@ abbrev thin : (NewsArticle → Bool) → ℕ → Change → Change
 thin p n (Group g) = Group g
 thin p n (Article f) = Article (thin_filing p n f)
 thin p n (Expire e) = Expire e
+thin p n (Remove r) = Remove r
+thin p n (Amend g) = Amend g
 
 abbrev thinned : (NewsArticle → Bool) → ℕ → Spool → Spool
 thinned p n [] = []
@@ -71,13 +75,32 @@ module _ (p : NewsArticle → Bool) where
   thinned_groups n (Group g ∷ cs) = ap (λ gs. news_group n g ∷ gs) (thinned_groups (suc n) cs)
   thinned_groups n (Article f ∷ cs) = thinned_groups (suc n) cs
   thinned_groups n (Expire e ∷ cs) = thinned_groups (suc n) cs
+  thinned_groups n (Remove r ∷ cs) = thinned_groups (suc n) cs
+  thinned_groups n (Amend g ∷ cs) = thinned_groups (suc n) cs
 
-  thinned_expiries : (n : ℕ) (Q : Spool)
-      → filter_map expiry_made (entries_from n (thinned p n Q)) ≡ filter_map expiry_made (entries_from n Q)
-  thinned_expiries n [] = refl
-  thinned_expiries n (Group g ∷ cs) = thinned_expiries (suc n) cs
-  thinned_expiries n (Article f ∷ cs) = thinned_expiries (suc n) cs
-  thinned_expiries n (Expire e ∷ cs) = ap (λ es. news_expiry n e ∷ es) (thinned_expiries (suc n) cs)
+  thinned_amendments : (n : ℕ) (Q : Spool)
+      → filter_map amendment_made (entries_from n (thinned p n Q)) ≡ filter_map amendment_made (entries_from n Q)
+  thinned_amendments n [] = refl
+  thinned_amendments n (Group g ∷ cs) = thinned_amendments (suc n) cs
+  thinned_amendments n (Article f ∷ cs) = thinned_amendments (suc n) cs
+  thinned_amendments n (Expire e ∷ cs) = thinned_amendments (suc n) cs
+  thinned_amendments n (Remove r ∷ cs) = thinned_amendments (suc n) cs
+  thinned_amendments n (Amend g ∷ cs) = ap (λ gs. news_group n g ∷ gs) (thinned_amendments (suc n) cs)
+
+  -- what removes an article is left as it is
+  thinned_removals : (g : Octets) (m serial n : ℕ) (Q : Spool)
+      → find (λ (e : SpoolEntry). removes g m serial e.change) (entries_from n (thinned p n Q))
+      ≡ find (λ (e : SpoolEntry). removes g m serial e.change) (entries_from n Q)
+  thinned_removals g m serial n [] = refl
+  thinned_removals g m serial n (Group g' ∷ cs) = thinned_removals g m serial (suc n) cs
+  thinned_removals g m serial n (Article f ∷ cs) = thinned_removals g m serial (suc n) cs
+  thinned_removals g m serial n (Amend g' ∷ cs) = thinned_removals g m serial (suc n) cs
+  thinned_removals g m serial n (Expire e ∷ cs) =
+      ap (λ (o : Option SpoolEntry). cond (removes g m serial (Expire e)) (Some (record { serial = n; change = Expire e })) o)
+      (thinned_removals g m serial (suc n) cs)
+  thinned_removals g m serial n (Remove r ∷ cs) =
+      ap (λ (o : Option SpoolEntry). cond (removes g m serial (Remove r)) (Some (record { serial = n; change = Remove r })) o)
+      (thinned_removals g m serial (suc n) cs)
 
   article_thinned : (n : ℕ) (f : Filing) → news_article n (thin_filing p n f) ≡ thin_article p (news_article n f)
   article_thinned n f = by_test (p (news_article n f)) where
@@ -92,6 +115,8 @@ module _ (p : NewsArticle → Bool) where
   thinned_articles n (Group g ∷ cs) = thinned_articles (suc n) cs
   thinned_articles n (Article f ∷ cs) = λ i. article_thinned n f i ∷ thinned_articles (suc n) cs i
   thinned_articles n (Expire e ∷ cs) = thinned_articles (suc n) cs
+  thinned_articles n (Remove r ∷ cs) = thinned_articles (suc n) cs
+  thinned_articles n (Amend g ∷ cs) = thinned_articles (suc n) cs
 
   thin_names : (test : Octets → Bool) (n : ℕ) (c : Change) → names_one test (thin p n c) ≡ names_one test c
   thin_names test n (Group g) = refl
@@ -100,6 +125,8 @@ module _ (p : NewsArticle → Bool) where
     by_test true = refl
     by_test false = refl
   thin_names test n (Expire e) = refl
+  thin_names test n (Remove r) = refl
+  thin_names test n (Amend g) = refl
 
   thinned_names : (test : Octets → Bool) (n : ℕ) (Q : Spool)
       → greatest_serial (passing (names_one test) (entries_from n (thinned p n Q)))
@@ -128,6 +155,8 @@ module _ (p : NewsArticle → Bool) where
   KeepsId n (Group g) = Unit {0}
   KeepsId n (Article f) = p (news_article n f) ≡ true → id (husk (id f.text) f.envelope.groups) ≡ id f.text
   KeepsId n (Expire e) = Unit {0}
+  KeepsId n (Remove r) = Unit {0}
+  KeepsId n (Amend g) = Unit {0}
 
   abbrev KeepIds : ℕ → Spool → Type 0
   KeepIds n [] = Unit {0}
@@ -139,6 +168,8 @@ module _ (p : NewsArticle → Bool) where
   thinned_id wanted n [] keep = refl
   thinned_id wanted n (Group g ∷ cs) keep = thinned_id wanted (suc n) cs keep.1
   thinned_id wanted n (Expire e ∷ cs) keep = thinned_id wanted (suc n) cs keep.1
+  thinned_id wanted n (Remove r ∷ cs) keep = thinned_id wanted (suc n) cs keep.1
+  thinned_id wanted n (Amend g ∷ cs) keep = thinned_id wanted (suc n) cs keep.1
   thinned_id wanted n (Article f ∷ cs) keep =
       ap (λ (a : NewsArticle). cond (has_id wanted a) (Some a) (find (has_id wanted) (filter_map article_filed
       (entries_from (suc n) (thinned p (suc n) cs))))) (article_thinned n f)
@@ -191,11 +222,12 @@ module _ (p : NewsArticle → Bool) where
       [ true ↦ refl | false ↦ refl ]
 
   pub thinned_alike : (Q : Spool) → KeepIds 1 Q → AreAlike Q (thinned p 1 Q) (thin_article p)
-  unfolding groups articles expiries entries by_id last_naming_one
+  unfolding groups amendments articles entries by_id last_naming_one removal_of
   thinned_alike Q keep = record {
     as_long = thinned_length 1 Q;
     same_groups = thinned_groups 1 Q;
-    same_expiries = thinned_expiries 1 Q;
+    same_amendments = thinned_amendments 1 Q;
+    same_removals = λ g m serial. thinned_removals g m serial 1 Q;
     same_names = λ test. thinned_names test 1 Q;
     articles_are = thinned_articles 1 Q;
     same_serial = thin_serial;
@@ -210,6 +242,8 @@ thin_same : (p q : NewsArticle → Bool) (n : ℕ) (c : Change) → ((a : NewsAr
 thin_same p q n (Group g) same = refl
 thin_same p q n (Article f) same = ap (λ b. Article (cond b (husk_of f) f)) (same (news_article n f) refl)
 thin_same p q n (Expire e) same = refl
+thin_same p q n (Remove r) same = refl
+thin_same p q n (Amend g) same = refl
 
 thinned_same : (p q : NewsArticle → Bool) (n : ℕ) (Q : Spool)
     → ((a : NewsArticle) → n ≤ a.serial → a.serial + 1 ≤ n + length Q → p a ≡ q a) → thinned p n Q ≡ thinned q n Q
@@ -224,6 +258,8 @@ thin_none : (n : ℕ) (c : Change) → thin (λ a. false) n c ≡ c
 thin_none n (Group g) = refl
 thin_none n (Article f) = refl
 thin_none n (Expire e) = refl
+thin_none n (Remove r) = refl
+thin_none n (Amend g) = refl
 
 thinned_none : (n : ℕ) (Q : Spool) → thinned (λ a. false) n Q ≡ Q
 thinned_none n [] = refl
@@ -236,6 +272,8 @@ renewed_thinned S = all 1 S where
   one n (Group g) = refl
   one n (Article f) = refl
   one n (Expire e) = refl
+  one n (Remove r) = refl
+  one n (Amend g) = refl
 
   all : (n : ℕ) (Q : Spool) → map (renewed_change S) (entries_from n Q) ≡ thinned (is_gone S) n Q
   all n [] = refl
@@ -285,6 +323,8 @@ lawful_keeps p host R (Group g ∷ cs) n lawful = (tt, lawful_keeps p host (R ++
 lawful_keeps p host R (Article f ∷ cs) n lawful =
     (λ is. kept_id host R f lawful.0, lawful_keeps p host (R ++ Article f ∷ []) cs (suc n) lawful.1)
 lawful_keeps p host R (Expire e ∷ cs) n lawful = (tt, lawful_keeps p host (R ++ Expire e ∷ []) cs (suc n) lawful.1)
+lawful_keeps p host R (Remove r ∷ cs) n lawful = (tt, lawful_keeps p host (R ++ Remove r ∷ []) cs (suc n) lawful.1)
+lawful_keeps p host R (Amend g ∷ cs) n lawful = (tt, lawful_keeps p host (R ++ Amend g ∷ []) cs (suc n) lawful.1)
 
 keep_none : (p : NewsArticle → Bool) (n : ℕ) (Q : Spool) → ((a : NewsArticle) → n ≤ a.serial → p a ≡ false) → KeepIds p n Q
 keep_none p n [] none = tt
@@ -292,6 +332,8 @@ keep_none p n (Group g ∷ cs) none = (tt, keep_none p (suc n) cs (λ a low. non
 keep_none p n (Article f ∷ cs) none =
     (λ is. absurd (true≢false (sym is ∙ none (news_article n f) (omega arith))), keep_none p (suc n) cs (λ a low. none a (omega arith)))
 keep_none p n (Expire e ∷ cs) none = (tt, keep_none p (suc n) cs (λ a low. none a (omega arith)))
+keep_none p n (Remove r ∷ cs) none = (tt, keep_none p (suc n) cs (λ a low. none a (omega arith)))
+keep_none p n (Amend g ∷ cs) none = (tt, keep_none p (suc n) cs (λ a low. none a (omega arith)))
 
 -- ---- the answers
 
@@ -397,10 +439,16 @@ module _ (p : NewsArticle → Bool) (host : Octets) where
           fits = may.fits;
         }
 
+    count_alike : (g : Octets) → length (shown_in other g) ≡ length (shown_in R g)
+    count_alike g =
+        ap (λ (l : List (ℕ × NewsArticle)). length l) (shown_mapped R other (thin_article p) same g)
+        ∙ length-map (shown_in R g) (on R other (thin_article p) same)
+
     follows : (n : ℕ) (c : Change) → MayFollow host R c → MayFollow host other (thin p n c)
     follows n (Group g) may = record {
       is_name = may.is_name;
       new = group_alike R other (thin_article p) same g.name ∙ may.new;
+      here = may.here;
       short = may.short;
       printable = may.printable;
       in_time = may.in_time;
@@ -414,11 +462,31 @@ module _ (p : NewsArticle → Bool) (host : Octets) where
       from_low = rw (low_alike R other (thin_article p) same e.group) may.from_low;
       to_high = rw (high_alike R other (thin_article p) same e.group) may.to_high;
     }
+    follows n (Amend g) may = record {
+      made = ap (λ (o : Option NewsGroup). is_some o) (group_alike R other (thin_article p) same g.name) ∙ may.made;
+      empty = λ retired. count_alike g.name ∙ may.empty retired;
+      short = may.short;
+      printable = may.printable;
+      in_time = may.in_time;
+    }
+    follows n (Remove r) may =
+        let its : NewsArticle = thin_article p may.article in
+        record {
+          article = its;
+          filed = serial_alike R other (thin_article p) same r.article ∙ ap (option_map (thin_article p)) may.filed;
+          whole =
+              may.whole
+              ∙ sym (ap (λ (q : Octets → Bool). filter q its.groups) (λ i g. in_alike R other (thin_article p) same may.article g i)
+              ∙ ap (filter (is_in R may.article)) (same.same_groups_of may.article));
+          somewhere = may.somewhere;
+        }
 
   keep_one : (R : Spool) (n : ℕ) (c : Change) → MayFollow host R c → KeepsId p n c
   keep_one R n (Group g) may = tt
   keep_one R n (Article f) may = λ is. kept_id host R f may
   keep_one R n (Expire e) may = tt
+  keep_one R n (Remove r) may = tt
+  keep_one R n (Amend g) may = tt
 
   all_follow : (R cs : Spool) → KeepIds p 1 R → IsLawfulAfter host R cs
       → IsLawfulAfter host (thinned p 1 R) (thinned p (1 + length R) cs)
@@ -453,6 +521,8 @@ small_all : (p : NewsArticle → Bool) → ((a : NewsArticle) (text : Octets) �
 small_all p alone host R [] n lawful = All-nil (IsSmallIf p)
 small_all p alone host R (Group g ∷ cs) n lawful = small_all p alone host (R ++ Group g ∷ []) cs (suc n) lawful.1
 small_all p alone host R (Expire e ∷ cs) n lawful = small_all p alone host (R ++ Expire e ∷ []) cs (suc n) lawful.1
+small_all p alone host R (Remove r ∷ cs) n lawful = small_all p alone host (R ++ Remove r ∷ []) cs (suc n) lawful.1
+small_all p alone host R (Amend g ∷ cs) n lawful = small_all p alone host (R ++ Amend g ∷ []) cs (suc n) lawful.1
 small_all p alone host R (Article f ∷ cs) n lawful =
     All-cons (IsSmallIf p) (thin_article p (news_article n f)) (map (thin_article p) (filter_map article_filed (entries_from (suc n) cs)))
     (one (p (news_article n f)) refl) (small_all p alone host (R ++ Article f ∷ []) cs (suc n) lawful.1)
@@ -477,6 +547,8 @@ module _ (p q : NewsArticle → Bool) (agree : (a : NewsArticle) → q (thin_art
   twice_one : (n : ℕ) (c : Change) → KeepsId p n c → thin q n (thin p n c) ≡ thin p n c
   twice_one n (Group g) kept_ids = refl
   twice_one n (Expire e) kept_ids = refl
+  twice_one n (Remove r) kept_ids = refl
+  twice_one n (Amend g) kept_ids = refl
   twice_one n (Article f) kept_ids =
       ap (λ b. Article (cond b (husk_of (thin_filing p n f)) (thin_filing p n f))) (ap q (article_thinned p n f) ∙ agree (news_article n f))
       ∙ by_test (p (news_article n f)) refl
@@ -525,3 +597,45 @@ renewed_at S k c is =
 -- each change of a lawful spool may follow those before it
 pub renewed_follows : RenewedFollows
 renewed_follows host S k c lawful is = next_follows host [] (renewed S) k c (renewed_lawful host S lawful) is
+
+-- ---- what was said is forgotten
+
+module _ (S : Spool) where
+  -- an article is gone whatever it says
+  gone_again : (n : ℕ) (f g : Filing) → g.envelope ≡ f.envelope → is_gone S (news_article n g) ≡ is_gone S (news_article n f)
+  unfolding is_gone
+  gone_again n f g envelope =
+      ap (λ (gs : List Octets). is_gone S (record (news_article n f) { groups = gs })) (ap (λ (e : Envelope). e.groups) envelope)
+
+  again_one : (n : ℕ) (c d : Change) → IsChangeAgain S n c d → thin (is_gone S) n d ≡ thin (is_gone S) n c
+  again_one n (Group g) d is = ap (thin (is_gone S) n) is
+  again_one n (Expire e) d is = ap (thin (is_gone S) n) is
+  again_one n (Remove r) d is = ap (thin (is_gone S) n) is
+  again_one n (Amend g) d is = ap (thin (is_gone S) n) is
+  again_one n (Article f) d (g, is, (envelope, ids, kept_text)) =
+      ap (thin (is_gone S) n) is ∙ ap Article (same_gone ∙ by_gone (is_gone S (news_article n f)) refl) where
+        same_gone : thin_filing (is_gone S) n g ≡ cond (is_gone S (news_article n f)) (husk_of g) g
+        same_gone = ap (λ b. cond b (husk_of g) g) (gone_again n f g envelope)
+
+        left : husk_of g ≡ husk_of f
+        left = λ i. filing_of (husk (ids i) (envelope i).groups) (envelope i).groups (envelope i).moment
+
+        by_gone : (b : Bool) → is_gone S (news_article n f) ≡ b → cond b (husk_of g) g ≡ cond b (husk_of f) f
+        by_gone true gone = left
+        by_gone false here = kept_text here
+
+  again : (n : ℕ) (Q R : Spool) → AreToldAgain S n Q R → thinned (is_gone S) n R ≡ thinned (is_gone S) n Q
+  again n [] [] same = refl
+  again n [] (d ∷ ds) same = absurd same
+  again n (c ∷ cs) [] same = absurd same
+  again n (c ∷ cs) (d ∷ ds) same = λ i. again_one n c d same.0 i ∷ again (suc n) cs ds same.1 i
+
+pub renewed_forgets : RenewedForgets
+renewed_forgets host S R lawful lawful' same =
+    let p = is_gone S in
+    let one : thinned p 1 R ≡ thinned p 1 S = again S 1 S R same in
+    let first = gone_alike S (thinned p 1 S) (thin_article p) (thinned_alike p S (lawful_keeps p host [] S 1 lawful)) in
+    let other = gone_alike R (thinned p 1 R) (thin_article p) (thinned_alike p R (lawful_keeps p host [] R 1 lawful')) in
+    let gone : (a : NewsArticle) → is_gone R a ≡ is_gone S a =
+    λ a. sym (other a) ∙ ap (λ (Q : Spool). is_gone Q (thin_article p a)) one ∙ first a in
+    renewed_thinned R ∙ thinned_same (is_gone R) p 1 R (λ a low high. gone a) ∙ one ∙ sym (renewed_thinned S)

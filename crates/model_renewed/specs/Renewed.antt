@@ -5,7 +5,7 @@ use Rattle.model.specs.Stream.{Octets, crlf, line}
 use Rattle.model.specs.Article.{id}
 use Rattle.model.specs.Spool.{Spool, SpoolEntry, entries, filing_of, is_gone, news_article}
 use Rattle.model.specs.declared.change.Change.{Change}
-use Rattle.model.specs.declared.change.Change.TheVariants.{Group, Article, Expire}
+use Rattle.model.specs.declared.change.Change.TheVariants.{Group, Article, Expire, Remove, Amend}
 use Rattle.model.specs.declared.change.Filing.{Filing}
 
 -- the husk of an article: the shortest article with this message-id in these groups. Each of the other fields that an article needs
@@ -26,6 +26,8 @@ renewed_change S e = by_change e.serial e.change where
   by_change n (Group g) = Group g
   by_change n (Article f) = Article (if is_gone S (news_article n f) then husk_of f else f)
   by_change n (Expire e) = Expire e
+  by_change n (Remove r) = Remove r
+  by_change n (Amend g) = Amend g
 
 -- what is left of each change, in the same order
 unfoldable pub renewed : Spool → Spool

@@ -3,11 +3,12 @@
 #![tactic(auto)]
 
 ghost use Rattle.model_renewed.specs.Laws.{RenewedAt, RenewedFollows, RenewedIsAnsweredAlike, RenewedIsAsLong, RenewedIsLawful, RenewedIsSmall};
-ghost use Rattle.model_renewed.specs.Laws.{RenewedOnce, RenewedReadsAlike};
+ghost use Rattle.model_renewed.specs.Laws.{RenewedForgets, RenewedOnce, RenewedReadsAlike};
 
 /// A renewed spool is answered as the old one, now and after any further changes, and each answer reads the same. It is as
 /// long and as lawful, what is left of an article that is gone is small, and to renew it again changes nothing. What is left
-/// of a change stands at its place, and may follow the changes before it.
+/// of a change stands at its place, and may follow the changes before it. Nothing is left of what an article said that is gone, but
+/// its message-id.
 pub fn renewed_is_answered_alike()
     ensures answers { RenewedIsAnsweredAlike }
     ensures reads { RenewedReadsAlike }
@@ -17,4 +18,5 @@ pub fn renewed_is_answered_alike()
     ensures once { RenewedOnce }
     ensures at { RenewedAt }
     ensures follows { RenewedFollows }
+    ensures forgets { RenewedForgets }
 {}

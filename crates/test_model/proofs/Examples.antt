@@ -7,6 +7,8 @@ use Rattle.test_model.specs.Commands.{ClosedGroup, Wildmats, NewGroups, Walk}
 use Rattle.test_model.specs.Expiry.{EachAlone, Lost, NextNumber, NumbersGoOn, IdsAreRemembered, ShowsWhatIsIn, CurrentIsTakenOut}
 use Rattle.test_model.specs.Expiry.{TwoGroups, Stored, MayOnlyOnce}
 use Rattle.test_model.specs.Numbers.{ByNumber, BelowTheLowest}
+use Rattle.test_model.specs.Removal.{RemovedAlone, OverTheHole, RemovedFirst, CurrentIsRemoved, RemovedIdsAreRemembered}
+use Rattle.test_model.specs.Removal.{ClosedLater, RetiredAndBack}
 
 pub post_then_group : PostThenGroup
 unfolding everything
@@ -106,3 +108,31 @@ may_only_once = record {
   nothing = λ may. let below : 1 ≤ 0 = may.from_low in omega arith;
   elsewhere = λ may. absurd (true≢false (sym may.here));
 }
+
+pub removed_alone : RemovedAlone
+unfolding everything
+removed_alone = refl
+
+pub over_the_hole : OverTheHole
+unfolding everything
+over_the_hole = refl
+
+pub removed_first : RemovedFirst
+unfolding everything
+removed_first = refl
+
+pub current_is_removed : CurrentIsRemoved
+unfolding everything
+current_is_removed = refl
+
+pub removed_ids : RemovedIdsAreRemembered
+unfolding everything
+removed_ids = refl
+
+pub closed_later : ClosedLater
+unfolding everything
+closed_later = refl
+
+pub retired_and_back : RetiredAndBack
+unfolding everything
+retired_and_back = refl

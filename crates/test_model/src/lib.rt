@@ -8,6 +8,8 @@ ghost use Rattle.test_model.specs.Expiry.{ShowsWhatIsIn, Stored, TwoGroups};
 ghost use Rattle.test_model.specs.Formats.{Gates, Rows, Steps, Walks};
 ghost use Rattle.test_model.specs.Least.{BelowByNumber, BelowCurrent, FoundByNumber, GoneById};
 ghost use Rattle.test_model.specs.Numbers.{BelowTheLowest, ByNumber};
+ghost use Rattle.test_model.specs.Removal.{ClosedLater, CurrentIsRemoved, OverTheHole, RemovedAlone, RemovedFirst, RemovedIdsAreRemembered};
+ghost use Rattle.test_model.specs.Removal.{RetiredAndBack};
 
 /// Examples of the commands.
 pub fn commands()
@@ -36,6 +38,17 @@ pub fn expiry()
     ensures current { CurrentIsTakenOut }
     ensures two_groups { TwoGroups }
     ensures stored { Stored }
+{}
+
+/// Examples of what an operator takes out, closes and retires.
+pub fn removals()
+    ensures alone { RemovedAlone }
+    ensures hole { OverTheHole }
+    ensures first { RemovedFirst }
+    ensures current { CurrentIsRemoved }
+    ensures ids { RemovedIdsAreRemembered }
+    ensures closed { ClosedLater }
+    ensures retired { RetiredAndBack }
 {}
 
 /// Examples of articles that are asked for by number.

@@ -1,18 +1,19 @@
 -- What the index of a spool relies on, and how it grows.
 use Rattle.std.specs.Prelude.{◌≡◌, ℕ, ◌+◌, ◌*◌, ◌<◌, false, if◌then◌else◌, [], ◌∷◌, ◌++◌, bytes_eq, length, map, slice_get, slice_index}
-use Rattle.std.specs.Prelude.{Some}
+use Rattle.std.specs.Prelude.{Some, find, nat_le, ◌==◌}
 use Rattle.std.specs.List.{list_any}
 use Rattle.disk.specs.Image.{part}
 use Rattle.model.specs.Stream.{Octets}
-use Rattle.model.specs.Indexed.{IsIndexOf, ends_from, group_index, line_start, new_index, note_of, with_article, with_expiry}
+use Rattle.model.specs.Indexed.{IsIndexOf, earlier, ends_from, expiry_serial, removal_serial, removals_of, group_index, line_start, new_index, note_of, with_article, with_amendment, with_expiry, with_removal}
 use Rattle.model.specs.Lawful.{IsLawful, MayFollow}
-use Rattle.model.specs.Spool.{Spool, NewsExpiry, NewsArticle, NewsGroup, entries, expiries_of, filed_in, high, is_name}
+use Rattle.model.specs.Spool.{Spool, NewsExpiry, NewsArticle, NewsGroup, entries, expiries_of, filed_in, high, is_name, NewsRemoval, out_at}
 use Rattle.model.specs.SpoolFiles.{numbers_file, overview_file, overview_lines}
 use Rattle.model.specs.declared.change.Change.{Change}
-use Rattle.model.specs.declared.change.Change.TheVariants.{Group, Article, Expire}
+use Rattle.model.specs.declared.change.Change.TheVariants.{Group, Article, Expire, Remove, Amend}
 use Rattle.model.specs.declared.change.Expiry.{Expiry}
 use Rattle.model.specs.declared.change.Filing.{Filing}
 use Rattle.model.specs.declared.change.NewGroup.{NewGroup}
+use Rattle.model.specs.declared.change.Removal.{Removal}
 
 -- The expiries of a group have rising numbers, and the articles filed in it have rising serials, so both are found by
 -- binary search.
@@ -24,6 +25,12 @@ ExpiriesRise = (host : Octets) (S : Spool) (g : Octets) (i j : ℕ) → IsLawful
 abbrev pub FiledRise : Type 0
 FiledRise = (S : Spool) (g : Octets) (i j : ℕ) → i < j → j < length (filed_in S g) →
     slice_index (map (λ (a : NewsArticle). a.serial) (filed_in S g)) i < slice_index (map (λ (a : NewsArticle). a.serial) (filed_in S g)) j
+
+-- The change that removed a number is the earlier of the first expiry that reaches it and the removal of its article.
+abbrev pub OutsAreFound : Type 0
+OutsAreFound = (S : Spool) (g : Octets) (n : ℕ) (a : NewsArticle) → out_at S g n a ≡ earlier
+    (expiry_serial (find (λ (e : NewsExpiry). nat_le n e.number) (expiries_of S g)))
+    (removal_serial (find (λ (r : NewsRemoval). r.article == a.serial) (removals_of S g)))
 
 -- The file of a group's numbers has 16 octets for each article.
 abbrev pub NumbersAreWhole : Type 0
@@ -53,6 +60,15 @@ abbrev pub ExpiriesGrow : Type 0
 ExpiriesGrow = (host : Octets) (S : Spool) (e : Expiry) (g : NewsGroup) → MayFollow host S (Expire e) →
     group_index (S ++ Expire e ∷ []) g
     ≡ (if bytes_eq e.group g.name then with_expiry S e.number (group_index S g) else group_index S g)
+
+abbrev pub RemovalsGrow : Type 0
+RemovalsGrow = (S : Spool) (r : Removal) (g : NewsGroup) →
+    group_index (S ++ Remove r ∷ []) g
+    ≡ (if list_any (is_name g.name) r.groups then with_removal S r (group_index S g) else group_index S g)
+
+abbrev pub AmendmentsGrow : Type 0
+AmendmentsGrow = (S : Spool) (a : NewGroup) (g : NewsGroup) →
+    group_index (S ++ Amend a ∷ []) g ≡ (if bytes_eq a.name g.name then with_amendment S a (group_index S g) else group_index S g)
 
 -- each change has one note
 abbrev pub NotesGrow : Type 0

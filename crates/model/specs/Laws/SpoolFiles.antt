@@ -84,7 +84,7 @@ NamesAreDistinct = (host : Octets) (S : Spool) (f g : File) → length S + 1 < 1
 abbrev pub FilesAreOnce : Type 0
 FilesAreOnce = (inodes : ℕ) (blocks : List Octets) → IsFileSystem inodes blocks → IsOnce (files_in (table inodes blocks))
 
--- The files are those of the groups, of the articles and of the expiries.
+-- The files are those of the groups, of the articles, of the expiries and of the removals.
 abbrev pub FilesAreByKind : Type 0
 FilesAreByKind = (S : Spool) → IsPermutation (files_of S) (files_by_kind S)
 

@@ -1,5 +1,5 @@
 use Rattle.model_renewed.proofs.Renewing.{renewed_answers, renewed_at, renewed_follows, renewed_reads, renewed_length, renewed_lawful}
-use Rattle.model_renewed.proofs.Renewing.{renewed_once, renewed_small}
+use Rattle.model_renewed.proofs.Renewing.{renewed_forgets, renewed_once, renewed_small}
 use Rattle.model_renewed.proofs.renewed_is_answered_alike.Goals as goal
 
 pub returns : goal.returns
@@ -12,4 +12,5 @@ returns c = record {
   once = renewed_once;
   at = renewed_at;
   follows = renewed_follows;
+  forgets = renewed_forgets;
 }
