@@ -8,7 +8,8 @@ use Rattle.std.proofs.lemmas.List.Sorted.{Contains-permutation, IsPermutation-ap
 use Rattle.std.proofs.lemmas.List.Sorted.{IsPermutation-refl}
 use Rattle.std.proofs.lemmas.List.Sorted.{IsPermutation-sym, IsPermutation-trans}
 use Rattle.model.specs.Files.{File}
-use Rattle.model.specs.Spool.{Spool, SpoolEntry, entries_from, entries, group_made, article_filed, expiry_made, removal_made, groups, articles}
+use Rattle.model.specs.Spool.{Spool, SpoolEntry, entries_from, entries, group_made, article_filed, expiry_made, removal_made, groups}
+use Rattle.model.specs.Spool.{articles}
 use Rattle.model.specs.Spool.{amendment_made, amendments, expiries, removals}
 use Rattle.model.specs.Spool.{NewsGroup, news_article, news_expiry, news_group, news_removal}
 use Rattle.model.specs.FileKinds.{article_file, expiry_file, files_by_kind, amendment_file, group_files, removal_file}
@@ -127,5 +128,6 @@ unfolding files_by_kind
 overview_there S g among =
     let f : File = record { name = overview_name g.name; content = overview_file S g.name } in
     Contains-permutation (files_by_kind S) (files_of S) f (IsPermutation-sym (files_of S) (files_by_kind S) (files_kinds S))
-    (Contains-append_left (flat_map (group_files S) (groups S)) (map article_file (articles S) ++ (map expiry_file (expiries S) ++ (map removal_file (removals S) ++ map amendment_file (amendments S)))) f
+    (Contains-append_left (flat_map (group_files S) (groups S)) (map article_file (articles S) ++ (map expiry_file (expiries S)
+    ++ (map removal_file (removals S) ++ map amendment_file (amendments S)))) f
     (in_groups S (groups S) among.0 g among.1 among.2))

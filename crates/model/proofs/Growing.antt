@@ -18,7 +18,8 @@ use Rattle.model.specs.Spool.{Spool, SpoolEntry, entries_from, entries, NewsArti
 use Rattle.model.specs.Spool.{group_here, group_now, groups_now, is_retired}
 use Rattle.model.specs.Spool.{articles, filed_in, group_named, is_here, news_article, news_group}
 use Rattle.model.specs.Records.{last_digits}
-use Rattle.model.specs.SpoolFiles.{group_name, numbers_name, overview_name, article_name, expiry_name, removal_name, amendment_name, number_record, number_records}
+use Rattle.model.specs.SpoolFiles.{group_name, numbers_name, overview_name, article_name, expiry_name, removal_name, amendment_name}
+use Rattle.model.specs.SpoolFiles.{number_record, number_records}
 use Rattle.model.specs.SpoolFiles.{overview_lines, overview_of, numbers_of, overview_file, numbers_file, change_file, entry_files, files_of}
 use Rattle.model.specs.FileCalls.{FileCall, appended, after_call, after_calls, next_line, next_record, filing_calls, making_calls}
 use Rattle.model.specs.FileCalls.{change_calls}

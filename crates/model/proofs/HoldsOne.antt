@@ -270,14 +270,17 @@ not_index octet n (Amend g) group article expiry removal amendment is = amendmen
 
 pub not_the_pack : (n : ℕ) (c : Change) → (change_file (record { serial = n; change = c })).name ≢ pack_name
 not_the_pack n c is =
-    not_index 112 n c (λ e. omega arith) (λ e. omega arith) (λ e. omega arith) (λ e. omega arith) (λ e. omega arith) (ap (λ (name : Octets). get_or name 0 0) is)
+    not_index 112 n c (λ e. omega arith) (λ e. omega arith) (λ e. omega arith) (λ e. omega arith) (λ e. omega arith)
+    (ap (λ (name : Octets). get_or name 0 0) is)
 
 index_apart : (S : Spool) (d : Change) (n : ℕ) (c : Change) → Contains (index_files S d) (change_file (record { serial = n; change = c }))
     → ⊥
 index_apart S (Group created) n c (zero, low, is) =
-    not_index 110 n c (λ e. omega arith) (λ e. omega arith) (λ e. omega arith) (λ e. omega arith) (λ e. omega arith) (ap (λ (f : File). get_or f.name 0 0) (sym is))
+    not_index 110 n c (λ e. omega arith) (λ e. omega arith) (λ e. omega arith) (λ e. omega arith) (λ e. omega arith)
+    (ap (λ (f : File). get_or f.name 0 0) (sym is))
 index_apart S (Group created) n c (suc zero, low, is) =
-    not_index 111 n c (λ e. omega arith) (λ e. omega arith) (λ e. omega arith) (λ e. omega arith) (λ e. omega arith) (ap (λ (f : File). get_or f.name 0 0) (sym is))
+    not_index 111 n c (λ e. omega arith) (λ e. omega arith) (λ e. omega arith) (λ e. omega arith) (λ e. omega arith)
+    (ap (λ (f : File). get_or f.name 0 0) (sym is))
 index_apart S (Group created) n c (suc (suc k), low, is) = omega arith
 index_apart S (Article filing) n c (k, low, is) = omega arith
 index_apart S (Expire expiry) n c (k, low, is) = omega arith

@@ -2,20 +2,22 @@
 use Rattle.std.proofs.Common.{◌≡◌, ◌≤◌, ℕ, zero, suc, ◌+◌, ◌-◌, List, [], ◌∷◌, ◌++◌, length, get_or, map, take, drop, refl, sym, ◌∙◌, ap}
 use Rattle.std.proofs.Common.{arith, Bool, true, false, cond, ◌||◌, length-append}
 use Rattle.std.specs.Prelude.{filter, filter_map, find, flat_map, bytes_eq, is_some, ◌==◌, max, slice_get, zip, Option, Some, None}
-use Rattle.std.specs.List.{list_any}
+use Rattle.std.specs.List.{fold, list_any}
 use Rattle.std.proofs.lemmas.Bool.{cond-true, cond-false, or_from, or_parts, true≢false}
+use Rattle.std.proofs.lemmas.List.Sums.{fold-append}
 use Rattle.std.proofs.lemmas.List.{append-nil, append_assoc, map_push, take_at, drop-drop, drop_at}
 use Rattle.std.proofs.lemmas.List.Elements.{filter-append, filter_map-append}
 use Rattle.std.proofs.lemmas.Option.{same_Some}
 use Rattle.std.proofs.lemmas.Slice.Eq.{bytes_eq-Decides}
 use Rattle.model.specs.Stream.{Octets}
-use Rattle.model.specs.Indexed.{ends_from, group_index, GroupIndex, line_start, new_index, note_of, removals_of, with_article, with_expiry}
-use Rattle.model.specs.Indexed.{with_amendment, with_removal}
+use Rattle.model.specs.Indexed.{Hole, ends_from, group_index, GroupIndex, hole_of, holes_of, line_start, new_index, note_of, with_article}
+use Rattle.model.specs.Indexed.{with_amendment, with_expiry, with_hole, with_removal}
 use Rattle.model.specs.Lawful.{MayFollow, IsLawfulAfter, IsLawful}
 use Rattle.model.specs.Spool.{Spool, SpoolEntry, entries_from, entries, NewsExpiry, NewsArticle, NewsGroup, expiries_of, filed_in, greatest}
 use Rattle.model.specs.Spool.{is_here, is_name, last_naming, last_naming_one, names_one, expiry_made, articles, expiries, groups}
 use Rattle.model.specs.Spool.{amendment_made, amendments, amendments_of, as_amended, group_now, last_of, news_group}
-use Rattle.model.specs.Spool.{group_named, by_id, is_in, news_article, news_expiry, news_removal, removal_made, removals, NewsRemoval}
+use Rattle.model.specs.Spool.{group_named, by_id, is_in, news_article, news_expiry, news_removal, removal_made, removals, removals_of}
+use Rattle.model.specs.Spool.{NewsRemoval}
 use Rattle.model.specs.FileCalls.{next_line}
 use Rattle.model.specs.SpoolFiles.{numbers_of, overview_lines, overview_of}
 use Rattle.model.specs.Laws.Indexed.{ArticlesGrow, EmptyIndex, ExpiriesGrow, GroupsGrow, LinesStand, NotesGrow, NumbersAreWhole}
@@ -170,12 +172,20 @@ removal_push S g c =
     ∙ filter-append (λ (x : NewsRemoval). list_any (is_name g) x.groups) (filter_map removal_made (entries_from 1 S))
     (filter_map removal_made (e ∷ []))
 
-removed_same : (S : Spool) (g : Octets) (c : Change) → filter_map removal_made (record { serial = length S + 1; change = c } ∷ []) ≡ []
-    → removals_of (S ++ c ∷ []) g ≡ removals_of S g
-removed_same S g c none =
-    removal_push S g c
-    ∙ ap (λ (rs : List NewsRemoval). removals_of S g ++ filter (λ (r : NewsRemoval). list_any (is_name g) r.groups) rs) none
-    ∙ append-nil (removals_of S g)
+abbrev more_holes : List Hole → NewsRemoval → List Hole
+more_holes holes r = with_hole (hole_of r) holes
+
+-- the holes after some removals more
+hole_push : (S R : Spool) (g : Octets) (rs : List NewsRemoval) → removals_of R g ≡ removals_of S g ++ rs
+    → holes_of R g ≡ fold more_holes (holes_of S g) rs
+unfolding holes_of
+hole_push S R g rs more = ap (fold more_holes []) more ∙ fold-append more_holes [] (removals_of S g) rs
+
+holes_same : (S : Spool) (g : Octets) (c : Change) → filter_map removal_made (record { serial = length S + 1; change = c } ∷ []) ≡ []
+    → holes_of (S ++ c ∷ []) g ≡ holes_of S g
+holes_same S g c none =
+    hole_push S (S ++ c ∷ []) g [] (removal_push S g c
+    ∙ ap (λ (rs : List NewsRemoval). removals_of S g ++ filter (λ (r : NewsRemoval). list_any (is_name g) r.groups) rs) none)
 
 pub amendment_push : (S : Spool) (g : Octets) (c : Change)
     → amendments_of (S ++ c ∷ []) g ≡ amendments_of S g ++ filter (λ (a : NewsGroup). is_name g a.name)
@@ -185,7 +195,8 @@ amendment_push S g c =
     let e : SpoolEntry = record { serial = length S + 1; change = c } in
     ap (λ es. filter (λ (x : NewsGroup). is_name g x.name) (filter_map amendment_made es)) (entries_push 1 S c)
     ∙ ap (filter (λ (x : NewsGroup). is_name g x.name)) (filter_map-append amendment_made (entries_from 1 S) (e ∷ []))
-    ∙ filter-append (λ (x : NewsGroup). is_name g x.name) (filter_map amendment_made (entries_from 1 S)) (filter_map amendment_made (e ∷ []))
+    ∙ filter-append (λ (x : NewsGroup). is_name g x.name) (filter_map amendment_made (entries_from 1 S))
+    (filter_map amendment_made (e ∷ []))
 
 -- a group as it is now, where no amendment of it is added
 now_same : (S : Spool) (g : NewsGroup) (c : Change)
@@ -211,22 +222,22 @@ notes_grow S c = ap (map note_of) (entries_push 1 S c) ∙ map_push note_of (ent
 
 -- the parts of a group's index
 made_index : (i j : GroupIndex) → i.group ≡ j.group → i.filed ≡ j.filed → i.ends ≡ j.ends → i.expired ≡ j.expired
-    → i.removed ≡ j.removed → i.last ≡ j.last → i ≡ j
-made_index i j group filed ends expired removed last = λ t. record {
+    → i.holes ≡ j.holes → i.last ≡ j.last → i ≡ j
+made_index i j group filed ends expired holes last = λ t. record {
   group = group t;
   filed = filed t;
   ends = ends t;
   expired = expired t;
-  removed = removed t;
+  holes = holes t;
   last = last t;
 }
 
 index_parts : (S R : Spool) (g : NewsGroup) → filed_in R g.name ≡ filed_in S g.name → expiries_of R g.name ≡ expiries_of S g.name
-    → removals_of R g.name ≡ removals_of S g.name
+    → holes_of R g.name ≡ holes_of S g.name
     → last_naming R g.name ≡ last_naming S g.name → group_now R g ≡ group_now S g → group_index R g ≡ group_index S g
-index_parts S R g filed expired removed last now =
+index_parts S R g filed expired holes last now =
     made_index (group_index R g) (group_index S g) now (ap (map (λ (a : NewsArticle). a.serial)) filed)
-    (ap (λ (f : List NewsArticle). ends_from 0 (overview_lines f)) filed) expired removed last
+    (ap (λ (f : List NewsArticle). ends_from 0 (overview_lines f)) filed) expired holes last
 
 size : (filed : List NewsArticle) (line : Octets)
     → 0 + length (flat_map (λ l. l) (overview_lines filed)) + length line ≡ length (overview_of filed) + length line
@@ -246,13 +257,14 @@ articles_grow S filing g =
       expired : expiries_of R g.name ≡ expiries_of S g.name
       expired = expired_same S g.name (Article filing) refl
 
-      removed : removals_of R g.name ≡ removals_of S g.name
-      removed = removed_same S g.name (Article filing) refl
+      holes : holes_of R g.name ≡ holes_of S g.name
+      holes = holes_same S g.name (Article filing) refl
 
       by_test : (b : Bool) → filed_in R g.name ≡ filed_in S g.name ++ cond b (its ∷ []) []
           → last_naming R g.name ≡ cond b (length S + 1) (last_naming S g.name)
           → group_index R g ≡ cond b (with_article S filing.text (group_index S g)) (group_index S g)
-      by_test false filed last = index_parts S R g (filed ∙ append-nil (filed_in S g.name)) expired removed last (now_same S g (Article filing) refl)
+      by_test false filed last =
+          index_parts S R g (filed ∙ append-nil (filed_in S g.name)) expired holes last (now_same S g (Article filing) refl)
       by_test true filed last =
           made_index (group_index R g) (with_article S filing.text (group_index S g)) (now_same S g (Article filing) refl)
           (ap (map (λ (a : NewsArticle). a.serial)) filed ∙ map_push (λ (a : NewsArticle). a.serial) (filed_in S g.name) its)
@@ -260,7 +272,7 @@ articles_grow S filing g =
           ∙ ends_push 0 (overview_lines (filed_in S g.name)) (next_line S filing.text g.name)
           ∙ ap (λ (n : ℕ). ends_from 0 (overview_lines (filed_in S g.name)) ++ n ∷ [])
           (size (filed_in S g.name) (next_line S filing.text g.name)))
-          expired removed last
+          expired holes last
 
 pub expiries_grow : ExpiriesGrow
 expiries_grow host S expiry g may =
@@ -274,21 +286,22 @@ expiries_grow host S expiry g may =
       filed : filed_in R g.name ≡ filed_in S g.name
       filed = filed_no_more S g.name (Expire expiry) refl
 
-      removed : removals_of R g.name ≡ removals_of S g.name
-      removed = removed_same S g.name (Expire expiry) refl
+      holes : holes_of R g.name ≡ holes_of S g.name
+      holes = holes_same S g.name (Expire expiry) refl
 
       by_test : (b : Bool) → bytes_eq expiry.group g.name ≡ b → expiries_of R g.name ≡ expiries_of S g.name ++ cond b (its ∷ []) []
           → last_naming R g.name ≡ cond b (length S + 1) (last_naming S g.name)
           → group_index R g ≡ cond b (with_expiry S expiry.number (group_index S g)) (group_index S g)
-      by_test false is expired last = index_parts S R g filed (expired ∙ append-nil (expiries_of S g.name)) removed last
+      by_test false is expired last = index_parts S R g filed (expired ∙ append-nil (expiries_of S g.name)) holes last
           (now_same S g (Expire expiry) refl)
       by_test true is expired last =
           let same : expiry.group ≡ g.name = (bytes_eq-Decides expiry.group g.name).0 is in
           let named : NewsExpiry = record its { group = g.name } in
           let all : expiries_of R g.name ≡ expiries_of S g.name ++ named ∷ [] =
           expired ∙ ap (λ (n : Octets). expiries_of S g.name ++ record its { group = n } ∷ []) same in
-          made_index (group_index R g) (with_expiry S expiry.number (group_index S g)) (now_same S g (Expire expiry) refl) (ap (map (λ (a : NewsArticle). a.serial)) filed)
-          (ap (λ (f : List NewsArticle). ends_from 0 (overview_lines f)) filed) all removed last
+          made_index (group_index R g) (with_expiry S expiry.number (group_index S g)) (now_same S g (Expire expiry) refl)
+          (ap (map (λ (a : NewsArticle). a.serial)) filed) (ap (λ (f : List NewsArticle). ends_from 0 (overview_lines f)) filed)
+          all holes last
 
 pub removals_grow : RemovalsGrow
 removals_grow S removal g =
@@ -309,11 +322,12 @@ removals_grow S removal g =
       by_test : (b : Bool) → removals_of R g.name ≡ removals_of S g.name ++ cond b (its ∷ []) []
           → last_naming R g.name ≡ cond b (length S + 1) (last_naming S g.name)
           → group_index R g ≡ cond b (with_removal S removal (group_index S g)) (group_index S g)
-      by_test false removed last = index_parts S R g filed expired (removed ∙ append-nil (removals_of S g.name)) last
-          (now_same S g (Remove removal) refl)
+      by_test false removed last =
+          index_parts S R g filed expired (hole_push S R g.name [] removed) last (now_same S g (Remove removal) refl)
       by_test true removed last =
-          made_index (group_index R g) (with_removal S removal (group_index S g)) (now_same S g (Remove removal) refl) (ap (map (λ (a : NewsArticle). a.serial)) filed)
-          (ap (λ (f : List NewsArticle). ends_from 0 (overview_lines f)) filed) expired removed last
+          made_index (group_index R g) (with_removal S removal (group_index S g)) (now_same S g (Remove removal) refl)
+          (ap (map (λ (a : NewsArticle). a.serial)) filed) (ap (λ (f : List NewsArticle). ends_from 0 (overview_lines f)) filed) expired
+          (hole_push S R g.name (its ∷ []) removed) last
 
 pub amendments_grow : AmendmentsGrow
 amendments_grow S amended g =
@@ -330,8 +344,8 @@ amendments_grow S amended g =
       expired : expiries_of R g.name ≡ expiries_of S g.name
       expired = expired_same S g.name (Amend amended) refl
 
-      removed : removals_of R g.name ≡ removals_of S g.name
-      removed = removed_same S g.name (Amend amended) refl
+      holes : holes_of R g.name ≡ holes_of S g.name
+      holes = holes_same S g.name (Amend amended) refl
 
       now : (b : Bool) → bytes_eq amended.name g.name ≡ b → amendments_of R g.name ≡ amendments_of S g.name ++ cond b (its ∷ []) []
       now b is = amendment_push S g.name (Amend amended) ∙ ap (λ c. amendments_of S g.name ++ cond c (its ∷ []) []) is
@@ -339,13 +353,13 @@ amendments_grow S amended g =
       by_test : (b : Bool) → bytes_eq amended.name g.name ≡ b → last_naming R g.name ≡ cond b (length S + 1) (last_naming S g.name)
           → group_index R g ≡ cond b (with_amendment S amended (group_index S g)) (group_index S g)
       by_test false is last =
-          index_parts S R g filed expired removed last
+          index_parts S R g filed expired holes last
           (ap (λ (l : List NewsGroup). as_amended g (last_of g l)) (now false is ∙ append-nil (amendments_of S g.name)))
       by_test true is last =
           made_index (group_index R g) (with_amendment S amended (group_index S g))
           (ap (as_amended g) (ap (last_of g) (now true is) ∙ last_pushed g its (amendments_of S g.name)))
           (ap (map (λ (a : NewsArticle). a.serial)) filed)
-          (ap (λ (f : List NewsArticle). ends_from 0 (overview_lines f)) filed) expired removed last
+          (ap (λ (f : List NewsArticle). ends_from 0 (overview_lines f)) filed) expired holes last
 
 pub nothing_expired : (host : Octets) (before cs : Spool) (n : ℕ) (name : Octets) → IsLawfulAfter host before cs
     → group_named (before ++ cs) name ≡ None
@@ -386,7 +400,8 @@ none_left p q [] none = refl
 none_left p q (x ∷ names) none =
     let parts = or_parts (q x) (list_any q names) none in
     by_test (p x) parts.0 (none_left p q names parts.1) where
-      by_test : (b : Bool) → q x ≡ false → list_any q (filter p names) ≡ false → list_any q (cond b (x ∷ filter p names) (filter p names)) ≡ false
+      by_test : (b : Bool) → q x ≡ false → list_any q (filter p names) ≡ false
+          → list_any q (cond b (x ∷ filter p names) (filter p names)) ≡ false
       by_test true failed rest = or_from (q x) (list_any q (filter p names)) failed rest
       by_test false failed rest = rest
 
@@ -420,9 +435,9 @@ nothing_removed host before (Remove removal ∷ cs) n name first lawful none =
     (lawful_more host [] before (Remove removal) first lawful.0) lawful.1 (rw append_assoc none) in
     cond-false (list_any (is_name name) removal.groups) _ _ other ∙ rest
 
-pub new_has_removed : (host : Octets) (S : Spool) (name : Octets) → IsLawful host S → group_named S name ≡ None → removals_of S name ≡ []
-unfolding removals_of removals entries
-new_has_removed host S name lawful none = nothing_removed host [] S 1 name tt lawful none
+pub new_has_holes : (host : Octets) (S : Spool) (name : Octets) → IsLawful host S → group_named S name ≡ None → holes_of S name ≡ []
+unfolding holes_of removals_of removals entries
+new_has_holes host S name lawful none = ap (fold more_holes []) (nothing_removed host [] S 1 name tt lawful none)
 
 -- a group that was not made has no amendment
 nothing_amended : (host : Octets) (before cs : Spool) (n : ℕ) (name : Octets) → IsLawfulAfter host before cs
@@ -456,7 +471,7 @@ groups_grow = record { others = others; its_own = its_own } where
       → group_index (S ++ Group created ∷ []) g ≡ group_index S g
   others S created g other =
       let c = Group created in
-      index_parts S (S ++ c ∷ []) g (filed_no_more S g.name c refl) (expired_same S g.name c refl) (removed_same S g.name c refl)
+      index_parts S (S ++ c ∷ []) g (filed_no_more S g.name c refl) (expired_same S g.name c refl) (holes_same S g.name c refl)
       (last_push S c (is_name g.name)
       ∙ cond-false (bytes_eq created.name g.name) (length S + 1) (last_naming S g.name) other) (now_same S g c refl)
 
@@ -468,14 +483,14 @@ groups_grow = record { others = others; its_own = its_own } where
       let none : group_named S g.name ≡ None = ap (group_named S) same ∙ may.new in
       let filed : filed_in R g.name ≡ [] = filed_no_more S g.name c refl ∙ new_has_nothing host S g.name lawful none in
       let expired : expiries_of R g.name ≡ [] = expired_same S g.name c refl ∙ new_has_expired host S g.name lawful none in
-      let removed : removals_of R g.name ≡ [] = removed_same S g.name c refl ∙ new_has_removed host S g.name lawful none in
+      let holes : holes_of R g.name ≡ [] = holes_same S g.name c refl ∙ new_has_holes host S g.name lawful none in
       let last : last_naming R g.name ≡ length S + 1 = last_push S c (is_name g.name)
       ∙ cond-true (bytes_eq created.name g.name) (length S + 1) (last_naming S g.name)
       ((bytes_eq-Decides created.name g.name).1 (sym same)) in
       let now : group_now R g ≡ g =
       now_same S g c refl ∙ ap (λ (l : List NewsGroup). as_amended g (last_of g l)) (new_has_amended host S g.name lawful none) in
       made_index (group_index R g) (new_index S g) now (ap (map (λ (a : NewsArticle). a.serial)) filed)
-      (ap (λ (f : List NewsArticle). ends_from 0 (overview_lines f)) filed) expired removed last
+      (ap (λ (f : List NewsArticle). ends_from 0 (overview_lines f)) filed) expired holes last
 
 pub empty_index : EmptyIndex
 unfolding groups group_named by_id articles entries

@@ -45,4 +45,6 @@ pub mod Blocks
 pub mod Tables
 pub mod Naming
 pub mod PackedGrowing
+pub mod Holes
 pub mod Outs
+pub mod Shown

@@ -13,7 +13,8 @@ use Rattle.model.specs.FileCalls.{next_record}
 use Rattle.model.specs.Packs.{IsMember, StandFor, pack_name, packed_calls, packing_calls}
 use Rattle.model.specs.Records.{last_digits}
 use Rattle.model.specs.Spool.{Spool}
-use Rattle.model.specs.SpoolFiles.{article_name, change_file, expiry_name, removal_name, amendment_name, files_of, numbers_name, overview_name}
+use Rattle.model.specs.SpoolFiles.{article_name, change_file, expiry_name, removal_name, amendment_name, files_of, numbers_name}
+use Rattle.model.specs.SpoolFiles.{overview_name}
 use Rattle.model.specs.Laws.Packs.{PackedSpoolsGrow}
 use Rattle.model.specs.Laws.SpoolFiles.{SpoolsGrow}
 use Rattle.model.specs.declared.change.Change.{Change}
@@ -67,7 +68,8 @@ none_of octet (inr (inr (inl is))) article expiry removal amendment = removal is
 none_of octet (inr (inr (inr is))) article expiry removal amendment = amendment is
 
 -- no file of the spool has the name of the next article, expiry or removal
-not_next : (S : Spool) (f : File) (octet : ℕ) → length S + 1 < 10 ^ 10 → (octet ≡ 97) ⊎ ((octet ≡ 120) ⊎ ((octet ≡ 114) ⊎ (octet ≡ 109))) → IsFrom S f
+not_next : (S : Spool) (f : File) (octet : ℕ) → length S + 1 < 10 ^ 10
+    → (octet ≡ 97) ⊎ ((octet ≡ 120) ⊎ ((octet ≡ 114) ⊎ (octet ≡ 109))) → IsFrom S f
     → f.name ≢ octet ∷ 46 ∷ last_digits 10 (length S + 1)
 not_next S f octet small which (inl (k, Group a, there, is)) named =
     let octets : 103 ≡ octet = ap (λ (g : File). get_or g.name 0 0) is ∙ first_is f octet (46 ∷ last_digits 10 (length S + 1)) named in
@@ -88,7 +90,8 @@ not_next S f octet small which (inr (inr (g, is))) named =
     none_of octet which (omega (arith, octets)) (omega (arith, octets)) (omega (arith, octets)) (omega (arith, octets))
 
 none_next : (S : Spool) (stored : List File) (s : StandFor stored (files_of S)) (octet : ℕ) → length S + 1 < 10 ^ 10
-    → (octet ≡ 97) ⊎ ((octet ≡ 120) ⊎ ((octet ≡ 114) ⊎ (octet ≡ 109))) → All (λ f. f.name ≢ octet ∷ 46 ∷ last_digits 10 (length S + 1)) s.packed
+    → (octet ≡ 97) ⊎ ((octet ≡ 120) ⊎ ((octet ≡ 114) ⊎ (octet ≡ 109)))
+    → All (λ f. f.name ≢ octet ∷ 46 ∷ last_digits 10 (length S + 1)) s.packed
 none_next S stored s octet small which =
     All-weaker (Contains s.packed) (λ (f : File). f.name ≢ octet ∷ 46 ∷ last_digits 10 (length S + 1))
     (λ f has. not_next S f octet small which (is_from S f (Contains-permutation (s.plain ++ s.packed) (files_of S) f s.files_are
@@ -151,9 +154,11 @@ own_plain S (Article f) stored s small =
 own_plain S (Expire e) stored s small =
     making_plain s.packed 120 (46 ∷ last_digits 10 (length S + 1)) _ (λ e. omega arith) (none_next S stored s 120 small (inr (inl refl)))
 own_plain S (Remove r) stored s small =
-    making_plain s.packed 114 (46 ∷ last_digits 10 (length S + 1)) _ (λ e. omega arith) (none_next S stored s 114 small (inr (inr (inl refl))))
+    making_plain s.packed 114 (46 ∷ last_digits 10 (length S + 1)) _ (λ e. omega arith)
+    (none_next S stored s 114 small (inr (inr (inl refl))))
 own_plain S (Amend g) stored s small =
-    making_plain s.packed 109 (46 ∷ last_digits 10 (length S + 1)) _ (λ e. omega arith) (none_next S stored s 109 small (inr (inr (inr refl))))
+    making_plain s.packed 109 (46 ∷ last_digits 10 (length S + 1)) _ (λ e. omega arith)
+    (none_next S stored s 109 small (inr (inr (inr refl))))
 
 all_calls : (S : Spool) (c : Change) → change_calls S c ≡ own_calls S c ++ index_calls S c
 unfolding own_calls

@@ -5,7 +5,8 @@ use Rattle.model.specs.Article.{overview_line}
 use Rattle.model.specs.Files.{File}
 use Rattle.model.specs.Records.{group_record, article_record, expiry_record, removal_record, amendment_record}
 use Rattle.model.specs.Spool.{Spool, high, news_article, news_expiry, news_group, news_removal}
-use Rattle.model.specs.SpoolFiles.{group_name, numbers_name, overview_name, article_name, expiry_name, removal_name, amendment_name, number_record, overview_file}
+use Rattle.model.specs.SpoolFiles.{group_name, numbers_name, overview_name, article_name, expiry_name, removal_name, amendment_name}
+use Rattle.model.specs.SpoolFiles.{number_record, overview_file}
 use Rattle.model.specs.declared.change.Change.{Change}
 use Rattle.model.specs.declared.change.Change.TheVariants.{Group, Article, Expire, Remove, Amend}
 

@@ -2,8 +2,10 @@
 use Rattle.std.specs.Prelude.{ℕ, ◌^◌, ◌<◌, Bool, ◌==◌, ◌||◌, slice_index, List, [], ◌∷◌, ◌++◌, map, flat_map, length}
 use Rattle.model.specs.Files.{File}
 use Rattle.model.specs.Records.{group_record, article_record, expiry_record, removal_record, amendment_record}
-use Rattle.model.specs.Spool.{IsEnvelope, Spool, NewsGroup, NewsArticle, NewsExpiry, NewsRemoval, groups, articles, expiries, removals, amendments}
-use Rattle.model.specs.SpoolFiles.{group_name, numbers_name, overview_name, article_name, expiry_name, removal_name, amendment_name, numbers_file, overview_file}
+use Rattle.model.specs.Spool.{IsEnvelope, Spool, NewsGroup, NewsArticle, NewsExpiry, NewsRemoval, groups, articles, expiries, removals}
+use Rattle.model.specs.Spool.{amendments}
+use Rattle.model.specs.SpoolFiles.{group_name, numbers_name, overview_name, article_name, expiry_name, removal_name, amendment_name}
+use Rattle.model.specs.SpoolFiles.{numbers_file, overview_file}
 use Rattle.model.specs.declared.change.Change.{Change}
 use Rattle.model.specs.declared.change.Change.TheVariants.{Group, Article, Expire, Remove, Amend}
 
@@ -28,11 +30,18 @@ abbrev pub amendment_file : NewsGroup → File
 amendment_file a = record { name = amendment_name a.serial; content = amendment_record a }
 
 unfoldable pub files_by_kind : Spool → List File
-files_by_kind S = flat_map (group_files S) (groups S) ++ (map article_file (articles S) ++ (map expiry_file (expiries S) ++ (map removal_file (removals S) ++ map amendment_file (amendments S))))
+files_by_kind S = flat_map (group_files S) (groups S) ++ (map article_file (articles S) ++ (map expiry_file (expiries S)
+    ++ (map removal_file (removals S) ++ map amendment_file (amendments S))))
 
--- a file of a change, by the first octet of its name: g, a, x, r or m
+-- a file of an article, an expiry, a removal or an amendment, by the first octet of its name: a, x, r or m
+abbrev pub is_packable : File → Bool
+is_packable file =
+    let kind = slice_index file.name 0 in
+    kind == 97 || (kind == 120 || (kind == 114 || kind == 109))
+
+-- a file of a change: one of these, or of a group, g
 abbrev pub is_of_change : File → Bool
-is_of_change file = slice_index file.name 0 == 103 || (slice_index file.name 0 == 97 || (slice_index file.name 0 == 120 || (slice_index file.name 0 == 114 || slice_index file.name 0 == 109)))
+is_of_change file = slice_index file.name 0 == 103 || is_packable file
 
 -- the serial and the numbers of a change fit into its file
 abbrev pub HasRoomInFile : ℕ → Change → Type 0

@@ -1,21 +1,22 @@
 -- What is kept in memory besides the files of a spool, so that no look-up searches the files. Each field is an equation
 -- with the spool, and one more change alters each field by at most one element. All of it is this project's own choice.
-use Rattle.std.specs.Prelude.{◌≡◌, ℕ, zero, suc, min, ◌+◌, List, [], ◌∷◌, ◌++◌, map, length, slice_index, slice_index_or, Option, Some, None}
-use Rattle.std.specs.Prelude.{bytes_eq, filter, option_map}
-use Rattle.std.specs.List.{list_any}
+use Rattle.std.specs.Prelude.{◌≡◌, ℕ, zero, suc, min, ◌+◌, ◌==◌, nat_le, nat_lt, Bool, not, if◌then◌else◌, List, [], ◌∷◌, ◌++◌, map, filter}
+use Rattle.std.specs.Prelude.{drop}
+use Rattle.std.specs.Prelude.{length, slice_index, slice_index_or, Option, Some, None, bytes_eq, find, is_some}
+use Rattle.std.specs.Prelude.{option_map}
+use Rattle.std.specs.List.{fold, list_any}
 use Rattle.std.specs.Map.{lookup}
 use Rattle.model.specs.Stream.{Octets}
 use Rattle.model.specs.Files.{File, table}
 use Rattle.model.specs.Spool.{Spool, SpoolEntry, entries, NewsGroup, NewsExpiry, NewsRemoval, groups, group_named, filed_in, expiries_of}
-use Rattle.model.specs.Spool.{as_amended, group_now, is_name, last_naming, removals}
-use Rattle.model.specs.Spool.{by_id, news_group, news_removal}
+use Rattle.model.specs.Spool.{as_amended, by_id, greatest, group_now, last_naming, news_group, removals_of}
 use Rattle.model.specs.FileCalls.{next_line}
 use Rattle.model.specs.Packs.{member_octets, pack_name}
 use Rattle.model.specs.SpoolFiles.{change_file, numbers_name, overview_name, numbers_file, overview_file, overview_lines}
 use Rattle.model.specs.declared.change.Change.{Change}
+use Rattle.model.specs.declared.change.Change.TheVariants.{Group, Article, Expire, Remove, Amend}
 use Rattle.model.specs.declared.change.NewGroup.{NewGroup}
 use Rattle.model.specs.declared.change.Removal.{Removal}
-use Rattle.model.specs.declared.change.Change.TheVariants.{Group, Article, Expire, Remove, Amend}
 
 -- ---- a change, without its text
 
@@ -44,6 +45,12 @@ abbrev pub ends_from : ℕ → List Octets → List ℕ
 ends_from start [] = []
 ends_from start (line ∷ lines) = (start + length line) ∷ ends_from (start + length line) lines
 
+-- a hole in a group's numbers: an article that a removal took out, by its serial, and the serial of the removal
+pub record Hole : Type 0 where
+  pub article : ℕ
+  pub serial : ℕ
+
+-- the group as it is now, and what its numbers show
 pub record GroupIndex : Type 0 where
   pub group : NewsGroup
   -- the serials of the articles filed in it, by number
@@ -52,14 +59,24 @@ pub record GroupIndex : Type 0 where
   pub ends : List ℕ
   -- its expiries, by rising number
   pub expired : List NewsExpiry
-  -- the removals from it, by rising serial
-  pub removed : List NewsRemoval
+  -- its holes, by rising serial of the article, and so by rising number
+  pub holes : List Hole
   -- the last serial that names it
   pub last : ℕ
 
--- the removals from a group in rising serial
-unfoldable pub removals_of : Spool → Octets → List NewsRemoval
-removals_of S g = filter (λ r. list_any (is_name g) r.groups) (removals S)
+-- one hole more; of two of one article the first stays
+abbrev pub with_hole : Hole → List Hole → List Hole
+with_hole new [] = new ∷ []
+with_hole new (h ∷ holes) =
+    if nat_lt new.article h.article then new ∷ h ∷ holes
+    else (if new.article == h.article then h ∷ holes else h ∷ with_hole new holes)
+
+-- the hole that a removal makes
+abbrev pub hole_of : NewsRemoval → Hole
+hole_of r = record { article = r.article; serial = r.serial }
+
+unfoldable pub holes_of : Spool → Octets → List Hole
+holes_of S g = fold (λ holes r. with_hole (hole_of r) holes) [] (removals_of S g)
 
 abbrev pub group_index : Spool → NewsGroup → GroupIndex
 group_index S g = record {
@@ -67,11 +84,38 @@ group_index S g = record {
   filed = map (λ a. a.serial) (filed_in S g.name);
   ends = ends_from 0 (overview_lines (filed_in S g.name));
   expired = expiries_of S g.name;
-  removed = removals_of S g.name;
+  holes = holes_of S g.name;
   last = last_naming S g.name;
 }
 
--- ---- which change removed a number
+-- ---- what is in a group
+
+-- the greatest number that an expiry reaches, or 0
+abbrev pub reach : List NewsExpiry → ℕ
+reach expired = greatest (map (λ e. e.number) expired)
+
+-- the hole of the article with this serial
+abbrev pub hole_at : List Hole → ℕ → Option Hole
+hole_at holes serial = find (λ h. h.article == serial) holes
+
+abbrev pub is_hole : List Hole → ℕ → Bool
+is_hole holes serial = is_some (hole_at holes serial)
+
+-- the serials of the articles that no expiry reaches, and of those that are in the group
+abbrev pub unexpired : GroupIndex → List ℕ
+unexpired i = drop (reach i.expired) i.filed
+
+abbrev pub serials_in : GroupIndex → List ℕ
+serials_in i = filter (λ serial. not (is_hole i.holes serial)) (unexpired i)
+
+-- the first number that is no hole, where the articles with these serials have the numbers from this one on
+abbrev pub past_holes : List Hole → ℕ → List ℕ → ℕ
+past_holes holes n [] = n
+past_holes holes n (serial ∷ later) = if is_hole holes serial then past_holes holes (n + 1) later else n
+
+-- the lowest number
+abbrev pub low_in : GroupIndex → ℕ
+low_in i = past_holes i.holes (reach i.expired + 1) (unexpired i)
 
 -- the earlier of two serials, of which 0 is none
 abbrev pub earlier : ℕ → ℕ → ℕ
@@ -83,9 +127,15 @@ abbrev pub expiry_serial : Option NewsExpiry → ℕ
 expiry_serial None = 0
 expiry_serial (Some e) = e.serial
 
-abbrev pub removal_serial : Option NewsRemoval → ℕ
-removal_serial None = 0
-removal_serial (Some r) = r.serial
+abbrev pub hole_serial : Option Hole → ℕ
+hole_serial None = 0
+hole_serial (Some h) = h.serial
+
+-- the change that removed the article with this number and this serial: the first expiry that reaches it, or the removal that made its hole
+abbrev pub out_in : GroupIndex → ℕ → ℕ → ℕ
+out_in i n serial = earlier (expiry_serial (find (λ e. nat_le n e.number) i.expired)) (hole_serial (hole_at i.holes serial))
+
+-- ---- lines
 
 -- where the line with place k begins, and where the last one ends
 abbrev pub line_start : List ℕ → ℕ → ℕ
@@ -109,7 +159,7 @@ with_expiry S number i = record i {
 
 abbrev pub with_removal : Spool → Removal → GroupIndex → GroupIndex
 with_removal S r i = record i {
-  removed = i.removed ++ news_removal (length S + 1) r ∷ [];
+  holes = with_hole (record { article = r.article; serial = length S + 1 }) i.holes;
   last = length S + 1;
 }
 
@@ -117,7 +167,7 @@ abbrev pub with_amendment : Spool → NewGroup → GroupIndex → GroupIndex
 with_amendment S g i = record i { group = as_amended i.group (news_group (length S + 1) g); last = length S + 1 }
 
 abbrev pub new_index : Spool → NewsGroup → GroupIndex
-new_index S g = record { group = g; filed = []; ends = []; expired = []; removed = []; last = length S + 1 }
+new_index S g = record { group = g; filed = []; ends = []; expired = []; holes = []; last = length S + 1 }
 
 -- ---- the whole
 

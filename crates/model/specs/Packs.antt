@@ -1,4 +1,4 @@
--- Files in a file: the pack. The file of an article or of an expiry may stand in the pack of its volume, where it takes neither an inode
+-- Files in a file: the pack. The file of a change that makes no group may stand in the pack of its volume, where it takes neither an inode
 -- nor a block of its own. All of it is this project's own layout (docs/FORMATS.md).
 use Rattle.std.specs.Prelude.{◌≢◌, ◌⊎◌, ℕ, ◌+◌, ◌/◌, ◌^◌, ◌<◌, ◌||◌, ◌==◌, List, [], ◌∷◌, ◌++◌, drop, flat_map, length, slice_index}
 use Rattle.std.specs.Prelude.{codes, IsTrue, All, Contains, IsPermutation}
@@ -7,6 +7,7 @@ use Rattle.disk.specs.Image.{part}
 use Rattle.model.specs.Stream.{Octets}
 use Rattle.model.specs.Volume.{number_at}
 use Rattle.model.specs.Files.{File, largest_file, most_inodes}
+use Rattle.model.specs.FileKinds.{is_packable}
 use Rattle.model.specs.FileCalls.{FileCall, Append, index_calls, making_calls}
 use Rattle.model.specs.Spool.{Spool}
 use Rattle.model.specs.SpoolFiles.{change_file}
@@ -34,10 +35,9 @@ member_in octets = record {
 abbrev pub member_at : ℕ → Octets → File
 member_at from octets = member_in (drop from octets)
 
--- a file that may stand in the pack: that of an article, of an expiry, of a removal or of an amendment, by the first octet of its name, a, x,
--- r or m. Such a file never grows.
+-- a file that may stand in the pack: that of an article, of an expiry, of a removal or of an amendment. Such a file never grows.
 pub record IsMember (f : File) : Type 0 where
-  pub kind : IsTrue (slice_index f.name 0 == 97 || (slice_index f.name 0 == 120 || (slice_index f.name 0 == 114 || slice_index f.name 0 == 109)))
+  pub kind : IsTrue (is_packable f)
   pub fits : length f.content < 256 ^ 4
 
 -- the pack of these files; if there are none, there is no pack

@@ -1,8 +1,9 @@
 //! Laws of the spool in files. Each function does nothing, and its contract is the law.
 
 ghost use Rattle.model.specs.Laws.Formats.{FilesOfFormatOne, ReadAsFormatOne, SizesBoundFiles};
-ghost use Rattle.model.specs.Laws.Indexed.{AmendmentsGrow, ArticlesGrow, EmptyIndex, ExpiriesGrow, RemovalsGrow, ExpiriesRise, FiledRise, GroupsGrow, LinesStand, OutsAreFound};
-ghost use Rattle.model.specs.Laws.Indexed.{NotesGrow, NumbersAreWhole};
+ghost use Rattle.model.specs.Laws.Indexed.{AmendmentsGrow, ArticlesGrow, CountsAreFound, EmptyIndex, ExpiriesGrow, ExpiriesRise, FiledRise};
+ghost use Rattle.model.specs.Laws.Indexed.{GroupsGrow, HolesRise, LinesStand, LowsAreFound, NotesGrow, NumbersAreWhole, OutsAreFound};
+ghost use Rattle.model.specs.Laws.Indexed.{RemovalsGrow, ShownAreFound};
 ghost use Rattle.model.specs.Laws.Layout.{EmptyVolumesStand, FormatsMayRise, ImagesStandForOne, VersionIsOne};
 ghost use Rattle.model.specs.Laws.Room.{ChangesAskFew, FilesGrowByBlocks, FreeIsBeside, NotFullHasRoom};
 ghost use Rattle.model.specs.Laws.Packs.{FilesStandAlone, MembersAreRead, PackedFilesStay, PackedSpoolsGrow, PacksGrow};
@@ -96,10 +97,18 @@ pub fn format_one_is_as_it_was()
 /// What is sorted in the index, and where it is found.
 pub fn index_rises()
     ensures expiries { ExpiriesRise }
-    ensures outs { OutsAreFound }
     ensures filed { FiledRise }
+    ensures holes { HolesRise }
     ensures numbers { NumbersAreWhole }
     ensures lines { LinesStand }
+{}
+
+/// The index of a group says what is in it: which articles, the lowest number, how many, and which change removed the others.
+pub fn index_shows_the_group()
+    ensures shown { ShownAreFound }
+    ensures lows { LowsAreFound }
+    ensures counts { CountsAreFound }
+    ensures outs { OutsAreFound }
 {}
 
 /// How one more change changes the index.

@@ -31,7 +31,7 @@ pub use filed::{
     appends_reach_one_file, blocks_hold_one_spool, changes_ask_for_few_blocks,
     creates_add_one_file, empty_blocks_hold_no_change, files_say_their_spool,
     free_is_beside_the_files, images_stand_for_one_spool, index_grows, index_rises,
-    packs_stand_for_files, spools_grow_by_their_files,
+    index_shows_the_group, packs_stand_for_files, spools_grow_by_their_files,
 };
 pub use laws::{
     accepted_change_is_read, answers_come_from_front, expiry_is_for_good, lawful_stays,

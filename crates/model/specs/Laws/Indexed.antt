@@ -1,12 +1,14 @@
 -- What the index of a spool relies on, and how it grows.
-use Rattle.std.specs.Prelude.{◌≡◌, ℕ, ◌+◌, ◌*◌, ◌<◌, false, if◌then◌else◌, [], ◌∷◌, ◌++◌, bytes_eq, length, map, slice_get, slice_index}
-use Rattle.std.specs.Prelude.{Some, find, nat_le, ◌==◌}
+use Rattle.std.specs.Prelude.{◌≡◌, ℕ, ◌+◌, ◌*◌, ◌<◌, ◌≤◌, ◌&&◌, nat_lt, not, if◌then◌else◌, [], ◌∷◌, ◌++◌, bytes_eq, length, map, slice_get}
+use Rattle.std.specs.Prelude.{Some, slice_index, false}
 use Rattle.std.specs.List.{list_any}
 use Rattle.disk.specs.Image.{part}
 use Rattle.model.specs.Stream.{Octets}
-use Rattle.model.specs.Indexed.{IsIndexOf, earlier, ends_from, expiry_serial, removal_serial, removals_of, group_index, line_start, new_index, note_of, with_article, with_amendment, with_expiry, with_removal}
+use Rattle.model.specs.Indexed.{Hole, IsIndexOf, ends_from, group_index, holes_of, is_hole, line_start, low_in, new_index, note_of, out_in}
+use Rattle.model.specs.Indexed.{reach, serials_in, with_amendment, with_article, with_expiry, with_removal}
 use Rattle.model.specs.Lawful.{IsLawful, MayFollow}
-use Rattle.model.specs.Spool.{Spool, NewsExpiry, NewsArticle, NewsGroup, entries, expiries_of, filed_in, high, is_name, NewsRemoval, out_at}
+use Rattle.model.specs.Spool.{Spool, NewsExpiry, NewsArticle, NewsGroup, contents, count, entries, expiries_of, filed_in, high, is_name}
+use Rattle.model.specs.Spool.{is_shown, low, out_at}
 use Rattle.model.specs.SpoolFiles.{numbers_file, overview_file, overview_lines}
 use Rattle.model.specs.declared.change.Change.{Change}
 use Rattle.model.specs.declared.change.Change.TheVariants.{Group, Article, Expire, Remove, Amend}
@@ -16,7 +18,7 @@ use Rattle.model.specs.declared.change.NewGroup.{NewGroup}
 use Rattle.model.specs.declared.change.Removal.{Removal}
 
 -- The expiries of a group have rising numbers, and the articles filed in it have rising serials, so both are found by
--- binary search.
+-- binary search, and so are its holes.
 abbrev pub ExpiriesRise : Type 0
 ExpiriesRise = (host : Octets) (S : Spool) (g : Octets) (i j : ℕ) → IsLawful host S → i < j → j < length (expiries_of S g) →
     slice_index (map (λ (e : NewsExpiry). e.number) (expiries_of S g)) i
@@ -26,11 +28,25 @@ abbrev pub FiledRise : Type 0
 FiledRise = (S : Spool) (g : Octets) (i j : ℕ) → i < j → j < length (filed_in S g) →
     slice_index (map (λ (a : NewsArticle). a.serial) (filed_in S g)) i < slice_index (map (λ (a : NewsArticle). a.serial) (filed_in S g)) j
 
--- The change that removed a number is the earlier of the first expiry that reaches it and the removal of its article.
+-- The holes of a group are in rising serial of their articles.
+abbrev pub HolesRise : Type 0
+HolesRise = (S : Spool) (g : Octets) (i j : ℕ) → i < j → j < length (holes_of S g) →
+    slice_index (map (λ (h : Hole). h.article) (holes_of S g)) i < slice_index (map (λ (h : Hole). h.article) (holes_of S g)) j
+
+-- An article is in a group where no expiry reaches its number and it is no hole.
+abbrev pub ShownAreFound : Type 0
+ShownAreFound = (S : Spool) (g : Octets) (n : ℕ) (a : NewsArticle) → 1 ≤ n →
+    is_shown S g n a ≡ (nat_lt (reach (expiries_of S g)) n && not (is_hole (holes_of S g) a.serial))
+
+-- The change that removed it, the lowest number and the number of articles are found in the index of the group.
 abbrev pub OutsAreFound : Type 0
-OutsAreFound = (S : Spool) (g : Octets) (n : ℕ) (a : NewsArticle) → out_at S g n a ≡ earlier
-    (expiry_serial (find (λ (e : NewsExpiry). nat_le n e.number) (expiries_of S g)))
-    (removal_serial (find (λ (r : NewsRemoval). r.article == a.serial) (removals_of S g)))
+OutsAreFound = (S : Spool) (g : NewsGroup) (n : ℕ) (a : NewsArticle) → out_at S g.name n a ≡ out_in (group_index S g) n a.serial
+
+abbrev pub LowsAreFound : Type 0
+LowsAreFound = (host : Octets) (S : Spool) (g : NewsGroup) → IsLawful host S → low S g.name ≡ low_in (group_index S g)
+
+abbrev pub CountsAreFound : Type 0
+CountsAreFound = (S : Spool) (g : NewsGroup) → count (contents S g.name) ≡ length (serials_in (group_index S g))
 
 -- The file of a group's numbers has 16 octets for each article.
 abbrev pub NumbersAreWhole : Type 0
