@@ -8,7 +8,8 @@ use Rattle.std.proofs.lemmas.List.{length-map}
 use Rattle.std.proofs.lemmas.Option.{slice_get-map}
 use Rattle.std.proofs.lemmas.Slice.Eq.{bytes_eq-Decides}
 use Rattle.model.specs.Stream.{Octets}
-use Rattle.model.specs.Spool.{Spool, SpoolEntry, NewsGroup, NewsArticle, Contents, article_at, groups, articles, filed_in, low, lowest, high}
+use Rattle.model.specs.Spool.{Spool, SpoolEntry, NewsGroup, NewsArticle, Contents, article_at, groups, articles, filed_in, low, lowest}
+use Rattle.model.specs.Spool.{high}
 use Rattle.model.specs.Spool.{contents, numbered, by_number, number_in, is_in, is_gone, is_shown, shown_in, removal_of, out_at}
 use Rattle.model.specs.Spool.{unless_gone, here_by_id, by_id, as_it_is, articles_now, gone_at, greatest, listed, is_name}
 use Rattle.model.specs.Spool.{group_named, is_here, last_naming_one, serial_of}

@@ -1,7 +1,8 @@
 -- Two spools that differ only in the texts of articles that are gone, and not in their ids, answer each message alike, and it reads the
 -- same of both.
 use Rattle.std.proofs.Common.{◌≡◌, ℕ, ◌+◌, ◌-◌, List, [], ◌∷◌, refl, ◌∙◌, ap, Bool, true, false, cond, ◌&&◌}
-use Rattle.std.specs.Prelude.{filter, find, map, length, nat_le, nat_lt, Option, Some, None, is_some, option_map, option_and_then, unwrap_or, ℤ}
+use Rattle.std.specs.Prelude.{filter, find, map, length, nat_le, nat_lt, Option, Some, None, is_some, option_map, option_and_then}
+use Rattle.std.specs.Prelude.{unwrap_or, ℤ}
 use Rattle.std.specs.List.{list_any}
 use Rattle.model.specs.Stream.{Octets}
 use Rattle.model.specs.Names.{is_of_host, wildmat_matches}
@@ -20,7 +21,8 @@ use Rattle.model.specs.Answer.{accepted, same_id, groups_here, closed_group, spo
 use Rattle.model.specs.Answer.{transfer_outcome, article_answer, post_answer, transfer_answer, offer_answer, offered, command_answer}
 use Rattle.model.specs.Answer.{line_answer, served, answer, moved_answer, part_reply, awaiting}
 use Rattle.model.specs.Reads.{group_reads, selected_reads, selected_number_reads, current_reads, found_reads, id_reads, number_reads}
-use Rattle.model.specs.Reads.{absent_reads, filed_reads, since_reads, offer_reads, outcome_reads, command_reads, line_reads, served_reads, reads}
+use Rattle.model.specs.Reads.{absent_reads, filed_reads, since_reads, offer_reads, outcome_reads, command_reads, line_reads, served_reads}
+use Rattle.model.specs.Reads.{reads}
 use Rattle.model.specs.declared.command.Command.{Command}
 use Rattle.model.specs.declared.command.Command.TheVariants as command
 use Rattle.model.specs.declared.command.Parsed.{Parsed}
@@ -46,7 +48,8 @@ module _ (S R : Spool) (h : NewsArticle → NewsArticle) (alike : AreAlike S R h
   selected_alike x None f = refl
   selected_alike x (Some g) f = ap (f g) (contents_alike S R h alike kept g)
 
-  if_here_alike : (x : Session) (g : Octets) (f : Contents → Answer) → if_here x (contents_if_here R g) f ≡ if_here x (contents_if_here S g) f
+  if_here_alike : (x : Session) (g : Octets) (f : Contents → Answer)
+      → if_here x (contents_if_here R g) f ≡ if_here x (contents_if_here S g) f
   unfolding contents_if_here
   if_here_alike x g f =
       ap (λ (o : Option NewsGroup). if_here x (option_map (λ group. contents R g) o) f) (group_here_alike S R h alike g)
@@ -147,7 +150,8 @@ module _ (S R : Spool) (h : NewsArticle → NewsArticle) (alike : AreAlike S R h
       rw (same_id_alike text, groups_here_alike text) (by_tests (is_some (cause Carried text)) (has_other_id id text)) where
         by_tests : (b d : Bool) → cond b not_an_article
             (cond d not_an_article (spool_outcome (groups_of text) (option_map h (same_id S text)) (groups_here S text) None))
-            ≡ mapped (cond b not_an_article (cond d not_an_article (spool_outcome (groups_of text) (same_id S text) (groups_here S text) None)))
+            ≡ mapped
+            (cond b not_an_article (cond d not_an_article (spool_outcome (groups_of text) (same_id S text) (groups_here S text) None)))
         by_tests true d = refl
         by_tests false true = refl
         by_tests false false = spool_mapped (groups_of text) (same_id S text) (groups_here S text) None

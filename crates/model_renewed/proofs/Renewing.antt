@@ -13,7 +13,8 @@ use Rattle.model.specs.Stream.{Octets}
 use Rattle.model.specs.Names.{is_group_name, is_message_id, is_of_host}
 use Rattle.model.specs.Article.{Carried, are_distinct, cause, field_count, groups_of, id, made_id, needed_fields}
 use Rattle.model.specs.Spool.{filing_of}
-use Rattle.model.specs.Spool.{Spool, SpoolEntry, NewsArticle, entries, entries_from, group_made, article_filed, amendment_made, amendments, removal_of}
+use Rattle.model.specs.Spool.{Spool, SpoolEntry, NewsArticle, entries, entries_from, group_made, article_filed, amendment_made, amendments}
+use Rattle.model.specs.Spool.{removal_of}
 use Rattle.model.specs.Spool.{NewsGroup, removes, shown_in}
 use Rattle.model.specs.Spool.{groups, articles, is_gone, is_in, news_article, news_group, names_one, last_naming_one}
 use Rattle.model.specs.Spool.{has_id, by_id, is_here, low, high}
@@ -27,7 +28,8 @@ use Rattle.model.specs.declared.change.Change.{Change}
 use Rattle.model.specs.declared.change.Change.TheVariants.{Group, Article, Expire, Remove, Amend}
 use Rattle.model.specs.declared.change.Envelope.{Envelope}
 use Rattle.model.specs.declared.change.Filing.{Filing}
-use Rattle.model_renewed.proofs.Alike.{AreAlike, gone_alike, here_alike, group_alike, in_alike, low_alike, high_alike, on, serial_alike, shown_mapped}
+use Rattle.model_renewed.proofs.Alike.{AreAlike, gone_alike, here_alike, group_alike, in_alike, low_alike, high_alike, on, serial_alike}
+use Rattle.model_renewed.proofs.Alike.{shown_mapped}
 use Rattle.model_renewed.proofs.AlikeAnswers.{answers_alike, reads_alike}
 use Rattle.model.proofs.Removed.{still_here}
 use Rattle.model.proofs.Fronts.{passing, greatest_serial}

@@ -2,7 +2,8 @@
 //! as the whole one. `specs/Renewed.antt` has the definitions, `specs/Laws.antt` the laws. The function does nothing.
 #![tactic(auto)]
 
-ghost use Rattle.model_renewed.specs.Laws.{RenewedAt, RenewedFollows, RenewedIsAnsweredAlike, RenewedIsAsLong, RenewedIsLawful, RenewedIsSmall};
+ghost use Rattle.model_renewed.specs.Laws.{RenewedAt, RenewedFollows, RenewedIsAnsweredAlike, RenewedIsAsLong, RenewedIsLawful};
+ghost use Rattle.model_renewed.specs.Laws.{RenewedIsSmall};
 ghost use Rattle.model_renewed.specs.Laws.{RenewedForgets, RenewedOnce, RenewedReadsAlike};
 
 /// A renewed spool is answered as the old one, now and after any further changes, and each answer reads the same. It is as

@@ -55,8 +55,8 @@ RemovedFirst =
 abbrev pub CurrentIsRemoved : Type 0
 CurrentIsRemoved =
     told three (new_seat ∷ [])
-    (says 0 (codes "GROUP x.a") ∷ says 0 (codes "STAT 2") ∷ made removal ∷ says 0 (codes "STAT") ∷ says 0 (codes "NEXT") ∷ says 0 (codes "OVER")
-    ∷ says 0 (codes "POST") ∷ sends 0 (article (codes "<4@a.example>") (codes "x.a")) ∷ says 0 (codes "GROUP x.a") ∷ [])
+    (says 0 (codes "GROUP x.a") ∷ says 0 (codes "STAT 2") ∷ made removal ∷ says 0 (codes "STAT") ∷ says 0 (codes "NEXT")
+    ∷ says 0 (codes "OVER") ∷ says 0 (codes "POST") ∷ sends 0 (article (codes "<4@a.example>") (codes "x.a")) ∷ says 0 (codes "GROUP x.a") ∷ [])
     ≡ is_told (codes "211 3 1 3 x.a") 4 ∷ is_told (codes "223 2 <2@a.example>") 4 ∷ is_told (codes "420 No current article") 5
     ∷ is_told (codes "420 No current article") 5 ∷ is_told (codes "420 No current article") 5 ∷ is_told (codes "340 Send article") 5
     ∷ is_told (codes "240 Article received") 6 ∷ is_told (codes "211 3 1 4 x.a") 6 ∷ []
