@@ -2,24 +2,25 @@
 use Rattle.std.proofs.Common.{◌≡◌, ℕ, ◌+◌, ◌-◌, ◌<◌, ◌≤◌, List, [], ◌∷◌, ◌++◌, map, refl, ◌∙◌, ap, subst, arith, inl, inr, Bool, true}
 use Rattle.std.proofs.Common.{false, cond, ◌&&◌, ◌||◌, not, take}
 use Rattle.std.proofs.Common.{append-nil, append_assoc}
-use Rattle.std.specs.Prelude.{length, filter, codes, decimal, nat_le, ◌==◌, Option, Some, None, ℤ}
+use Rattle.std.specs.Prelude.{length, filter, find, reverse, codes, decimal, is_some, nat_le, nat_lt, ◌==◌, Option, Some, None, ℤ}
 use Rattle.std.specs.List.{list_all, list_any}
 use Rattle.std.specs.Char.{is_ascii_alphanumeric}
 use Rattle.std.specs.Int.{is_in_range as is_between}
-use Rattle.std.proofs.lemmas.Bool.{or_cases, or_from, or_right, eq-eqb, eqb-true, ne_eqb, not_from_false, and_parts, and_from, leb-true}
+use Rattle.std.proofs.lemmas.Bool.{false≢true, or_cases, or_from, or_right, eq-eqb, eqb-true, ne_eqb, not_from_false, and_parts, and_from}
+use Rattle.std.proofs.lemmas.Bool.{leb-true}
 use Rattle.std.proofs.lemmas.List.{length-append, take_at}
 use Rattle.std.proofs.lemmas.List.Folds.{list_all-append}
 use Rattle.model.specs.Stream.{Octets, line, stuffed}
 use Rattle.model.specs.Names.{is_host_octet, is_of_host, is_in_range, wildmat_matches}
 use Rattle.model.specs.Article.{body, header, overview_line}
-use Rattle.model.specs.Spool.{Spool, NewsArticle, Contents, Listed, article_at, articles_now, contents, count, here_by_id, high, is_here}
-use Rattle.model.specs.Spool.{listed, low, numbered_articles, status_octet}
+use Rattle.model.specs.Spool.{Spool, NewsArticle, Contents, Listed, article_at, articles_now, by_number as article_under, contents, count}
+use Rattle.model.specs.Spool.{group_named, here_by_id, high, is_here, is_retired, listed, low, shown_in, status_octet}
 use Rattle.model.specs.Lawful.{is_description_octet}
 use Rattle.model.specs.Commands.{listing_text}
 use Rattle.model.specs.Answer.{active_line, counts, fetch_answer, fetch_current, fetch_id, fetch_number, group_answer}
 use Rattle.model.specs.Answer.{id_of, is_listed, is_since, last_answer, listgroup_answer, listing_answer, newgroups_answer, newnews_answer}
 use Rattle.model.specs.Answer.{newsgroups_line, next_answer, numbers_answer, numbers_in, offer_answer, offered, over_answer, over_current}
-use Rattle.model.specs.Answer.{over_range, overview_format, overview_or_none, part_reply, says, spaced, times_line}
+use Rattle.model.specs.Answer.{over_range, overview_format, moved_answer, overview_or_none, part_reply, says, spaced, times_line}
 use Rattle.model.specs.Replies.{articles_follow, block, greeting, groups_follow, information_follows, no_current_article, no_next_article}
 use Rattle.model.specs.Replies.{no_previous_article, no_such_article, no_such_number, not_wanted, overview_follows, send_transferred}
 use Rattle.model.specs.declared.command.Listing.{Listing}
@@ -34,11 +35,13 @@ use Rattle.model.specs.declared.command.Wanted.TheVariants as wanted
 use Rattle.model.specs.declared.session.Awaits.TheVariants as awaits
 use Rattle.model.specs.declared.session.Session.{Session}
 use Rattle.model.specs.declared.values.Status.{Status}
-use Rattle.model.specs.declared.values.Status.TheVariants.{Open, Closed}
+use Rattle.model.specs.declared.values.Status.TheVariants.{Open, Closed, Retired}
+use Rattle.model.proofs.Growing.{here_made}
 use Rattle.model.proofs.Ids.{host_pass}
+use Rattle.model.proofs.Shown.{Numbered, next_is, numbers_rise, previous_is}
 use Rattle.model_rfc.specs.Grammar.{are, are_digits, greatest_number, is_line_octet, is_message_id, is_newsgroup_name, is_number, is_status}
 use Rattle.model_rfc.specs.Grammar.{is_token}
-use Rattle.model_rfc.specs.Commands.{Asked, row_of}
+use Rattle.model_rfc.specs.Commands.{Asked, is_multi_line, is_one_of, row_of}
 use Rattle.model_rfc.specs.Contents.{is_active, is_creation, is_description, is_overview, listing_content, size_before}
 use Rattle.model_rfc.specs.Responses.{IsInitialLine, IsResponse}
 use Rattle.model_rfc.specs.States.{IsReader, IsSpool}
@@ -47,7 +50,7 @@ use Rattle.model_rfc.proofs.Words.{digits_high, digits_of, high_clean, high_othe
 use Rattle.model_rfc.proofs.Words.{name_short}
 use Rattle.model_rfc.proofs.Words.{number_high, number_of, words_clean, words_pass}
 use Rattle.model_rfc.proofs.Groups.{at_within, count_within, high_within, low_within}
-use Rattle.model_rfc.proofs.Articles.{IsCarried, IsNumbered, IsShown, all_numbered, all_shown, at_carried, here_carried, here_named, id_is}
+use Rattle.model_rfc.proofs.Articles.{IsCarried, IsNumbered, IsShown, all_numbered, all_shown, at_carried, here_carried, id_is, made_named}
 use Rattle.model_rfc.proofs.Articles.{now_carried}
 use Rattle.model_rfc.proofs.Texts.{text_is}
 use Rattle.model_rfc.proofs.Overviews.{overview_is}
@@ -113,22 +116,25 @@ active_high : (l : Listed) → IsShown l → list_all (list_all is_high) (l.grou
 active_high l shown =
     and_from (list_all is_high l.group.name) _ (name_high l.group.name (name_of l.group.name shown.0.0))
     (and_from (list_all is_high (decimal l.high)) _ (number_high (decimal l.high) (number_of l.high shown.2))
-    (and_from (list_all is_high (decimal l.low)) _ (number_high (decimal l.low) (number_of l.low shown.1)) (by_status l.group.status)))
+    (and_from (list_all is_high (decimal l.low)) _ (number_high (decimal l.low) (number_of l.low shown.1))
+    (by_status l.group.status)))
   where
     by_status : (s : Status) → list_all (list_all is_high) ((status_octet s ∷ []) ∷ []) ≡ true
     by_status Open = refl
     by_status Closed = refl
+    by_status Retired = refl
 
 active_pass : (l : Listed) → IsShown l → is_active (active_line l) ≡ true
 active_pass l shown = words_pass (is_newsgroup_name ∷ is_number ∷ is_number ∷ is_status ∷ []) l.group.name (active_list l)
     (active_high l shown)
     (and_from (is_newsgroup_name l.group.name) _ (name_of l.group.name shown.0.0)
     (and_from (is_number (decimal l.high)) _ (number_of l.high shown.2)
-    (and_from (is_number (decimal l.low)) _ (number_of l.low shown.1) (by_status l.group.status))))
+    (and_from (is_number (decimal l.low)) _ (number_of l.low shown.1) (by_status l.group.status shown.3))))
   where
-    by_status : (s : Status) → are (is_status ∷ []) ((status_octet s ∷ []) ∷ []) ≡ true
-    by_status Open = refl
-    by_status Closed = refl
+    by_status : (s : Status) → not (is_retired s) ≡ true → are (is_status ∷ []) ((status_octet s ∷ []) ∷ []) ≡ true
+    by_status Open here = refl
+    by_status Closed here = refl
+    by_status Retired gone = absurd (false≢true gone)
 
 active_clean : (l : Listed) → IsShown l → list_all is_line_octet (active_line l) ≡ true
 active_clean l shown = words_clean (l.group.name ∷ active_list l) (active_high l shown)
@@ -213,20 +219,14 @@ module _ (host : Octets) (S : Spool) (is : IsSpool host S) (x : Session) (reader
       found S x reader (asking (part_word p) l) no_such_number (article_at (contents S g) n) _
       (refused S x reader _ 423 (codes " No such article number") refl may.2)
       (λ a at. moves S x reader (asking (part_word p) l) g (part_reply p n a) n a same at (part_fine p n a)
-      (part_response p l n a (omega (arith, (at_within (contents S g) n a at).1, high_within host S g is))
+      (part_response p l n a (omega (arith, (at_within S g n a at).1, high_within host S g is))
       (at_carried host S g n a is.lawful at)))
 
   pub by_current : (p : Part) (l : Octets) (g : Octets) → x.group ≡ Some g
       → IsGood S x (asking (part_word p) l) (fetch_current x p (contents S g))
-  unfolding no_current_article
-  by_current p l g same =
-      let may = is_fetch p l in
-      at_now S x reader (asking (part_word p) l) may.1 (contents S g) x.current _ (λ n now.
-      found S x reader (asking (part_word p) l) no_current_article (article_at (contents S g) n) _
-      (refused S x reader _ 420 (codes " No current article") refl may.1)
-      (λ a at. keeps S x (asking (part_word p) l) (part_reply p n a) reader
-      (part_response p l n a (omega (arith, (at_within (contents S g) n a at).1, high_within host S g is))
-      (at_carried host S g n a is.lawful at))))
+  by_current p l g same = at_now S x reader (asking (part_word p) l) (is_fetch p l).1 (contents S g) x.current _
+      (λ n a at. keeps S x (asking (part_word p) l) (part_reply p n a) reader
+      (part_response p l n a (omega (arith, (at_within S g n a at).1, high_within host S g is)) (at_carried host S g n a is.lawful at)))
 
   pub by_id : (p : Part) (l wanted : Octets) → IsGood S x (asking (part_word p) l) (fetch_id x p (here_by_id S wanted))
   unfolding no_such_article
@@ -246,8 +246,9 @@ module _ (host : Octets) (S : Spool) (is : IsSpool host S) (x : Session) (reader
 
   pub grouped : (l g : Octets) → is_here S g ≡ true → IsGood S x (asking (codes "GROUP") l) (group_answer x g (contents S g))
   grouped l g there =
-      let named = here_named host S g is.lawful there in
-      selects S x reader (asking (codes "GROUP") l) g (line (spaced (codes "211" ∷ counts g (contents S g)))) there refl
+      let made = here_made S g there in
+      let named = made_named host S g is.lawful made in
+      selects S x reader (asking (codes "GROUP") l) g (line (spaced (codes "211" ∷ counts g (contents S g)))) made refl
       (plain (asking (codes "GROUP") l) 211 (spaced (codes "211" ∷ counts g (contents S g)))
       (subst (IsInitialLine 211) (append-nil (spaced (codes "211" ∷ counts g (contents S g))))
       (counted (count (contents S g)) (low S g) (high S g) g [] (number_of _ (count_within host S g is))
@@ -255,22 +256,22 @@ module _ (host : Octets) (S : Spool) (is : IsSpool host S) (x : Session) (reader
       (number_of _ (small _ (high_within host S g is))) (name_of g named) (name_short g named) refl refl (omega arith))) refl refl)
 
   -- LISTGROUP
-  numbers_each : (c : Contents) (r : Range) → length c.filed < greatest_number → Every (IsNumbered c) (numbered_articles c)
+  numbers_each : (c : Contents) (r : Range) → c.high < greatest_number → Every (IsNumbered c) c.shown
       → (list_all is_number (numbers_in r c) ≡ true) × (list_all (list_all is_line_octet) (numbers_in r c) ≡ true)
   numbers_each c r few all =
-      let some = every_filter (IsNumbered c) (λ p. is_in_range r p.0) (numbered_articles c) all in
+      let some = every_filter (IsNumbered c) (λ p. is_in_range r p.0) c.shown all in
       let one : (p : ℕ × NewsArticle) → IsNumbered c p → is_number (decimal p.0) ≡ true = λ p one. number_of p.0 (omega (arith, one.1)) in (
         all_map (IsNumbered c) is_number (λ p. decimal p.0) _ one some,
         all_map (IsNumbered c) (list_all is_line_octet) (λ p. decimal p.0) _
             (λ p is. all_more is_high is_line_octet high_clean (decimal p.0) (number_high (decimal p.0) (one p is))) some,
       )
 
-  pub list_grouped : (l g : Octets) (r : Range) → is_here S g ≡ true
+  pub list_grouped : (l g : Octets) (r : Range) → is_some (group_named S g) ≡ true
       → IsGood S x (asking (codes "LISTGROUP") l) (listgroup_answer x r g (contents S g))
-  list_grouped l g r there =
-      let named = here_named host S g is.lawful there in
+  list_grouped l g r made =
+      let named = made_named host S g is.lawful made in
       let each = numbers_each (contents S g) r (high_within host S g is) (all_numbered host S g is.lawful) in
-      selects S x reader (asking (codes "LISTGROUP") l) g _ there refl
+      selects S x reader (asking (codes "LISTGROUP") l) g _ made refl
       (listed_block (asking (codes "LISTGROUP") l) 211 (spaced (codes "211" ∷ counts g (contents S g)) ++ codes " list follows")
       (numbers_in r (contents S g))
       (counted (count (contents S g)) (low S g) (high S g) g (codes " list follows") (number_of _ (count_within host S g is))
@@ -280,35 +281,39 @@ module _ (host : Octets) (S : Spool) (is : IsSpool host S) (x : Session) (reader
 
   pub numbers : (l : Octets) (o : Option Octets) (r : Range) → IsGood S x (asking (codes "LISTGROUP") l) (numbers_answer S x r o)
   numbers l None r = selected S x reader (asking (codes "LISTGROUP") l) refl (listgroup_answer x r)
-      (λ g same. list_grouped l g r (reader.group_here g same))
-  numbers l (Some g) r = here S x reader (asking (codes "LISTGROUP") l) refl g (listgroup_answer x r g) (λ there. list_grouped l g r there)
+      (λ g same. list_grouped l g r (reader.group_made g same))
+  numbers l (Some g) r = here S x reader (asking (codes "LISTGROUP") l) refl g (listgroup_answer x r g)
+      (λ there. list_grouped l g r (here_made S g there))
 
   -- NEXT and LAST
   moved_line : (n : ℕ) (a : NewsArticle) → n ≤ greatest_number → IsCarried a
       → IsInitialLine 223 (spaced (codes "223" ∷ decimal n ∷ id_of a ∷ []))
   moved_line n a within carried = numbered 223 n (id_of a) (omega arith) (omega arith) refl (number_of n within) (id_is a.text carried)
 
+  -- to an article that was found, or refused
+  moved : (word l g none : Octets) (o : Option Numbered) → is_one_of 223 ((row_of word).single ++ (row_of word).multi) ≡ true
+      → is_multi_line (row_of word) 223 ≡ false → x.group ≡ Some g → ((p : Numbered) → o ≡ Some p → article_under S g p.0 ≡ Some p.1)
+      → IsGood S x (asking word l) (says x none) → IsGood S x (asking word l) (moved_answer x none o)
+  moved word l g none None may alone same there refused_so = refused_so
+  moved word l g none (Some p) may alone same there refused_so =
+      let at = there p refl in
+      moves S x reader (asking word l) g (line (spaced (codes "223" ∷ decimal p.0 ∷ id_of p.1 ∷ []))) p.0 p.1 same at refl
+      (plain (asking word l) 223 _ (moved_line p.0 p.1 (omega (arith, (at_within S g p.0 p.1 at).1, high_within host S g is))
+      (at_carried host S g p.0 p.1 is.lawful at)) may alone)
+
   pub nexted : (l g : Octets) → x.group ≡ Some g → IsGood S x (asking (codes "NEXT") l) (next_answer x (contents S g))
   unfolding no_next_article
-  nexted l g same = at_now S x reader (asking (codes "NEXT") l) refl (contents S g) x.current _ (λ n now.
-      found S x reader (asking (codes "NEXT") l) no_next_article (article_at (contents S g) (n + 1)) _
-      (refused S x reader _ 421 (codes " No next article") refl refl)
-      (λ a at. moves S x reader (asking (codes "NEXT") l) g (line (spaced (codes "223" ∷ decimal (n + 1) ∷ id_of a ∷ []))) (n + 1) a same at
-      refl
-      (plain (asking (codes "NEXT") l) 223 _ (moved_line (n + 1) a
-      (omega (arith, (at_within (contents S g) (n + 1) a at).1, high_within host S g is))
-      (at_carried host S g (n + 1) a is.lawful at)) refl refl)))
+  nexted l g same = at_now S x reader (asking (codes "NEXT") l) refl (contents S g) x.current _ (λ n a at.
+      moved (codes "NEXT") l g no_next_article (find (λ (p : Numbered). nat_lt n p.0) (shown_in S g)) refl refl same
+      (λ p found_so. (next_is n 1 (shown_in S g) p (numbers_rise S g) found_so).there)
+      (refused S x reader _ 421 (codes " No next article") refl refl))
 
   pub lasted : (l g : Octets) → x.group ≡ Some g → IsGood S x (asking (codes "LAST") l) (last_answer x (contents S g))
   unfolding no_previous_article
-  lasted l g same = at_now S x reader (asking (codes "LAST") l) refl (contents S g) x.current _ (λ n now.
-      found S x reader (asking (codes "LAST") l) no_previous_article (article_at (contents S g) (n - 1)) _
-      (refused S x reader _ 422 (codes " No previous article") refl refl)
-      (λ a at. moves S x reader (asking (codes "LAST") l) g (line (spaced (codes "223" ∷ decimal (n - 1) ∷ id_of a ∷ []))) (n - 1) a same at
-      refl
-      (plain (asking (codes "LAST") l) 223 _ (moved_line (n - 1) a
-      (omega (arith, (at_within (contents S g) (n - 1) a at).1, high_within host S g is))
-      (at_carried host S g (n - 1) a is.lawful at)) refl refl)))
+  lasted l g same = at_now S x reader (asking (codes "LAST") l) refl (contents S g) x.current _ (λ n a at.
+      moved (codes "LAST") l g no_previous_article (find (λ (p : Numbered). nat_lt p.0 n) (reverse (shown_in S g))) refl refl same
+      (λ p found_so. (previous_is n 1 (shown_in S g) p (numbers_rise S g) found_so).there)
+      (refused S x reader _ 422 (codes " No previous article") refl refl))
 
   -- OVER
   one_line : (l : Octets) (n : ℕ) (a : NewsArticle) → n ≤ greatest_number → IsCarried a
@@ -321,13 +326,9 @@ module _ (host : Octets) (S : Spool) (is : IsSpool host S) (x : Session) (reader
       (and_from (is_overview (overview_line n a.text)) true line_is.0 refl)
 
   pub over_one : (l g : Octets) → x.group ≡ Some g → IsGood S x (asking (codes "OVER") l) (over_current x (contents S g))
-  unfolding no_current_article
-  over_one l g same = at_now S x reader (asking (codes "OVER") l) refl (contents S g) x.current _ (λ n now.
-      found S x reader (asking (codes "OVER") l) no_current_article (article_at (contents S g) n) _
-      (refused S x reader _ 420 (codes " No current article") refl refl)
-      (λ a at. keeps S x (asking (codes "OVER") l) _ reader (one_line l n a
-      (omega (arith, (at_within (contents S g) n a at).1, high_within host S g is))
-      (at_carried host S g n a is.lawful at))))
+  over_one l g same = at_now S x reader (asking (codes "OVER") l) refl (contents S g) x.current _
+      (λ n a at. keeps S x (asking (codes "OVER") l) _ reader (one_line l n a
+      (omega (arith, (at_within S g n a at).1, high_within host S g is)) (at_carried host S g n a is.lawful at)))
 
   some_lines : (l : Octets) (lines : List Octets) → list_all is_overview lines ≡ true → list_all (list_all is_line_octet) lines ≡ true
       → IsGood S x (asking (codes "OVER") l) (overview_or_none x lines)
@@ -339,10 +340,10 @@ module _ (host : Octets) (S : Spool) (is : IsSpool host S) (x : Session) (reader
 
   pub over_some : (l g : Octets) (r : Range) → IsGood S x (asking (codes "OVER") l) (over_range x r (contents S g))
   over_some l g r =
-      let all = every_filter (IsNumbered (contents S g)) (λ p. is_in_range r p.0) (numbered_articles (contents S g))
+      let all = every_filter (IsNumbered (contents S g)) (λ p. is_in_range r p.0) (shown_in S g)
       (all_numbered host S g is.lawful) in
       let within : (n : ℕ) → n ≤ high S g → n ≤ greatest_number = λ n below. omega (arith, high_within host S g is) in
-      some_lines l (map (λ p. overview_line p.0 p.1.text) (filter (λ p. is_in_range r p.0) (numbered_articles (contents S g))))
+      some_lines l (map (λ p. overview_line p.0 p.1.text) (filter (λ p. is_in_range r p.0) (shown_in S g)))
       (all_map (IsNumbered (contents S g)) is_overview _ _ (λ p one. (overview_is p.0 p.1.text (within p.0 one.1) one.2).0) all)
       (all_map (IsNumbered (contents S g)) (list_all is_line_octet) _ _ (λ p one. (overview_is p.0 p.1.text (within p.0 one.1) one.2).1)
       all)

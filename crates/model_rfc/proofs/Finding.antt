@@ -3,28 +3,29 @@ use Rattle.std.proofs.Common.{◌≡◌, ℕ, zero, suc, ◌+◌, ◌-◌, ◌�
 use Rattle.std.proofs.Common.{Bool, true, false, cond, ◌||◌, append-nil}
 use Rattle.std.specs.Prelude.{Option, Some, None, length, bytes_eq, codes, decimal, find, filter_map, slice_get, option_and_then, not}
 use Rattle.std.specs.List.{list_any, join_with_byte}
-use Rattle.std.proofs.lemmas.Bool.{false≢true, true≢false, or_cases, le-leb, le-ltb, cases_Bool}
+use Rattle.std.proofs.lemmas.Bool.{false≢true, true≢false, or_cases, cases_Bool}
 use Rattle.std.proofs.lemmas.List.{take_at, drop_at}
 use Rattle.std.proofs.lemmas.List.Elements.{filter_map-append}
 use Rattle.std.proofs.lemmas.Slice.Eq.{bytes_eq-Decides}
 use Rattle.model.specs.Article.{id}
 use Rattle.model.specs.Stream.{Octets, line}
-use Rattle.model.specs.Spool.{Spool, NewsArticle, article_at, article_filed, articles, by_id, by_number, contents, entries, entries_from, filed_in}
-use Rattle.model.specs.Spool.{has_id, here_by_id, is_gone, is_in, is_name, low, news_article, number_in, unless_gone}
-use Rattle.model.specs.Answer.{at_current, at_number, command_answer, fetch_current, fetch_id, fetch_number, if_found, in_selected, part_reply, says}
+use Rattle.model.specs.Spool.{Spool, NewsArticle, article_at, article_filed, articles, by_id, by_number, contents, entries, entries_from}
+use Rattle.model.specs.Spool.{filed_in}
+use Rattle.model.specs.Spool.{has_id, here_by_id, is_gone, is_in, is_name, news_article, unless_gone}
+use Rattle.model.specs.Answer.{at_current, at_number, command_answer, fetch_current, fetch_id, fetch_number, if_found, in_selected}
+use Rattle.model.specs.Answer.{part_reply, says}
 use Rattle.model.specs.Lawful.{IsLawful, IsLawfulAfter}
 use Rattle.model.specs.Replies.{no_current_article, no_such_number}
 use Rattle.model.specs.declared.change.Change.{Change}
-use Rattle.model.specs.declared.change.Change.TheVariants.{Group, Article, Expire}
+use Rattle.model.specs.declared.change.Change.TheVariants.{Group, Article, Expire, Remove, Amend}
 use Rattle.model.specs.declared.change.Filing.{Filing}
 use Rattle.model.specs.declared.command.Part.{Part}
 use Rattle.model.specs.declared.command.Part.TheVariants as part
 use Rattle.model.specs.declared.session.Answer.{Answer}
 use Rattle.model.specs.declared.session.Session.{Session}
-use Rattle.model.proofs.Found.{has_number}
+use Rattle.model.proofs.Found.{shown_are_numbered}
 use Rattle.model.proofs.Fronts.{entries_split}
 use Rattle.model.proofs.LookUps.{id_absent_cut}
-use Rattle.model.proofs.Numbers.{number_is_rank}
 use Rattle.model_rfc.specs.Finding.{IsOfArticle, block_for, code_for}
 use Rattle.model_rfc.specs.Laws.{CurrentIsSent, FoundById, FoundByNumber}
 use Rattle.model_rfc.specs.Overviews.{body_lines, header_lines}
@@ -86,6 +87,12 @@ first_from host before (Group created ∷ cs) n lawful j a is =
 first_from host before (Expire expiry ∷ cs) n lawful j a is =
     let rest = first_from host (before ++ Expire expiry ∷ []) cs (suc n) lawful.1 j a is in
     (rest.0, absent_before before (Expire expiry) (id a.text) rest.1)
+first_from host before (Remove removal ∷ cs) n lawful j a is =
+    let rest = first_from host (before ++ Remove removal ∷ []) cs (suc n) lawful.1 j a is in
+    (rest.0, absent_before before (Remove removal) (id a.text) rest.1)
+first_from host before (Amend amended ∷ cs) n lawful j a is =
+    let rest = first_from host (before ++ Amend amended ∷ []) cs (suc n) lawful.1 j a is in
+    (rest.0, absent_before before (Amend amended) (id a.text) rest.1)
 first_from host before (Article f ∷ cs) n lawful zero a is =
     let later : List NewsArticle = filter_map article_filed (entries_from (suc n) cs) in
     let same : news_article n f ≡ a = cc is in
@@ -118,10 +125,9 @@ here_found : (host : Octets) (S : Spool) (g : Octets) (n : ℕ) (a : NewsArticle
     → here_by_id S (id a.text) ≡ Some a
 unfolding here_by_id is_gone filed_in
 here_found host S g n a lawful is =
-    let within = at_within (contents S g) n a is in
-    let left = left_there (λ (b : NewsArticle). list_any (is_name g) b.groups) (articles S) (n - 1) a within.3 in
-    let rank = number_is_rank S g n a (has_number S g n a is) in
-    let inside : is_in S a g ≡ true = le-leb (low S g) (number_in S g a) (omega (arith, within.2, rank)) in
+    let within = at_within S g n a is in
+    let left = left_there (λ (b : NewsArticle). list_any (is_name g) b.groups) (articles S) (n - 1) a within.2 in
+    let inside : is_in S a g ≡ true = (shown_are_numbered S g n a is).1 in
     ap (option_and_then (unless_gone S)) (found_first host S left.1 a lawful left.2)
     ∙ ap (λ b. cond (not b) None (Some a)) (some_in (is_in S a) g a.groups left.0 inside)
 
@@ -172,10 +178,6 @@ pub current_is_sent : CurrentIsSent
 unfolding command_answer
 current_is_sent host S x t p g n filed is group current there =
     subst (λ (o : Option Octets). IsOfArticle x p n filed (in_selected S x o (λ k. fetch_current x p))) (sym group)
-    (subst (λ (o : Option ℕ). IsOfArticle x p n filed (at_current x (contents S g) o
-    (λ m. if_found x no_current_article (article_at (contents S g) m) (λ a. says x (part_reply p m a))))) (sym current)
-    (subst (λ (b : Bool). IsOfArticle x p n filed (cond b (says x no_current_article)
-    (if_found x no_current_article (article_at (contents S g) n) (λ a. says x (part_reply p n a)))))
-    (sym (le-ltb n (contents S g).low (at_within (contents S g) n filed there).2))
+    (subst (λ (o : Option ℕ). IsOfArticle x p n filed (at_current x (contents S g) o (λ m a. says x (part_reply p m a)))) (sym current)
     (subst (λ (o : Option NewsArticle). IsOfArticle x p n filed (if_found x no_current_article o (λ a. says x (part_reply p n a))))
-    (sym there) (is_part x p n filed (at_carried host S g n filed is.lawful there)))))
+    (sym there) (is_part x p n filed (at_carried host S g n filed is.lawful there))))

@@ -172,5 +172,5 @@ pub waits : (S : Spool) (x : Session) (asked : Asked) (reply : Octets) (what : A
 waits S x asked reply what reader response = record {
   response = response;
   failing = λ fails. record { change = refl; group = refl; current = refl };
-  reader = record { group_here = reader.group_here; number_had = reader.number_had };
+  reader = record { group_made = reader.group_made; number_had = reader.number_had };
 }

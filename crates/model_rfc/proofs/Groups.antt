@@ -1,15 +1,56 @@
 -- The numbers of groups.
-use Rattle.std.proofs.Common.{◌≡◌, ◌≢◌, ℕ, zero, suc, ◌-◌, ◌<◌, ◌≤◌, List, [], ◌∷◌, refl, sym, ◌∙◌, ap, arith, inl, inr, Bool, true, false}
-use Rattle.std.proofs.Common.{cond}
-use Rattle.std.specs.Prelude.{length, nat_lt, Some, None, slice_get, ◌==◌}
-use Rattle.std.proofs.lemmas.Bool.{cases_lt, eqb-false, le-ltb, lt-ltb, ltb-false, ne_eqb}
+use Rattle.std.proofs.Common.{◌≡◌, ◌≢◌, ℕ, zero, suc, ◌+◌, ◌-◌, ◌<◌, ◌≤◌, List, [], ◌∷◌, map, refl, sym, ◌∙◌, ap, subst, arith, Bool, true}
+use Rattle.std.proofs.Common.{false, cond, ◌&&◌}
+use Rattle.std.specs.Prelude.{filter, length, nat_le, None, Some, slice_get, ◌==◌}
+use Rattle.std.specs.List.{enumerate_from, list_all}
+use Rattle.std.proofs.lemmas.Bool.{and_from, eqb-false, le-leb}
 use Rattle.model.specs.Stream.{Octets}
-use Rattle.model.specs.Spool.{Spool, NewsArticle, Contents, article_at, contents, count, high, low, numbered, numbered_articles}
+use Rattle.model.specs.Spool.{Spool, NewsArticle, article_at, contents, count, filed_in, high, is_shown, low, lowest, numbered, shown_in}
+use Rattle.model.proofs.Found.{has_number}
 use Rattle.model.proofs.HoldsOne.{high_few}
-use Rattle.model.proofs.Numbers.{count_is}
+use Rattle.model.proofs.Shown.{Numbered, NumbersRise, counts_are_right, numbers_rise, numbers_shown}
 use Rattle.model.proofs.Within.{lows_stay_within}
 use Rattle.model_rfc.specs.Grammar.{greatest_number}
-use Rattle.model_rfc.specs.States.{IsSpool, IsReported}
+use Rattle.model_rfc.specs.States.{IsSpool, IsReported, numbers_of}
+use Rattle.model_rfc.proofs.Lists.{Every, every_filter}
+
+-- ---- how many
+
+-- the articles that pass, each with its number
+abbrev passing : (ℕ → NewsArticle → Bool) → ℕ → List NewsArticle → List Numbered
+passing q m filed = filter (λ (p : Numbered). q p.0 p.1) (enumerate_from m filed)
+
+few : (q : ℕ → NewsArticle → Bool) (m : ℕ) (filed : List NewsArticle) → length (passing q m filed) ≤ length filed
+few q m [] = omega arith
+few q m (a ∷ filed) = by_test (q m a) (few q (m + 1) filed) where
+  by_test : (b : Bool) → length (passing q (m + 1) filed) ≤ length filed
+      → length (cond b ((m, a) ∷ passing q (m + 1) filed) (passing q (m + 1) filed)) ≤ suc (length filed)
+  by_test true rest = omega arith
+  by_test false rest = omega arith
+
+fit : (q : ℕ → NewsArticle → Bool) (top m : ℕ) (filed : List NewsArticle) → top + 1 ≡ m + length filed
+    → length (passing q m filed) + lowest top (passing q m filed) ≤ top + 1
+fit q top m [] size = omega arith
+fit q top m (a ∷ filed) size = by_test (q m a) (few q (m + 1) filed) (fit q top (m + 1) filed (omega (arith, size))) where
+  rest : List Numbered
+  rest = passing q (m + 1) filed
+
+  by_test : (b : Bool) → length rest ≤ length filed → length rest + lowest top rest ≤ top + 1
+      → length (cond b ((m, a) ∷ rest) rest) + lowest top (cond b ((m, a) ∷ rest) rest) ≤ top + 1
+  by_test true all later = omega (arith, size)
+  by_test false all later = later
+
+-- a group's count reaches from its low to its high at most
+pub count_fits : (S : Spool) (g : Octets) → count (contents S g) + low S g ≤ high S g + 1
+unfolding shown_in
+count_fits S g = fit (is_shown S g) (high S g) 1 (filed_in S g) (omega arith)
+
+first_from : (top m : ℕ) (ps : List Numbered) → m ≤ top + 1 → NumbersRise m ps → m ≤ lowest top ps
+first_from top m [] order rise = order
+first_from top m (p ∷ ps) order rise = rise.0
+
+pub low_from_one : (S : Spool) (g : Octets) → 1 ≤ low S g
+low_from_one S g = first_from (high S g) 1 (shown_in S g) (omega arith) (numbers_rise S g)
 
 pub high_within : (host : Octets) (S : Spool) (g : Octets) → IsSpool host S → high S g < greatest_number
 high_within host S g is = omega (arith, high_few S g, is.few)
@@ -18,18 +59,53 @@ pub low_within : (host : Octets) (S : Spool) (g : Octets) → IsSpool host S →
 low_within host S g is = omega (arith, high_few S g, is.few, lows_stay_within host S g is.lawful)
 
 pub count_within : (host : Octets) (S : Spool) (g : Octets) → IsSpool host S → count (contents S g) ≤ greatest_number
-count_within host S g is = omega (arith, high_few S g, is.few)
+count_within host S g is = omega (arith, high_few S g, is.few, count_fits S g, low_from_one S g)
+
+-- ---- what GROUP reports
+
+abbrev between : ℕ → ℕ → ℕ → Bool
+between low high n = nat_le low n && nat_le n high
+
+bounded : (top n : ℕ) (all : List NewsArticle) → n + length all ≡ 1 + top → Every (λ (p : Numbered). p.0 ≤ top) (enumerate_from n all)
+bounded top n [] size = tt
+bounded top n (a ∷ all) size = (omega (arith, size), bounded top (n + 1) all (omega (arith, size)))
+
+all_between : (low top m : ℕ) (ps : List Numbered) → low ≤ m → NumbersRise m ps → Every (λ (p : Numbered). p.0 ≤ top) ps
+    → list_all (between low top) (map (λ (p : Numbered). p.0) ps) ≡ true
+all_between low top m [] order rise all = refl
+all_between low top m (p ∷ ps) order rise all =
+    and_from (between low top p.0) _
+    (and_from (nat_le low p.0) (nat_le p.0 top) (le-leb low p.0 (omega (arith, rise.0))) (le-leb p.0 top all.0))
+    (all_between low top (p.0 + 1) ps (omega (arith, rise.0)) rise.1 all.1)
+
+from_lowest : (top m : ℕ) (ps : List Numbered) → NumbersRise m ps → Every (λ (p : Numbered). p.0 ≤ top) ps
+    → list_all (between (lowest top ps) top) (map (λ (p : Numbered). p.0) ps) ≡ true
+from_lowest top m [] rise all = refl
+from_lowest top m (p ∷ ps) rise all = all_between p.0 top p.0 (p ∷ ps) (omega arith) (omega arith, rise.1) all
+
+shown_bounded : (S : Spool) (g : Octets) → Every (λ (p : Numbered). p.0 ≤ high S g) (shown_in S g)
+unfolding shown_in
+shown_bounded S g = every_filter (λ (p : Numbered). p.0 ≤ high S g) (λ (p : Numbered). is_shown S g p.0 p.1)
+    (enumerate_from 1 (filed_in S g)) (bounded (high S g) 1 (filed_in S g) (omega arith))
+
+none_shown : (top : ℕ) (ps : List Numbered) → length ps ≡ 0 → top + 1 ≡ lowest top ps
+none_shown top [] none = refl
+none_shown top (p ∷ ps) none = absurd (omega (arith, none))
 
 pub reported : (host : Octets) (S : Spool) (g : Octets) → IsSpool host S
-    → IsReported (length (numbered_articles (contents S g))) (low S g) (high S g) (count (contents S g))
+    → IsReported (numbers_of S g) (low S g) (high S g) (count (contents S g))
 reported host S g is =
-    let within = lows_stay_within host S g is.lawful in
-    let same = count_is S g in
+    let same = counts_are_right S g in
     record {
+      within = subst (λ (ns : List ℕ). list_all (between (low S g) (high S g)) ns ≡ true) (numbers_shown S g)
+          (from_lowest (high S g) 1 (shown_in S g) (numbers_rise S g) (shown_bounded S g));
       no_fewer = omega arith;
-      no_more = omega arith;
-      empty = λ none. (omega arith, omega arith);
+      no_more = count_fits S g;
+      empty = λ none. let empty : count (contents S g) ≡ 0 = omega (arith, same, none) in
+          (empty, none_shown (high S g) (shown_in S g) empty);
     }
+
+-- ---- where an article stands
 
 slice_within : {A : Type 0} (xs : List A) (i : ℕ) (a : A) → slice_get xs i ≡ Some a → i < length xs
 slice_within [] i a is = absurd (cc)
@@ -43,50 +119,9 @@ numbered_within filed n a is = by_zero (n == 0) refl is where
       → (1 ≤ n) × (n ≤ length filed) × (slice_get filed (n - 1) ≡ Some a)
   by_zero true none same = absurd (cc)
   by_zero false some same = let other : n ≢ 0 = eqb-false n 0 some in
-      (omega arith, omega (arith, slice_within filed (n - 1) a same), same)
+      (omega (arith, other), omega (arith, other, slice_within filed (n - 1) a same), same)
 
--- an article in a group has a number from its low to its high
-pub at_within : (c : Contents) (n : ℕ) (a : NewsArticle) → article_at c n ≡ Some a
-    → (1 ≤ n) × (n ≤ length c.filed) × (c.low ≤ n) × (slice_get c.filed (n - 1) ≡ Some a)
-at_within c n a is = by_low (nat_lt n c.low) refl is where
-  by_low : (b : Bool) → nat_lt n c.low ≡ b → cond b None (numbered c.filed n) ≡ Some a
-      → (1 ≤ n) × (n ≤ length c.filed) × (c.low ≤ n) × (slice_get c.filed (n - 1) ≡ Some a)
-  by_low true below same = absurd (cc)
-  by_low false above same = let at = numbered_within c.filed n a same in (at.0, at.1, ltb-false n c.low above, at.2)
-
--- ---- which numbers have an article
-
-slice_there : {A : Type 0} (xs : List A) (i : ℕ) → i < length xs → (a : A) × (slice_get xs i ≡ Some a)
-slice_there [] i within = absurd (omega arith)
-slice_there (x ∷ xs) zero within = (x, refl)
-slice_there (x ∷ xs) (suc i) within = slice_there xs i (omega arith)
-
-slice_out : {A : Type 0} (xs : List A) (i : ℕ) → length xs ≤ i → slice_get xs i ≡ None
-slice_out [] i out = refl
-slice_out (x ∷ xs) zero out = absurd (omega arith)
-slice_out (x ∷ xs) (suc i) out = slice_out xs i (omega arith)
-
-pub at_there : (c : Contents) (n : ℕ) → 1 ≤ n → c.low ≤ n → n ≤ length c.filed → (a : NewsArticle) × (article_at c n ≡ Some a)
-at_there c n some from to =
-    let found = slice_there c.filed (n - 1) (omega arith) in (
-      found.0,
-      ap (λ b. cond b None (numbered c.filed n)) (le-ltb n c.low from)
-          ∙ ap (λ b. cond b None (slice_get c.filed (n - 1))) (ne_eqb n 0 (λ none. omega arith)) ∙ found.1,
-    )
-
-pub at_below : (c : Contents) (n : ℕ) → n < c.low → article_at c n ≡ None
-at_below c n below = ap (λ b. cond b None (numbered c.filed n)) (lt-ltb n c.low below)
-
-pub at_above : (c : Contents) (n : ℕ) → length c.filed < n → article_at c n ≡ None
-at_above c n above = by_low (nat_lt n c.low) where
-  by_low : (b : Bool) → cond b None (numbered c.filed n) ≡ None
-  by_low true = refl
-  by_low false = ap (λ b. cond b None (slice_get c.filed (n - 1))) (ne_eqb n 0 (λ none. omega arith))
-      ∙ slice_out c.filed (n - 1) (omega arith)
-
--- a number from the low on without an article is above the high
-pub none_up : (c : Contents) (n : ℕ) → 1 ≤ n → c.low ≤ n → article_at c n ≡ None → length c.filed < n
-none_up c n some from none = elim (cases_lt (length c.filed) n) [
-  | inl out ↦ out
-  | inr within ↦ let found = at_there c n some from within in let e : Some found.0 ≡ None = sym found.1 ∙ none in absurd (cc)
-]
+-- an article in a group has a number up to its high, and was filed there
+pub at_within : (S : Spool) (g : Octets) (n : ℕ) (a : NewsArticle) → article_at (contents S g) n ≡ Some a
+    → (1 ≤ n) × (n ≤ high S g) × (slice_get (filed_in S g) (n - 1) ≡ Some a)
+at_within S g n a is = numbered_within (filed_in S g) n a (has_number S g n a is).0

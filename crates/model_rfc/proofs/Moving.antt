@@ -1,19 +1,21 @@
 -- Where GROUP, NEXT and LAST lead.
-use Rattle.std.proofs.Common.{◌≡◌, ◌⊎◌, ℕ, ◌+◌, ◌-◌, ◌<◌, ◌≤◌, refl, sym, ◌∙◌, ap, subst, arith, inl, inr, Bool, true, false, cond}
-use Rattle.std.specs.Prelude.{codes, decimal, ◌==◌, Option, Some, None, is_some, option_map}
+use Rattle.std.proofs.Common.{◌≡◌, ◌⊎◌, ℕ, ◌+◌, ◌<◌, ◌≤◌, refl, sym, ◌∙◌, ap, subst, arith, inl, inr, Bool, true, false, cond, List}
+use Rattle.std.specs.Prelude.{codes, decimal, find, length, nat_lt, reverse, ◌==◌, Option, Some, None, is_some, option_map}
 use Rattle.std.proofs.Common.{append-nil, [], ◌∷◌, ◌++◌}
 use Rattle.std.specs.List.{join_with_byte}
-use Rattle.std.proofs.lemmas.Bool.{cases_lt, true≢false, false≢true, eqb-true, eqb-false, le-ltb}
+use Rattle.std.proofs.lemmas.Bool.{true≢false, false≢true, ne_eqb}
 use Rattle.model.specs.Stream.{Octets, line}
-use Rattle.model.specs.Spool.{Spool, NewsArticle, NewsGroup, article_at, by_number, contents, contents_if_here, count, group_named, high}
-use Rattle.model.specs.Spool.{low}
-use Rattle.model.specs.Answer.{at_current, command_answer, group_answer, id_of, if_found, if_here, in_selected, last_answer, moved_answer}
-use Rattle.model.specs.Answer.{next_answer, says}
+use Rattle.model.specs.Spool.{Spool, NewsArticle, NewsGroup, Contents, by_number, contents, contents_if_here, count, group_here, high}
+use Rattle.model.specs.Spool.{low, lowest, shown_in}
+use Rattle.model.specs.Answer.{at_current, command_answer, fetch_current, group_answer, id_of, if_found, if_here, in_selected, last_answer}
+use Rattle.model.specs.Answer.{moved_answer, next_answer, over_current, says}
 use Rattle.model.specs.Replies.{no_current_article, no_next_article, no_previous_article, no_such_group}
 use Rattle.model.specs.declared.session.Answer.{Answer}
-use Rattle.model_rfc.specs.Laws.{GroupRefuses, GroupSelects, LastMoves, NextMoves}
-use Rattle.model_rfc.specs.States.{IsFirst, IsNearest, IsSelected, IsSpool, MovesTo, Refuses}
-use Rattle.model_rfc.proofs.Groups.{at_above, at_below, at_there, at_within, none_up}
+use Rattle.model.specs.declared.session.Session.{Session}
+use Rattle.model.proofs.Shown.{Numbered, NumbersRise, its_article, next_is, no_next, no_previous, none_under, numbers_rise, previous_is}
+use Rattle.model.proofs.Shown.{under}
+use Rattle.model_rfc.specs.Laws.{GroupRefuses, GroupSelects, LastMoves, NextMoves, RemovedIsNoCurrent}
+use Rattle.model_rfc.specs.States.{IsFirst, IsNearest, IsSelected, MovesTo, Refuses}
 
 abbrev Above : ℕ → ℕ → Type 0
 Above n m = n < m
@@ -21,23 +23,20 @@ Above n m = n < m
 abbrev Below : ℕ → ℕ → Type 0
 Below n m = m < n
 
-pub first_of_group : (host : Octets) (S : Spool) (g : Octets) → IsSpool host S
-    → IsFirst S g (cond (count (contents S g) == 0) None (Some (low S g)))
-first_of_group host S g is = by_count (count (contents S g) == 0) refl where
-  by_count : (b : Bool) → (count (contents S g) == 0) ≡ b → IsFirst S g (cond b None (Some (low S g)))
-  by_count true none =
-      let empty : count (contents S g) ≡ 0 = eqb-true (count (contents S g)) 0 none in
-      λ m. elim (cases_lt m (low S g)) [
-        | inl below ↦ at_below (contents S g) m below
-        | inr from ↦ at_above (contents S g) m (omega arith)
-      ]
-  by_count false some =
-      let filled = eqb-false (count (contents S g)) 0 some in
-      record {
-        beyond = omega arith;
-        there = at_there (contents S g) (low S g) (omega arith) (omega arith) (omega arith);
-        between = λ k above below. at_below (contents S g) k below;
-      }
+-- ---- GROUP
+
+pub first_of_group : (S : Spool) (g : Octets) → IsFirst S g (cond (count (contents S g) == 0) None (Some (low S g)))
+first_of_group S g = by_shown (shown_in S g) refl (numbers_rise S g) where
+  by_shown : (ps : List Numbered) → shown_in S g ≡ ps → NumbersRise 1 ps
+      → IsFirst S g (cond (length ps == 0) None (Some (lowest (high S g) ps)))
+  by_shown [] is rise = λ n. ap (under n) is
+  by_shown (p ∷ ps) is rise =
+      let first : IsNearest S g (λ k m. k < m) 0 p.0 = record {
+        beyond = omega (arith, rise.0);
+        there = (p.1, ap (under p.0) is ∙ its_article p ps);
+        between = λ k above below. ap (under k) is ∙ none_under k p.0 (p ∷ ps) (omega arith, rise.1) below;
+      } in
+      subst (λ b. IsFirst S g (cond b None (Some p.0))) (sym (ne_eqb (length (p ∷ ps)) 0 (λ none. omega (arith, none)))) first
 
 -- GROUP's line
 abbrev pub shown_line : Spool → Octets → Octets
@@ -45,81 +44,102 @@ shown_line S g = join_with_byte 32 (codes "211" ∷ decimal (count (contents S g
 
 pub group_selects : GroupSelects
 unfolding command_answer contents_if_here
-group_selects host S x t g is there = by_group (group_named S g) there where
+group_selects host S x t g there = by_group (group_here S g) there where
   by_group : (o : Option NewsGroup) → is_some o ≡ true → IsSelected S g [] []
       (if_here x (option_map (λ group. contents S g) o) (group_answer x g))
   by_group None some = absurd (false≢true some)
   by_group (Some group) some = record {
     reply_is = sym (append-nil (line (shown_line S g ++ [])) ∙ ap line (append-nil (shown_line S g)));
     selected = refl;
-    current = first_of_group host S g is;
+    current = first_of_group S g;
   }
 
 pub group_refuses : GroupRefuses
 unfolding command_answer contents_if_here no_such_group
-group_refuses host S x t g missing = by_group (group_named S g) missing where
+group_refuses host S x t g missing = by_group (group_here S g) missing where
   by_group : (o : Option NewsGroup) → is_some o ≡ false → Refuses x (codes "411 No such group")
       (if_here x (option_map (λ group. contents S g) o) (group_answer x g))
   by_group None none = record { stays = record { next_is = refl; change = refl }; reply_is = refl }
   by_group (Some group) none = absurd (true≢false none)
 
+-- ---- NEXT and LAST
+
+-- what a command on the current article is answered, by what its number has
+at_number_is : (S : Spool) (x : Session) (g : Octets) (n : ℕ) (o : Option NewsArticle) (f : Contents → ℕ → NewsArticle → Answer)
+    → x.group ≡ Some g → x.current ≡ Some n → by_number S g n ≡ o
+    → in_selected S x x.group (λ k c. at_current x c x.current (f c)) ≡ if_found x no_current_article o (f (contents S g) n)
+at_number_is S x g n o f group now is =
+    ap (λ (p : Option Octets). in_selected S x p (λ k c. at_current x c x.current (f c))) group
+    ∙ ap (λ (p : Option ℕ). at_current x (contents S g) p (f (contents S g))) now
+    ∙ ap (λ (p : Option NewsArticle). if_found x no_current_article p (f (contents S g) n)) is
+
 pub next_moves : NextMoves
 unfolding command_answer no_next_article
-next_moves host S x t g n is reader group now from = subst P (sym whole) (by_article (article_at (contents S g) (n + 1)) refl) where
-  P : Answer → Type 0
-  P a = ((m : ℕ) × IsNearest S g Above n m × MovesTo x m a) ⊎ (((m : ℕ) → n < m → by_number S g m ≡ None)
-      × Refuses x (codes "421 No next article") a)
+next_moves host S x t g n a group now at =
+    subst P (sym (at_number_is S x g n (Some a) step group now at)) (by_found (find (λ (p : Numbered). nat_lt n p.0) (shown_in S g)) refl)
+  where
+    P : Answer → Type 0
+    P b = ((m : ℕ) × IsNearest S g Above n m × MovesTo x m b) ⊎ (((m : ℕ) → n < m → by_number S g m ≡ None)
+        × Refuses x (codes "421 No next article") b)
 
-  step : ℕ → Answer
-  step k = if_found x no_next_article (article_at (contents S g) (k + 1)) (moved_answer x (k + 1))
+    step : Contents → ℕ → NewsArticle → Answer
+    step c k b = moved_answer x no_next_article (find (λ (p : Numbered). nat_lt k p.0) c.shown)
 
-  whole : in_selected S x x.group (λ k. next_answer x) ≡ step n
-  whole = ap (λ (o : Option Octets). in_selected S x o (λ k. next_answer x)) group
-      ∙ ap (λ (o : Option ℕ). at_current x (contents S g) o step) now
-      ∙ ap (λ b. cond b (says x no_current_article) (step n)) (le-ltb n (low S g) from)
-
-  by_article : (o : Option NewsArticle) → article_at (contents S g) (n + 1) ≡ o → P (if_found x no_next_article o (moved_answer x (n + 1)))
-  by_article (Some a) at = inl (
-    n + 1,
-    record { beyond = omega arith; there = (a, at); between = λ k low high. absurd (omega arith) },
-    record { stays = record { next_is = refl; change = refl }; id = id_of a; reply_is = refl },
-  )
-  by_article None none = inr (
-    (λ m above. at_above (contents S g) m (omega (arith, none_up (contents S g) (n + 1) (omega arith) (omega arith) none))),
-    record { stays = record { next_is = refl; change = refl }; reply_is = refl },
-  )
+    by_found : (o : Option Numbered) → find (λ (p : Numbered). nat_lt n p.0) (shown_in S g) ≡ o → P (moved_answer x no_next_article o)
+    by_found (Some p) is =
+        let next = next_is n 1 (shown_in S g) p (numbers_rise S g) is in
+        inl (
+          p.0,
+          record { beyond = next.beyond; there = (p.1, next.there); between = next.between },
+          record { stays = record { next_is = refl; change = refl }; id = id_of p.1; reply_is = refl },
+        )
+    by_found None is = inr (
+      no_next n 1 (shown_in S g) (numbers_rise S g) is,
+      record { stays = record { next_is = refl; change = refl }; reply_is = refl },
+    )
 
 pub last_moves : LastMoves
 unfolding command_answer no_previous_article
-last_moves host S x t g n is reader group now from = subst P (sym whole) (by_article (article_at (contents S g) (n - 1)) refl) where
-  P : Answer → Type 0
-  P a = ((m : ℕ) × IsNearest S g Below n m × MovesTo x m a) ⊎ (((m : ℕ) → m < n → by_number S g m ≡ None)
-      × Refuses x (codes "422 No previous article") a)
+last_moves host S x t g n a group now at =
+    subst P (sym (at_number_is S x g n (Some a) step group now at))
+    (by_found (find (λ (p : Numbered). nat_lt p.0 n) (reverse (shown_in S g))) refl)
+  where
+    P : Answer → Type 0
+    P b = ((m : ℕ) × IsNearest S g Below n m × MovesTo x m b) ⊎ (((m : ℕ) → m < n → by_number S g m ≡ None)
+        × Refuses x (codes "422 No previous article") b)
 
-  step : ℕ → Answer
-  step k = if_found x no_previous_article (article_at (contents S g) (k - 1)) (moved_answer x (k - 1))
+    step : Contents → ℕ → NewsArticle → Answer
+    step c k b = moved_answer x no_previous_article (find (λ (p : Numbered). nat_lt p.0 k) (reverse c.shown))
 
-  whole : in_selected S x x.group (λ k. last_answer x) ≡ step n
-  whole = ap (λ (o : Option Octets). in_selected S x o (λ k. last_answer x)) group
-      ∙ ap (λ (o : Option ℕ). at_current x (contents S g) o step) now
-      ∙ ap (λ b. cond b (says x no_current_article) (step n)) (le-ltb n (low S g) from)
+    by_found : (o : Option Numbered) → find (λ (p : Numbered). nat_lt p.0 n) (reverse (shown_in S g)) ≡ o
+        → P (moved_answer x no_previous_article o)
+    by_found (Some p) is =
+        let before = previous_is n 1 (shown_in S g) p (numbers_rise S g) is in
+        inl (
+          p.0,
+          record { beyond = before.beyond; there = (p.1, before.there); between = before.between },
+          record { stays = record { next_is = refl; change = refl }; id = id_of p.1; reply_is = refl },
+        )
+    by_found None is = inr (
+      no_previous n 1 (shown_in S g) (numbers_rise S g) is,
+      record { stays = record { next_is = refl; change = refl }; reply_is = refl },
+    )
 
-  had : (1 ≤ n) × (n ≤ high S g)
-  had = reader.number_had g n group now
+-- ---- a current article that was removed
 
-  by_article : (o : Option NewsArticle) → article_at (contents S g) (n - 1) ≡ o
-      → P (if_found x no_previous_article o (moved_answer x (n - 1)))
-  by_article (Some a) at =
-      let within = at_within (contents S g) (n - 1) a at in
-      inl (
-        n - 1,
-        record { beyond = omega (arith, within.0); there = (a, at); between = λ k low high. absurd (omega arith) },
-        record { stays = record { next_is = refl; change = refl }; id = id_of a; reply_is = refl },
-      )
-  by_article None none = inr (
-    (λ m below. elim (cases_lt m (low S g)) [
-      | inl under ↦ at_below (contents S g) m under
-      | inr up ↦ absurd (omega (arith, had.0, had.1, none_up (contents S g) (n - 1) (omega arith) (omega arith) none))
-    ]),
-    record { stays = record { next_is = refl; change = refl }; reply_is = refl },
-  )
+none_current : (S : Spool) (x : Session) (g : Octets) (n : ℕ) (f : Contents → ℕ → NewsArticle → Answer) → x.group ≡ Some g
+    → x.current ≡ Some n → by_number S g n ≡ None
+    → Refuses x (codes "420 No current article") (in_selected S x x.group (λ k c. at_current x c x.current (f c)))
+unfolding no_current_article
+none_current S x g n f group now none = subst (Refuses x (codes "420 No current article"))
+    (sym (at_number_is S x g n None f group now none))
+    (record { stays = record { next_is = refl; change = refl }; reply_is = refl })
+
+pub removed_is_no_current : RemovedIsNoCurrent
+unfolding command_answer
+removed_is_no_current = (
+  (λ host S x t g n group now none. none_current S x g n _ group now none),
+  (λ host S x t g n group now none. none_current S x g n _ group now none),
+  (λ p host S x t g n group now none. none_current S x g n _ group now none),
+  (λ host S x t g n group now none. none_current S x g n _ group now none),
+)

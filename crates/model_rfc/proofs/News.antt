@@ -10,13 +10,13 @@ use Rattle.model.specs.Stream.{Octets, line}
 use Rattle.model.specs.Names.{wildmat_matches}
 use Rattle.model.specs.Calendar.{Date, IsDateAt, epoch, since}
 use Rattle.model.specs.Article as article
-use Rattle.model.specs.Spool.{Spool, NewsArticle, NewsGroup, Listed, articles, articles_now, as_it_is, contents, filed_in, groups, high, is_in}
-use Rattle.model.specs.Spool.{is_name, listed, low, number_in, numbered}
+use Rattle.model.specs.Spool.{Spool, NewsArticle, NewsGroup, Listed, articles, articles_now, as_it_is, filed_in, groups_now, high, is_in}
+use Rattle.model.specs.Spool.{is_name, is_shown, listed, low, number_in, numbered}
 use Rattle.model.specs.Answer.{active_line, command_answer, id_of, if_dated, is_listed, is_since, newgroups_answer, newnews_answer}
 use Rattle.model.specs.Replies.{articles_follow, groups_follow, syntax_error}
 use Rattle.model.specs.declared.session.Answer.{Answer}
 use Rattle.model.specs.declared.session.Session.{Session}
-use Rattle.model.proofs.Found.{has_number}
+use Rattle.model.proofs.Found.{shown_are_numbered}
 use Rattle.model.proofs.Numbers.{number_is_rank}
 use Rattle.model_rfc.specs.Laws.{NewGroupsAreListed, NewsIsListed}
 use Rattle.model_rfc.specs.News.{IsNews, ListsGroups, ListsNews, Since, active_of}
@@ -74,8 +74,9 @@ module _ (S : Spool) (seconds : ℕ) where
     stays = record { next_is = refl; change = refl };
     reply_is =
         block_is groups_follow
-        (map active_line (filter (λ l. is_since from l.group.moment) (map listed_of (filter (λ group. is_listed None group.name) (groups S)))))
-        ∙ ap (λ (ls : List Octets). line (codes "231 New groups follow") ++ sent ls) (same_groups (groups S));
+        (map active_line (filter (λ l. is_since from l.group.moment)
+        (map listed_of (filter (λ group. is_listed None group.name) (groups_now S)))))
+        ∙ ap (λ (ls : List Octets). line (codes "231 New groups follow") ++ sent ls) (same_groups (groups_now S));
   }
 
 pub new_groups_are_listed : NewGroupsAreListed
@@ -179,13 +180,13 @@ module _ (S : Spool) (w : Octets) (seconds : ℕ) where
       let found : slice_get (filed_in S g) (place.0 + 1 - 1) ≡ Some a =
       let same : place.0 + 1 - 1 ≡ place.0 = omega arith in ap (slice_get (filed_in S g)) same ∙ place.1 in
       let rank : number_in S g a ≡ place.0 + 1 = number_is_rank S g (place.0 + 1) a (numbered_so place.0 found) in
-      let low_is : low S g ≤ number_in S g a = leb-true (low S g) (number_in S g a) inside in
+      let shown : is_shown S g (place.0 + 1) a ≡ true = ap (λ (m : ℕ). is_shown S g m a) (sym rank) ∙ inside in
       record {
         group = g;
         matched = matched;
         number = place.0 + 1;
         filed = a;
-        there = stands (contents S g) (place.0 + 1) a (omega arith) (omega (arith, rank, low_is)) found;
+        there = stands S g (place.0 + 1) a (omega arith) found shown;
         since = leb-true seconds (seconds_at a.moment) (sym (since_is seconds (epoch * 86_400) a.moment) ∙ recent);
         id_is = refl;
       }
@@ -208,11 +209,9 @@ module _ (S : Spool) (w : Octets) (seconds : ℕ) where
   each_news : (id : Octets) → IsNews S w seconds id → (n : ℕ) × (slice_get ids n ≡ Some id)
   unfolding articles_now filed_in
   each_news id is =
-      let within = at_within (contents S is.group) is.number is.filed is.there in
-      let left = left_there (λ (b : NewsArticle). list_any (is_name is.group) b.groups) (articles S) (is.number - 1) is.filed within.3 in
-      let rank = number_is_rank S is.group is.number is.filed (has_number S is.group is.number is.filed is.there) in
-      let inside : is_in S is.filed is.group ≡ true =
-      le-leb (low S is.group) (number_in S is.group is.filed) (omega (arith, within.2, rank)) in
+      let within = at_within S is.group is.number is.filed is.there in
+      let left = left_there (λ (b : NewsArticle). list_any (is_name is.group) b.groups) (articles S) (is.number - 1) is.filed within.2 in
+      let inside : is_in S is.filed is.group ≡ true = (shown_are_numbered S is.group is.number is.filed is.there).1 in
       let recent : is_since start is.filed.moment ≡ true =
       since_is seconds (epoch * 86_400) is.filed.moment ∙ le-leb seconds (seconds_at is.filed.moment) is.since in
       let good : passes (as_it_is S is.filed) ≡ true =

@@ -1,15 +1,16 @@
 -- What OVER answers, beside what ARTICLE answers.
-use Rattle.std.proofs.Common.{◌≡◌, ◌⊎◌, ℕ, zero, suc, ◌+◌, ◌-◌, ◌≤◌, List, [], ◌∷◌, ◌++◌, map, refl, sym, ◌∙◌, ap, subst, arith, inl, inr}
-use Rattle.std.proofs.Common.{Bool, true, false, cond, ◌&&◌}
-use Rattle.std.specs.Prelude.{None, Some, Option, length, bytes_eq, codes, decimal, filter, is_some, nat_le, nat_lt, slice_get, ◌==◌}
-use Rattle.std.specs.List.{enumerate_from, list_any, range_with_len}
-use Rattle.std.proofs.lemmas.Bool.{false≢true, true≢false, leb-true, le-ltb, ne_eqb}
+use Rattle.std.proofs.Common.{◌≡◌, ◌⊎◌, ℕ, ◌+◌, ◌-◌, ◌≤◌, List, [], ◌∷◌, ◌++◌, map, refl, sym, ◌∙◌, ap, subst, arith, inl, inr, Bool, true}
+use Rattle.std.proofs.Common.{false, cond}
+use Rattle.std.specs.Prelude.{None, Some, Option, bytes_eq, codes, decimal, filter, slice_get}
+use Rattle.std.specs.List.{list_any}
+use Rattle.std.proofs.lemmas.Bool.{ne_eqb}
 use Rattle.model.specs.Stream.{Octets, line}
 use Rattle.model.specs.Names.{is_in_range}
 use Rattle.model.specs.Article.{Carried, cause, overview_line}
-use Rattle.model.specs.Spool.{Spool, NewsArticle, Contents, article_at, by_number, contents, here_by_id, numbered, numbered_articles}
-use Rattle.model.specs.Answer.{at_current, at_number, command_answer, fetch_current, fetch_id, fetch_number, id_of, if_found, in_selected}
-use Rattle.model.specs.Answer.{over_current, over_id, over_range, overview_or_none, part_reply, says, spaced}
+use Rattle.model.specs.Spool.{Spool, NewsArticle, Contents, article_at, by_number, contents, filed_in, here_by_id, is_shown, numbered}
+use Rattle.model.specs.Spool.{shown_in}
+use Rattle.model.specs.Answer.{at_current, at_number, command_answer, fetch_id, fetch_number, id_of, if_found, in_selected}
+use Rattle.model.specs.Answer.{over_id, over_range, overview_or_none, part_reply, says, spaced}
 use Rattle.model.specs.Replies.{block, no_current_article, no_group_selected, no_such_article, no_such_number, overview_follows}
 use Rattle.model.specs.declared.command.Command.TheVariants as command
 use Rattle.model.specs.declared.command.Part.TheVariants as part
@@ -17,12 +18,13 @@ use Rattle.model.specs.declared.command.Range.{Range}
 use Rattle.model.specs.declared.command.Selector.TheVariants as selector
 use Rattle.model.specs.declared.session.Answer.{Answer}
 use Rattle.model.specs.declared.session.Session.{Session}
+use Rattle.model.proofs.Removed.{by_number_is, if_shown}
+use Rattle.model.proofs.Shown.{Numbered, NumbersRise, from_first, its_article, numbers_rise, numbers_shown, skips, under}
 use Rattle.model_rfc.specs.Laws.{CurrentIsShown, IdsAreShown, RangesAreShown}
 use Rattle.model_rfc.specs.Overviews.{AreShownOf, IsOverview, IsShownOf, Overviews}
 use Rattle.model_rfc.specs.States.{IsSpool, Refuses, numbers_listed}
-use Rattle.model_rfc.proofs.Articles.{IsCarried, at_carried, filed_carried, here_carried}
+use Rattle.model_rfc.proofs.Articles.{IsCarried, at_carried, here_carried, shown_carried}
 use Rattle.model_rfc.proofs.Blocks.{block_is}
-use Rattle.model_rfc.proofs.Fetching.{has_article}
 use Rattle.model_rfc.proofs.Lists.{Every}
 use Rattle.model_rfc.proofs.Showing.{overview_is_shown}
 use Rattle.model_rfc.proofs.Texts.{text_is}
@@ -88,99 +90,73 @@ current_is_shown host S x t is = by_group x.group x.current where
   by_found g n None found = none
   by_found g n (Some a) found = inl (n, overview_of_one n a x x (at_carried host S g n a is.lawful found))
 
-  by_low : (g : Octets) (n : ℕ) (b : Bool)
-      → EitherWay x refusals
-      (cond b (says x no_current_article)
-      (if_found x no_current_article (article_at (contents S g) n) (λ a. says x (part_reply part.Whole n a))))
-      (cond b (says x no_current_article)
-      (if_found x no_current_article (article_at (contents S g) n) (λ a. says x (block overview_follows (overview_line n a.text ∷ [])))))
-  by_low g n true = none
-  by_low g n false = by_found g n (article_at (contents S g) n) refl
-
   by_number_of : (g : Octets) (o : Option ℕ) → EitherWay x refusals
-      (at_current x (contents S g) o
-      (λ n. if_found x no_current_article (article_at (contents S g) n) (λ a. says x (part_reply part.Whole n a))))
-      (at_current x (contents S g) o
-      (λ n. if_found x no_current_article (article_at (contents S g) n)
-      (λ a. says x (block overview_follows (overview_line n a.text ∷ [])))))
+      (at_current x (contents S g) o (λ n a. says x (part_reply part.Whole n a)))
+      (at_current x (contents S g) o (λ n a. says x (block overview_follows (overview_line n a.text ∷ []))))
   by_number_of g None = none
-  by_number_of g (Some n) = by_low g n (nat_lt n (contents S g).low)
+  by_number_of g (Some n) = by_found g n (article_at (contents S g) n) refl
 
   by_group : (o : Option Octets) (p : Option ℕ) → EitherWay x refusals
-      (in_selected S x o (λ g c. at_current x c p
-      (λ n. if_found x no_current_article (article_at c n) (λ a. says x (part_reply part.Whole n a)))))
-      (in_selected S x o (λ g c. at_current x c p
-      (λ n. if_found x no_current_article (article_at c n) (λ a. says x (block overview_follows (overview_line n a.text ∷ []))))))
+      (in_selected S x o (λ g c. at_current x c p (λ n a. says x (part_reply part.Whole n a))))
+      (in_selected S x o (λ g c. at_current x c p (λ n a. says x (block overview_follows (overview_line n a.text ∷ [])))))
   by_group None p = alike x refusals (codes "412 No group selected") refl
   by_group (Some g) p = by_number_of g p
 
 -- ---- by a range
 
--- an article that stands there from the low on has that number
-pub stands : (c : Contents) (k : ℕ) (a : NewsArticle) → 1 ≤ k → c.low ≤ k → slice_get c.filed (k - 1) ≡ Some a → article_at c k ≡ Some a
-stands c k a some from at =
-    ap (λ b. cond b None (numbered c.filed k)) (le-ltb k c.low from)
-    ∙ ap (λ b. cond b None (slice_get c.filed (k - 1))) (ne_eqb k 0 (λ e. omega arith)) ∙ at
+-- an article that stands there, and is in the group, has that number
+pub stands : (S : Spool) (g : Octets) (k : ℕ) (a : NewsArticle) → 1 ≤ k → slice_get (filed_in S g) (k - 1) ≡ Some a
+    → is_shown S g k a ≡ true → by_number S g k ≡ Some a
+stands S g k a some at shown =
+    let filed : numbered (filed_in S g) k ≡ Some a =
+    ap (λ b. cond b None (slice_get (filed_in S g) (k - 1))) (ne_eqb k 0 (λ e. omega arith)) ∙ at in
+    by_number_is S g k ∙ ap (if_shown (is_shown S g) k) filed ∙ ap (λ b. cond b (Some a) None) shown
+
+-- each article with its number
+abbrev HasIts : (ℕ → Option NewsArticle) → Numbered → Type 0
+HasIts by p = (by p.0 ≡ Some p.1) × IsCarried p.1
+
+every_more : {A : Type 0} (P Q : A → Type 0) (xs : List A) → ((a : A) → P a → Q a) → Every P xs → Every Q xs
+every_more P Q [] more all = tt
+every_more P Q (x ∷ xs) more all = (more x all.0, every_more P Q xs more all.1)
+
+each_has_its : (m : ℕ) (ps : List Numbered) → NumbersRise m ps → Every (λ (p : Numbered). IsCarried p.1) ps
+    → Every (HasIts (λ n. under n ps)) ps
+each_has_its m [] rise carried = tt
+each_has_its m (q ∷ ps) rise carried = (
+  (its_article q ps, carried.0),
+  every_more (HasIts (λ n. under n ps)) (HasIts (λ n. under n (q ∷ ps))) ps
+      (λ p its. (skips p.0 q ps (λ same. from_first p.0 (q.0 + 1) p.1 ps rise.1 its.0 (omega arith)) ∙ its.0, its.1))
+      (each_has_its (q.0 + 1) ps rise.1 carried.1),
+)
 
 module _ (x : Session) (c : Contents) (r : Range) where
-  abbrev in_range : ℕ → Bool
-  in_range n = is_in_range r n
-
-  abbrev here : ℕ → Bool
-  here n = is_in_range r n && is_some (article_at c n)
-
   -- what ARTICLE answers by a number
   abbrev article : ℕ → Answer
   article n = fetch_number x part.Whole n c
 
-  abbrev shown_lines : List (ℕ × NewsArticle) → List Octets
+  abbrev shown_lines : List Numbered → List Octets
   shown_lines ps = map (λ p. overview_line p.0 p.1.text) ps
-
-  -- the articles of a list stand in the group from this number on
-  abbrev StandFrom : ℕ → List NewsArticle → Type 0
-  StandFrom k xs = (i : ℕ) (a : NewsArticle) → slice_get xs i ≡ Some a → slice_get c.filed (k + i - 1) ≡ Some a
 
   one_shown : (k : ℕ) (a : NewsArticle) → article_at c k ≡ Some a → IsCarried a → IsShownOf k (article k) (overview_line k a.text)
   one_shown k a at carried =
       subst (λ (o : Option NewsArticle). IsShownOf k (if_found x no_such_number o (λ a. says (at_number x k) (part_reply part.Whole k a)))
       (overview_line k a.text)) (sym at) (shown_of k a (at_number x k) carried)
 
-  all_shown : (k : ℕ) (xs : List NewsArticle) → 1 ≤ k → k + length xs ≡ 1 + length c.filed → StandFrom k xs → Every IsCarried xs
-      → AreShownOf article (filter here (range_with_len k (length xs)))
-      (shown_lines (filter (λ p. in_range p.0) (filter (λ p. nat_le c.low p.0) (enumerate_from k xs))))
-  all_shown k [] some to stand carried = tt
-  all_shown k (a ∷ xs) some to stand carried =
-      by_low (nat_le c.low k) (in_range k) (is_some (article_at c k)) refl (has_article c k some (omega arith)) refl
-      (all_shown (k + 1) xs (omega arith) (omega arith) further carried.1)
-    where
-      further : StandFrom (k + 1) xs
-      further i b is = let same : k + suc i - 1 ≡ k + 1 + i - 1 = omega arith in
-          ap (slice_get c.filed) (sym same) ∙ stand (suc i) b is
+  all_shown : (ps : List Numbered) → Every (HasIts (article_at c)) ps
+      → AreShownOf article (filter (is_in_range r) (map (λ (p : Numbered). p.0) ps)) (shown_lines (filter (λ p. is_in_range r p.0) ps))
+  all_shown [] each = tt
+  all_shown (p ∷ ps) each = by_test (is_in_range r p.0) (all_shown ps each.1) where
+    rest : List Numbered
+    rest = filter (λ p. is_in_range r p.0) ps
 
-      first : slice_get c.filed (k - 1) ≡ Some a
-      first = let same : k + 0 - 1 ≡ k - 1 = omega arith in ap (slice_get c.filed) (sym same) ∙ stand 0 a refl
+    others : List ℕ
+    others = filter (is_in_range r) (map (λ (p : Numbered). p.0) ps)
 
-      later : List (ℕ × NewsArticle)
-      later = filter (λ p. nat_le c.low p.0) (enumerate_from (k + 1) xs)
-
-      others : List ℕ
-      others = filter here (range_with_len (k + 1) (length xs))
-
-      ranged : List (ℕ × NewsArticle)
-      ranged = filter (λ p. in_range p.0) later
-
-      by_low : (b d e : Bool) → nat_le c.low k ≡ b → e ≡ b → in_range k ≡ d → AreShownOf article others (shown_lines ranged)
-          → AreShownOf article (cond (d && e) (k ∷ others) others)
-          (shown_lines (filter (λ p. in_range p.0) (cond b ((k, a) ∷ later) later)))
-      by_low true true true low same range rest =
-          subst (λ q. AreShownOf article (k ∷ others) (shown_lines (cond q ((k, a) ∷ ranged) ranged))) (sym range)
-          (one_shown k a (stands c k a some (leb-true c.low k low) first) carried.0, rest)
-      by_low true false true low same range rest =
-          subst (λ q. AreShownOf article others (shown_lines (cond q ((k, a) ∷ ranged) ranged))) (sym range) rest
-      by_low false true false low same range rest = rest
-      by_low false false false low same range rest = rest
-      by_low true d false low same range rest = absurd (false≢true same)
-      by_low false d true low same range rest = absurd (true≢false same)
+    by_test : (b : Bool) → AreShownOf article others (shown_lines rest)
+        → AreShownOf article (cond b (p.0 ∷ others) others) (shown_lines (cond b (p ∷ rest) rest))
+    by_test true later = (one_shown p.0 p.1 each.0.0 each.0.1, later)
+    by_test false later = later
 
   -- the answer that is made of lines
   overviews : (numbers : List ℕ) (shown : List Octets) → AreShownOf article numbers shown
@@ -202,7 +178,8 @@ ranges_are_shown host S x t g r is group =
     subst (λ (o : Option Octets). Overviews x (λ n. in_selected S x o (λ h. fetch_number x part.Whole n)) (numbers_listed S g r)
     (in_selected S x o (λ h. over_range x r))) (sym group)
     (overviews x (contents S g) r (numbers_listed S g r)
-    (map (λ p. overview_line p.0 p.1.text) (filter (λ p. is_in_range r p.0) (numbered_articles (contents S g))))
-    (all_shown x (contents S g) r 1 (contents S g).filed (omega arith) (omega arith)
-    (λ i a at. let same : 1 + i - 1 ≡ i = omega arith in ap (slice_get (contents S g).filed) same ∙ at)
-    (filed_carried host S g is.lawful)))
+    (map (λ p. overview_line p.0 p.1.text) (filter (λ p. is_in_range r p.0) (shown_in S g)))
+    (subst (λ (ns : List ℕ). AreShownOf (λ n. fetch_number x part.Whole n (contents S g)) (filter (is_in_range r) ns)
+    (map (λ p. overview_line p.0 p.1.text) (filter (λ p. is_in_range r p.0) (shown_in S g)))) (numbers_shown S g)
+    (all_shown x (contents S g) r (shown_in S g)
+    (each_has_its 1 (shown_in S g) (numbers_rise S g) (shown_carried host S g is.lawful)))))

@@ -4,8 +4,9 @@ use Rattle.std.specs.Prelude.{length, codes, nat_le, nat_lt, ◌==◌, Option, S
 use Rattle.std.specs.List.{list_all}
 use Rattle.std.proofs.lemmas.Bool.{true≢false, and_parts, leb-true, ltb-true, eqb-false, not-true}
 use Rattle.model.specs.Stream.{Octets, line}
-use Rattle.model.specs.Spool.{Spool, NewsArticle, NewsGroup, Contents, article_at, contents, contents_if_here, count, group_named, high}
-use Rattle.model.specs.Spool.{is_here, low}
+use Rattle.model.specs.Spool.{Spool, NewsArticle, NewsGroup, Contents, article_at, contents, contents_if_here, count, group_here}
+use Rattle.model.specs.Spool.{group_named}
+use Rattle.model.specs.Spool.{high, is_here, low}
 use Rattle.model.specs.Answer.{at_current, at_number, if_dated, if_found, if_here, in_selected, says, selecting}
 use Rattle.model.specs.Replies.{syntax_error, no_such_group, no_group_selected, no_current_article}
 use Rattle.model.specs.declared.session.Answer.{Answer}
@@ -15,7 +16,7 @@ use Rattle.model_rfc.specs.Commands.{Asked, is_multi_line, is_one_of}
 use Rattle.model_rfc.specs.Responses.{arguments_of, IsInitialLine, IsResponse, three_digits}
 use Rattle.model_rfc.specs.States.{IsReader}
 use Rattle.model_rfc.proofs.Forms.{IsGood, is_comment, is_failing, keeps, plain, with_arguments}
-use Rattle.model_rfc.proofs.Groups.{at_within}
+use Rattle.model_rfc.proofs.Groups.{at_within, count_fits, low_from_one}
 
 -- ---- replies of one line and no arguments
 
@@ -61,14 +62,12 @@ module _ (S : Spool) (x : Session) (reader : IsReader S x) where
   found asked reply None f none some = none
   found asked reply (Some a) f none some = some a refl
 
-  pub at_now : (asked : Asked) → allows asked 420 ≡ true → (c : Contents) (o : Option ℕ) (f : ℕ → Answer)
-      → ((n : ℕ) → o ≡ Some n → IsGood S x asked (f n)) → IsGood S x asked (at_current x c o f)
+  pub at_now : (asked : Asked) → allows asked 420 ≡ true → (c : Contents) (o : Option ℕ) (f : ℕ → NewsArticle → Answer)
+      → ((n : ℕ) (a : NewsArticle) → article_at c n ≡ Some a → IsGood S x asked (f n a)) → IsGood S x asked (at_current x c o f)
   unfolding no_current_article
   at_now asked may c None f all = refused asked 420 (codes " No current article") refl may
-  at_now asked may c (Some n) f all = by_low (nat_lt n c.low) where
-    by_low : (b : Bool) → IsGood S x asked (cond b (says x no_current_article) (f n))
-    by_low true = refused asked 420 (codes " No current article") refl may
-    by_low false = all n refl
+  at_now asked may c (Some n) f all =
+      found asked no_current_article (article_at c n) (f n) (refused asked 420 (codes " No current article") refl may) (all n)
 
   pub selected : (asked : Asked) → allows asked 412 ≡ true → (f : Octets → Contents → Answer)
       → ((g : Octets) → x.group ≡ Some g → IsGood S x asked (f g (contents S g))) → IsGood S x asked (in_selected S x x.group f)
@@ -81,8 +80,8 @@ module _ (S : Spool) (x : Session) (reader : IsReader S x) where
   pub here : (asked : Asked) → allows asked 411 ≡ true → (g : Octets) (f : Contents → Answer)
       → (is_here S g ≡ true → IsGood S x asked (f (contents S g))) → IsGood S x asked (if_here x (contents_if_here S g) f)
   unfolding no_such_group contents_if_here
-  here asked may g f all = by_group (group_named S g) refl where
-    by_group : (o : Option NewsGroup) → group_named S g ≡ o → IsGood S x asked (if_here x (option_map (λ group. contents S g) o) f)
+  here asked may g f all = by_group (group_here S g) refl where
+    by_group : (o : Option NewsGroup) → group_here S g ≡ o → IsGood S x asked (if_here x (option_map (λ group. contents S g) o) f)
     by_group None is = refused asked 411 (codes " No such group") refl may
     by_group (Some group) is = all (ap (λ (o : Option NewsGroup). is_some o) is)
 
@@ -93,9 +92,9 @@ module _ (S : Spool) (x : Session) (reader : IsReader S x) where
     response = response;
     failing = λ fails. absurd (true≢false (sym fails ∙ fine));
     reader = record {
-      group_here = reader.group_here;
+      group_made = reader.group_made;
       number_had = λ h m same now.
-          let within = at_within (contents S g) n a at in
+          let within = at_within S g n a at in
           let group : g ≡ h = cc in
           let number : n ≡ m = cc in
           subst (λ (k : ℕ). (1 ≤ k) × (k ≤ high S h)) number (subst (λ (k : Octets). (1 ≤ n) × (n ≤ high S k)) group (within.0, within.1));
@@ -103,13 +102,13 @@ module _ (S : Spool) (x : Session) (reader : IsReader S x) where
   }
 
   -- a group becomes the selected one
-  pub selects : (asked : Asked) (g reply : Octets) → is_here S g ≡ true → is_failing reply ≡ false → IsResponse asked reply
+  pub selects : (asked : Asked) (g reply : Octets) → is_some (group_named S g) ≡ true → is_failing reply ≡ false → IsResponse asked reply
       → IsGood S x asked (says (selecting x g (contents S g)) reply)
-  selects asked g reply there fine response = record {
+  selects asked g reply made fine response = record {
     response = response;
     failing = λ fails. absurd (true≢false (sym fails ∙ fine));
     reader = record {
-      group_here = λ h same. let group : g ≡ h = cc in subst (λ (k : Octets). is_here S k ≡ true) group there;
+      group_made = λ h same. let group : g ≡ h = cc in subst (λ (k : Octets). is_some (group_named S k) ≡ true) group made;
       number_had = λ h m same now.
           let group : g ≡ h = cc in
           subst (λ (k : Octets). (1 ≤ m) × (m ≤ high S k)) group (first (count (contents S g) == 0) refl m now);
@@ -121,4 +120,4 @@ module _ (S : Spool) (x : Session) (reader : IsReader S x) where
       first false some m now =
           let number : low S g ≡ m = cc in
           let other = eqb-false (count (contents S g)) 0 some in
-          subst (λ (k : ℕ). (1 ≤ k) × (k ≤ high S g)) number (omega arith, omega arith)
+          subst (λ (k : ℕ). (1 ≤ k) × (k ≤ high S g)) number (low_from_one S g, omega (arith, other, count_fits S g))

@@ -9,7 +9,7 @@ use Rattle.std.specs.Str.Parse.{digits_value}
 use Rattle.std.proofs.lemmas.Bool.{true≢false, false≢true, le-ltb, lt-ltb}
 use Rattle.std.proofs.lemmas.List.{take_at, length-append}
 use Rattle.model.specs.Stream.{Octets, crlf}
-use Rattle.model.specs.Spool.{Spool, NewsArticle, NewsGroup, filed_in, group_named, high, is_here}
+use Rattle.model.specs.Spool.{Spool, NewsArticle, NewsGroup, filed_in, group_named, high}
 use Rattle.model.specs.Answer.{Outcome, accepted, answer, article_answer, awaiting, full_answer, group_closed, id_here, new_session}
 use Rattle.model.specs.Answer.{no_group_here, not_an_article, post_outcome, says, served, transfer_outcome}
 use Rattle.model.specs.Replies.{greeting, not_accepted, received, rejected, service_ends, transferred, try_later}
@@ -20,7 +20,7 @@ use Rattle.model.specs.declared.message.Message.TheVariants as message
 use Rattle.model.specs.declared.session.Awaits.{Awaits}
 use Rattle.model.specs.declared.session.Awaits.TheVariants as awaits
 use Rattle.model.specs.declared.session.Session.{Session}
-use Rattle.model.proofs.LookUps.{group_absent_cut}
+use Rattle.model.proofs.Growing.{named_front}
 use Rattle.model.proofs.Numbers.{filed_in_split, later_articles}
 use Rattle.model_rfc.specs.Commands.{Asked, asked_by, greeted, plainly, posted, too_long}
 use Rattle.model_rfc.specs.Commands.{transferred as transferred_row}
@@ -70,12 +70,12 @@ module _ (host : Octets) (S : Spool) (is : IsSpool host S) (x : Session) (reader
   unfolding received
   posts stored not_an_article = declined
   posts stored (id_here a) = declined
-  posts stored no_group_here = declined
+  posts stored (no_group_here named) = declined
   posts stored (group_closed g) = declined
   posts stored (accepted here) = record {
     response = told (plainly posted) 240 (codes " Article received") refl refl;
     failing = λ fails. absurd (false≢true fails);
-    reader = record { group_here = reader.group_here; number_had = reader.number_had };
+    reader = record { group_made = reader.group_made; number_had = reader.number_had };
   }
 
   transfers : (stored : Octets) (o : Outcome) → IsGood S x (plainly transferred_row)
@@ -83,12 +83,12 @@ module _ (host : Octets) (S : Spool) (is : IsSpool host S) (x : Session) (reader
   unfolding transferred
   transfers stored not_an_article = turned_down
   transfers stored (id_here a) = turned_down
-  transfers stored no_group_here = turned_down
+  transfers stored (no_group_here named) = turned_down
   transfers stored (group_closed g) = turned_down
   transfers stored (accepted here) = record {
     response = told (plainly transferred_row) 235 (codes " Article transferred") refl refl;
     failing = λ fails. absurd (false≢true fails);
-    reader = record { group_here = reader.group_here; number_had = reader.number_had };
+    reader = record { group_made = reader.group_made; number_had = reader.number_had };
   }
 
   served_good : (A : Awaits) (m : Message) → can_come A m mark.Served ≡ true → IsGood S x (asked_in A m) (served host S x t A m)
@@ -160,7 +160,7 @@ follows host turn may reader =
 
 pub reader_later : (S more : Spool) (x : Session) → IsReader S x → IsReader (S ++ more) x
 reader_later S more x reader = record {
-  group_here = λ g same. still (group_named (S ++ more) g) g refl (reader.group_here g same);
+  group_made = λ g same. still (group_named (S ++ more) g) g refl (reader.group_made g same);
   number_had = λ g n same now.
       let had = reader.number_had g n same now in
       (had.0, omega (arith, had.1, higher g));
@@ -169,11 +169,8 @@ reader_later S more x reader = record {
     front : take (length S) (S ++ more) ≡ S
     front = take_at S more (length S) refl
 
-    still : (o : Option NewsGroup) (g : Octets) → group_named (S ++ more) g ≡ o → is_here S g ≡ true → is_some o ≡ true
-    still None g none here =
-        let gone : group_named (take (length S) (S ++ more)) g ≡ None = group_absent_cut (length S) (S ++ more) g none in
-        let now : group_named S g ≡ None = ap (λ (R : Spool). group_named R g) (sym front) ∙ gone in
-        absurd (true≢false (sym here ∙ ap (λ (o : Option NewsGroup). is_some o) now))
+    still : (o : Option NewsGroup) (g : Octets) → group_named (S ++ more) g ≡ o → is_some (group_named S g) ≡ true → is_some o ≡ true
+    still None g none made = absurd (true≢false (sym made ∙ ap (λ (o : Option NewsGroup). is_some o) (named_front S more g none)))
     still (Some group) g some here = refl
 
     higher : (g : Octets) → high S g ≤ high (S ++ more) g
@@ -258,7 +255,7 @@ run host S x (turn ∷ turns) reader are =
     (one.0 ∷ rest.0, (one.1, rest.1))
 
 new_reader : (S : Spool) → IsReader S new_session
-new_reader S = record { group_here = λ g same. absurd (cc); number_had = λ g n same now. absurd (cc) }
+new_reader S = record { group_made = λ g same. absurd (cc); number_had = λ g n same now. absurd (cc) }
 
 greets : (host : Octets) (S : Spool) → IsSpool host S → IsResponse (plainly greeted) (greeting host)
 unfolding greeting

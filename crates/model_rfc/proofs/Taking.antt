@@ -14,7 +14,7 @@ use Rattle.model.specs.Names.{later_pattern_of, later_patterns_of, number_of, pa
 use Rattle.model.specs.Commands.{command_of, fetch, keyword_of, list_with, parsed_by, parsed_line, parsed_words, selector_of, wanted_of}
 use Rattle.model.specs.Spool.{Spool, NewsArticle, Contents, article_at, by_id, contents, contents_if_here, here_by_id}
 use Rattle.model.specs.Answer.{answer, at_current, at_number, command_answer, if_found, if_here, in_selected, line_answer, offered}
-use Rattle.model.specs.Answer.{overview_or_none, part_reply, says, served}
+use Rattle.model.specs.Answer.{moved_answer, overview_or_none, part_reply, says, served}
 use Rattle.model.specs.Replies.{bye, greeting, no_current_article, no_group_selected, no_next_article, no_previous_article, no_such_article}
 use Rattle.model.specs.Replies.{no_such_group, no_such_number, not_wanted, send_posted, send_transferred}
 use Rattle.model.specs.declared.command.Command.{Command}
@@ -320,13 +320,15 @@ module _ (host : Octets) (S : Spool) (x : Session) (t : ℕ) where
   found_other reply None f none some = none
   found_other reply (Some a) f none some = some a
 
-  now_other : (c : Contents) (o : Option ℕ) (f : ℕ → Answer) → ((n : ℕ) → IsOther (f n)) → IsOther (at_current x c o f)
+  now_other : (c : Contents) (o : Option ℕ) (f : ℕ → NewsArticle → Answer) → ((n : ℕ) (a : NewsArticle) → IsOther (f n a))
+      → IsOther (at_current x c o f)
   unfolding no_current_article
   now_other c None f all = refl
-  now_other c (Some n) f all = by_low (nat_lt n c.low) where
-    by_low : (b : Bool) → IsOther (cond b (says x no_current_article) (f n))
-    by_low true = refl
-    by_low false = all n
+  now_other c (Some n) f all = found_other no_current_article (article_at c n) (f n) refl (all n)
+
+  moved_other : (none : Octets) (o : Option (ℕ × NewsArticle)) → IsOther (says x none) → IsOther (moved_answer x none o)
+  moved_other none None other' = other'
+  moved_other none (Some p) other' = refl
 
   selected_other : (o : Option Octets) (f : Octets → Contents → Answer) → ((g : Octets) (c : Contents) → IsOther (f g c))
       → IsOther (in_selected S x o f)
@@ -367,16 +369,16 @@ module _ (host : Octets) (S : Spool) (x : Session) (t : ℕ) where
   other (command.ListGroup None r) undated = selected_other x.group _ (λ g c. refl)
   other (command.ListGroup (Some g) r) undated = here_other (contents_if_here S g) _ (λ c. refl)
   other command.Next undated = selected_other x.group _ (λ g c. now_other c x.current _
-      (λ n. found_other no_next_article (article_at c (n + 1)) _ refl (λ a. refl)))
+      (λ n a. moved_other no_next_article _ refl))
   other command.Last undated = selected_other x.group _ (λ g c. now_other c x.current _
-      (λ n. found_other no_previous_article (article_at c (n - 1)) _ refl (λ a. refl)))
+      (λ n a. moved_other no_previous_article _ refl))
   other (command.Fetch p selector.Current) undated = selected_other x.group _ (λ g c. now_other c x.current _
-      (λ n. found_other no_current_article (article_at c n) _ refl (λ a. part_other x p n a)))
+      (λ n a. part_other x p n a))
   other (command.Fetch p (selector.Number n)) undated = selected_other x.group _
       (λ g c. found_other no_such_number (article_at c n) _ refl (λ a. part_other (at_number x n) p n a))
   other (command.Fetch p (selector.Id id)) undated = found_other no_such_article (here_by_id S id) _ refl (λ a. part_other x p 0 a)
   other (command.Over wanted.Current) undated = selected_other x.group _ (λ g c. now_other c x.current _
-      (λ n. found_other no_current_article (article_at c n) _ refl (λ a. refl)))
+      (λ n a. refl))
   other (command.Over (wanted.Range r)) undated = selected_other x.group _ (λ g c. over_other _)
   other (command.Over (wanted.Id id)) undated = found_other no_such_article (here_by_id S id) _ refl (λ a. refl)
   other (command.List listing.Active w) undated = refl

@@ -7,7 +7,7 @@ use Rattle.model.specs.Calendar.{Date, IsDateAt, moment_limit}
 use Rattle.model.specs.Names.{is_group_name}
 use Rattle.model.specs.Replies.{greeting}
 use Rattle.model.specs.Article as article
-use Rattle.model.specs.Spool.{Spool, NewsArticle, by_number, contents, count, high, is_here, low, numbered_articles}
+use Rattle.model.specs.Spool.{Spool, NewsArticle, by_number, contents, count, high, is_here, low}
 use Rattle.model.specs.Answer.{answer, command_answer, new_session}
 use Rattle.model.specs.declared.command.Command.{Command}
 use Rattle.model.specs.declared.command.Command.TheVariants.{Fetch, Group, Last, ListGroup, NewGroups, NewNews, Next, Over}
@@ -37,7 +37,7 @@ use Rattle.model_rfc.specs.Marks.{EachIsMarked}
 use Rattle.model_rfc.specs.Times.{IsTimeOf}
 use Rattle.model_rfc.specs.News.{ListsGroups, ListsNews, Since}
 use Rattle.model_rfc.specs.States.{AreTurns, EachMayCome, FollowsTheRfc, IsNearest, IsReader, IsReported, IsSelected, IsSpool, MayCome}
-use Rattle.model_rfc.specs.States.{MovesTo, Refuses, Stays, answered, numbers_listed}
+use Rattle.model_rfc.specs.States.{MovesTo, Refuses, Stays, answered, numbers_listed, numbers_of}
 use Rattle.model_rfc.specs.Responses.{sent}
 use Rattle.model_rfc.specs.Finding.{IsOfArticle}
 use Rattle.model_rfc.specs.Overviews.{IsOverview, Overviews}
@@ -97,11 +97,11 @@ ReleasesAreRead = (host : Octets) (spool : Spool) (inputs : ℕ → Octets) (tra
 -- The numbers of a group are as GROUP must report them (6.1.1.2).
 abbrev pub GroupsAreReported : Type 0
 GroupsAreReported = (host : Octets) (S : Spool) (g : Octets) → IsSpool host S →
-    IsReported (length (numbered_articles (contents S g))) (low S g) (high S g) (count (contents S g))
+    IsReported (numbers_of S g) (low S g) (high S g) (count (contents S g))
 
--- GROUP of a group that is here selects it; of any other it is refused, and nothing changes (6.1.1.2).
+-- GROUP of a group that is here selects it; of any other, also of one that was retired, it is refused, and nothing changes (6.1.1.2).
 abbrev pub GroupSelects : Type 0
-GroupSelects = (host : Octets) (S : Spool) (x : Session) (t : ℕ) (g : Octets) → IsSpool host S → is_here S g ≡ true →
+GroupSelects = (host : Octets) (S : Spool) (x : Session) (t : ℕ) (g : Octets) → is_here S g ≡ true →
     IsSelected S g [] [] (command_answer host S x t (Group g))
 
 abbrev pub GroupRefuses : Type 0
@@ -110,8 +110,8 @@ GroupRefuses = (host : Octets) (S : Spool) (x : Session) (t : ℕ) (g : Octets) 
 
 -- LISTGROUP of a group that is here, or of the selected one, lists the numbers of the range, and selects as GROUP does (6.1.2.2).
 abbrev pub ListGroupLists : Type 0
-ListGroupLists = (host : Octets) (S : Spool) (x : Session) (t : ℕ) (g : Octets) (r : Range) (asked : Option Octets) → IsSpool host S →
-    is_here S g ≡ true → (asked ≡ Some g) ⊎ ((asked ≡ None) × (x.group ≡ Some g)) →
+ListGroupLists = (host : Octets) (S : Spool) (x : Session) (t : ℕ) (g : Octets) (r : Range) (asked : Option Octets) →
+    ((asked ≡ Some g) × (is_here S g ≡ true)) ⊎ ((asked ≡ None) × (x.group ≡ Some g)) →
     IsSelected S g (codes " list follows") (sent (map decimal (numbers_listed S g r))) (command_answer host S x t (ListGroup asked r))
 
 -- By its id an article is fetched, and nothing changes (6.2.1.2). By a number that has one it becomes the current one; of any other number
@@ -180,11 +180,10 @@ abbrev pub DateTells : Type 0
 DateTells = (host : Octets) (S : Spool) (x : Session) (t : ℕ) → t < moment_limit →
     (text : Octets) × ((command_answer host S x t command.Date).reply ≡ line (codes "111 " ++ text)) × IsTimeOf t text
 
--- A command goes to the nearest article of the current one; where there is none, it is refused. A current number below the group's lowest
--- counts as no current article.
+-- A command goes to the nearest article of the current one; where there is none, it is refused.
 abbrev pub Moves : Command → Octets → (ℕ → ℕ → Type 0) → Type 0
-Moves command refusal Beyond = (host : Octets) (S : Spool) (x : Session) (t : ℕ) (g : Octets) (n : ℕ) → IsSpool host S → IsReader S x →
-    x.group ≡ Some g → x.current ≡ Some n → low S g ≤ n →
+Moves command refusal Beyond = (host : Octets) (S : Spool) (x : Session) (t : ℕ) (g : Octets) (n : ℕ) (a : NewsArticle) →
+    x.group ≡ Some g → x.current ≡ Some n → by_number S g n ≡ Some a →
     ((m : ℕ) × IsNearest S g Beyond n m × MovesTo x m (command_answer host S x t command))
     ⊎ (((m : ℕ) → Beyond n m → by_number S g m ≡ None) × Refuses x refusal (command_answer host S x t command))
 
@@ -194,3 +193,13 @@ NextMoves = Moves Next (codes "421 No next article") (λ n m. n < m)
 
 abbrev pub LastMoves : Type 0
 LastMoves = Moves Last (codes "422 No previous article") (λ n m. m < n)
+
+-- Where the current article was removed, its number is invalid, and each command on the current article is refused (6.1.3.2, 6.1.4.2,
+-- 6.2.1.2, 8.3.2).
+abbrev pub NeedsCurrent : Command → Type 0
+NeedsCurrent command = (host : Octets) (S : Spool) (x : Session) (t : ℕ) (g : Octets) (n : ℕ) → x.group ≡ Some g → x.current ≡ Some n →
+    by_number S g n ≡ None → Refuses x (codes "420 No current article") (command_answer host S x t command)
+
+abbrev pub RemovedIsNoCurrent : Type 0
+RemovedIsNoCurrent =
+    NeedsCurrent Next × NeedsCurrent Last × ((p : Part) → NeedsCurrent (Fetch p Current)) × NeedsCurrent (Over wanted.Current)

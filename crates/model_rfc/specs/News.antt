@@ -5,7 +5,7 @@ use Rattle.model.specs.Stream.{Octets, line}
 use Rattle.model.specs.Names.{wildmat_matches}
 use Rattle.model.specs.Calendar.{Date}
 use Rattle.model.specs.Article as article
-use Rattle.model.specs.Spool.{Spool, NewsArticle, NewsGroup, by_number, groups, high, low, status_octet}
+use Rattle.model.specs.Spool.{Spool, NewsArticle, NewsGroup, by_number, groups_now, high, low, status_octet}
 use Rattle.model.specs.declared.session.Answer.{Answer}
 use Rattle.model.specs.declared.session.Session.{Session}
 use Rattle.model_rfc.specs.Responses.{sent}
@@ -17,11 +17,11 @@ abbrev pub active_of : Spool → NewsGroup → Octets
 active_of S group =
     join_with_byte 32 (group.name ∷ map decimal (high S group.name ∷ low S group.name ∷ []) ++ (status_octet group.status ∷ []) ∷ [])
 
--- an answer lists the groups that were made then or later (7.3.2)
+-- an answer lists the groups that are here and were made then or later (7.3.2)
 pub record ListsGroups (S : Spool) (x : Session) (seconds : ℕ) (a : Answer) : Type 0 where
   pub stays : Stays x a
   pub reply_is : a.reply ≡ line (codes "231 New groups follow")
-      ++ sent (map (active_of S) (filter (λ group. nat_le seconds (seconds_at group.moment)) (groups S)))
+      ++ sent (map (active_of S) (filter (λ group. nat_le seconds (seconds_at group.moment)) (groups_now S)))
 
 -- this is the message-id of an article that came then or later, and is in a group whose name matches (7.4.2)
 pub record IsNews (S : Spool) (wildmat : Octets) (seconds : ℕ) (id : Octets) : Type 0 where

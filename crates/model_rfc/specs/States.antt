@@ -1,11 +1,11 @@
 -- What a session and a group are before and after a response (RFC 3977, sections 3.2, 6, 6.1.1, 6.1.3 and 6.1.4).
 use Rattle.std.specs.Prelude.{◌≡◌, ℕ, ◌+◌, ◌<◌, ◌≤◌, Bool, true, false, List, [], ◌∷◌, ◌++◌, length, map, Option, Some, None, IsTrue}
-use Rattle.std.specs.Prelude.{codes, decimal, filter, is_some, slice_get, ◌&&◌}
-use Rattle.std.specs.List.{join_with_byte, range_with_len}
+use Rattle.std.specs.Prelude.{codes, decimal, filter, is_some, nat_le, slice_get, ◌&&◌}
+use Rattle.std.specs.List.{join_with_byte, list_all, range_with_len}
 use Rattle.model.specs.Stream.{Octets, line}
 use Rattle.model.specs.Names.{is_host, is_in_range}
 use Rattle.model.specs.Calendar.{moment_limit}
-use Rattle.model.specs.Spool.{Spool, NewsArticle, by_number, contents, count, high, is_here, low}
+use Rattle.model.specs.Spool.{Spool, NewsArticle, by_number, contents, count, group_named, high, low}
 use Rattle.model.specs.Answer.{answer}
 use Rattle.model.specs.Lawful.{IsLawful}
 use Rattle.model.specs.declared.command.Range.{Range}
@@ -29,9 +29,10 @@ pub record IsSpool (host : Octets) (S : Spool) : Type 0 where
   pub lawful : IsLawful host S
   pub few : length S < greatest_number
 
--- the currently selected newsgroup is one that is there, and the current article number is one that it has had (6.1.1)
+-- the currently selected newsgroup is one that was made, and the current article number is one that it has had (6.1.1). A group that is
+-- retired while it is selected stays selected, and is empty
 pub record IsReader (S : Spool) (x : Session) : Type 0 where
-  pub group_here : (g : Octets) → x.group ≡ Some g → is_here S g ≡ true
+  pub group_made : (g : Octets) → x.group ≡ Some g → is_some (group_named S g) ≡ true
   pub number_had : (g : Octets) (n : ℕ) → x.group ≡ Some g → x.current ≡ Some n → (1 ≤ n) × (n ≤ high S g)
 
 -- the message is of the awaited kind, and only an article meets a full spool, or is too long with its serial
@@ -92,11 +93,12 @@ pub record Refuses (x : Session) (reply : Octets) (a : Answer) : Type 0 where
 
 -- ---- groups
 
--- GROUP's numbers for a group with so many articles (6.1.1.2). An empty group is shown as the RFC prefers
-pub record IsReported (actual low high count : ℕ) : Type 0 where
-  pub no_fewer : actual ≤ count
+-- GROUP's numbers for a group whose articles have these numbers (6.1.1.2). An empty group is shown as the RFC prefers
+pub record IsReported (numbers : List ℕ) (low high count : ℕ) : Type 0 where
+  pub within : list_all (λ n. nat_le low n && nat_le n high) numbers ≡ true
+  pub no_fewer : length numbers ≤ count
   pub no_more : count + low ≤ high + 1
-  pub empty : actual ≡ 0 → (count ≡ 0) × (high + 1 ≡ low)
+  pub empty : length numbers ≡ 0 → (count ≡ 0) × (high + 1 ≡ low)
 
 -- m is the nearest number to n with an article, in the direction of `Beyond`
 pub record IsNearest (S : Spool) (g : Octets) (Beyond : ℕ → ℕ → Type 0) (n m : ℕ) : Type 0 where
@@ -116,9 +118,13 @@ pub record IsSelected (S : Spool) (g comment block : Octets) (a : Answer) : Type
   pub selected : a.next.group ≡ Some g
   pub current : IsFirst S g a.next.current
 
--- the numbers from 1 to a group's high that are in a range and have an article (6.1.2.2)
+-- the numbers from 1 to a group's high that have an article; a group may have gaps (6.1.1)
+abbrev pub numbers_of : Spool → Octets → List ℕ
+numbers_of S g = filter (λ n. is_some (by_number S g n)) (range_with_len 1 (high S g))
+
+-- those that are in a range (6.1.2.2)
 abbrev pub numbers_listed : Spool → Octets → Range → List ℕ
-numbers_listed S g r = filter (λ n. is_in_range r n && is_some (by_number S g n)) (range_with_len 1 (high S g))
+numbers_listed S g r = filter (is_in_range r) (numbers_of S g)
 
 -- an answer that leaves all but the current article, which this is then; its number stands in the reply (6.1.3, 6.1.4)
 pub record MovesTo (x : Session) (m : ℕ) (a : Answer) : Type 0 where
