@@ -1,11 +1,11 @@
 -- What follows the parts of a record.
 use Rattle.std.proofs.Common.{◌≡◌, ℕ, ◌^◌, ◌<◌, List, [], ◌∷◌, ◌++◌, length, sym, ◌∙◌, ap, arith}
 use Rattle.std.specs.Prelude.{flat_map}
-use Rattle.std.proofs.lemmas.List.{append_assoc}
+use Rattle.std.proofs.lemmas.List.{append-nil, append_assoc}
 use Rattle.byteorder.specs.Endian.{little_bytes}
 use Rattle.model.specs.Stream.{Octets}
-use Rattle.model.specs.Spool.{NewsArticle, NewsExpiry, NewsGroup, filing_of, news_article, status_octet}
-use Rattle.model.specs.Records.{article_record, expiry_record, group_record}
+use Rattle.model.specs.Spool.{NewsArticle, NewsExpiry, NewsGroup, NewsRemoval, filing_of, news_article, status_octet}
+use Rattle.model.specs.Records.{amendment_record, article_record, expiry_record, group_record, removal_record}
 use Rattle.model.proofs.Strings.{append_split, counted_lists, counted_split, little_split, length-little}
 
 -- whatever the number, the rest is the same
@@ -96,3 +96,64 @@ article_joined serial moment text groups s m size names count serial_is moment_i
     ∙ ap (λ (n : ℕ). ((((little_bytes 8 serial ++ little_bytes 8 moment) ++ little_bytes 4 (length text)) ++ (n ∷ names))) ++ text) count_is
     ∙ ap (λ (o : Octets). ((((little_bytes 8 serial ++ little_bytes 8 moment) ++ little_bytes 4 (length text)) ++ (length groups ∷ o)))
     ++ text) names_are
+
+-- ---- a removal
+
+-- put together from its parts
+pub removal_joined : (r : NewsRemoval) (s a names : Octets) (count : ℕ) → s ≡ little_bytes 8 r.serial → a ≡ little_bytes 8 r.article
+    → count ≡ length r.groups → names ≡ named r.groups → ((s ++ a) ++ (count ∷ [])) ++ names ≡ removal_record r
+removal_joined r s a names count serial_is article_is count_is names_are =
+    append_assoc (s ++ a) (count ∷ []) names
+    ∙ ap (λ (o : Octets). (o ++ a) ++ (count ∷ names)) serial_is
+    ∙ ap (λ (o : Octets). (little_bytes 8 r.serial ++ o) ++ (count ∷ names)) article_is
+    ∙ ap (λ (n : ℕ). (little_bytes 8 r.serial ++ little_bytes 8 r.article) ++ (n ∷ names)) count_is
+    ∙ ap (λ (o : Octets). (little_bytes 8 r.serial ++ little_bytes 8 r.article) ++ (length r.groups ∷ o)) names_are
+
+-- what stands behind the numbers
+pub removal_behind : (octets rest : Octets) (serial article count : ℕ) (r : NewsRemoval)
+    → octets ≡ little_bytes 8 serial ++ (little_bytes 8 article ++ (count ∷ rest)) → octets ≡ removal_record r
+    → (count ≡ length r.groups) × (rest ≡ named r.groups)
+removal_behind octets rest serial article count r cut is =
+    let one : little_bytes 8 article ++ (count ∷ rest) ≡ little_bytes 8 r.article ++ (length r.groups ∷ named r.groups) =
+    behind 8 serial r.serial _ _ (sym cut ∙ is
+    ∙ append_assoc (little_bytes 8 r.serial) (little_bytes 8 r.article) (length r.groups ∷ named r.groups)) in
+    let two : count ∷ rest ≡ length r.groups ∷ named r.groups = behind 8 article r.article _ _ one in
+    (cc, cc)
+
+-- nothing stands behind the names
+pub removal_ends : (r : NewsRemoval) (names : List Octets) (rest more : Octets) → length names ≡ length r.groups
+    → rest ≡ named r.groups → rest ≡ named names ++ more → more ≡ []
+removal_ends r names rest more count is cut =
+    (counted_lists names r.groups more [] count (sym cut ∙ is ∙ sym (append-nil (named r.groups)))).1
+
+-- ---- an amendment
+
+-- put together from its parts
+pub amendment_joined : (g : NewsGroup) (s m name text : Octets) (octet size : ℕ) → s ≡ little_bytes 8 g.serial
+    → m ≡ little_bytes 8 g.moment → octet ≡ status_octet g.status → size ≡ length g.name → name ≡ g.name → text ≡ g.description
+    → ((((s ++ m) ++ (octet ∷ [])) ++ (size ∷ [])) ++ name) ++ text ≡ amendment_record g
+amendment_joined g s m name text octet size serial_is moment_is octet_is size_is name_is text_is =
+    append_assoc (((s ++ m) ++ (octet ∷ [])) ++ (size ∷ [])) name text
+    ∙ append_assoc ((s ++ m) ++ (octet ∷ [])) (size ∷ []) (name ++ text)
+    ∙ append_assoc (s ++ m) (octet ∷ []) (size ∷ (name ++ text))
+    ∙ ap (λ (o : Octets). (o ++ m) ++ (octet ∷ size ∷ (name ++ text))) serial_is
+    ∙ ap (λ (o : Octets). (little_bytes 8 g.serial ++ o) ++ (octet ∷ size ∷ (name ++ text))) moment_is
+    ∙ ap (λ (n : ℕ). (little_bytes 8 g.serial ++ little_bytes 8 g.moment) ++ (n ∷ size ∷ (name ++ text))) octet_is
+    ∙ ap (λ (n : ℕ). (little_bytes 8 g.serial ++ little_bytes 8 g.moment) ++ (status_octet g.status ∷ n ∷ (name ++ text))) size_is
+    ∙ ap (λ (o : Octets). (little_bytes 8 g.serial ++ little_bytes 8 g.moment)
+    ++ (status_octet g.status ∷ length g.name ∷ (o ++ text))) name_is
+    ∙ ap (λ (o : Octets). (little_bytes 8 g.serial ++ little_bytes 8 g.moment)
+    ++ (status_octet g.status ∷ length g.name ∷ (g.name ++ o))) text_is
+
+-- what stands behind the status
+pub amendment_behind : (octets stamped marked rest : Octets) (serial moment status : ℕ) (g : NewsGroup)
+    → octets ≡ little_bytes 8 serial ++ stamped → stamped ≡ little_bytes 8 moment ++ marked → marked ≡ status ∷ rest
+    → octets ≡ amendment_record g → rest ≡ length g.name ∷ g.name ++ g.description
+amendment_behind octets stamped marked rest serial moment status g first second third is =
+    let tail : Octets = status_octet g.status ∷ length g.name ∷ g.name ++ g.description in
+    let one : stamped ≡ little_bytes 8 g.moment ++ tail =
+    behind 8 serial g.serial stamped (little_bytes 8 g.moment ++ tail) (sym first ∙ is
+    ∙ append_assoc (little_bytes 8 g.serial) (little_bytes 8 g.moment) tail) in
+    let two : marked ≡ tail = behind 8 moment g.moment marked tail (sym second ∙ one) in
+    let three : status ∷ rest ≡ tail = sym third ∙ two in
+    cc

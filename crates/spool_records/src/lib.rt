@@ -2,13 +2,16 @@
 //! back exactly.
 #![tactic(auto)]
 
+mod amendments;
 mod cutting;
 mod expiries;
 mod names;
 mod records_of_articles;
 mod records_of_groups;
 mod records_of_numbers;
+mod removals;
 
+pub use amendments::{AmendmentRecord, amendment_record, read_amendment};
 pub use expiries::{ExpiryRecord, expiry_record, read_expiry};
 pub use names::{FileKind, SERIAL_DIGITS, file_name, kind_of, serial_digits, serial_of};
 pub use records_of_articles::{
@@ -16,3 +19,4 @@ pub use records_of_articles::{
 };
 pub use records_of_groups::{GroupRecord, group_record, read_group};
 pub use records_of_numbers::number_record;
+pub use removals::{RemovalRecord, read_removal, removal_record};

@@ -22,6 +22,10 @@ pub enum FileKind {
     Article,
     /// an expiry's change
     Expiry,
+    /// a removal's change
+    Removal,
+    /// an amendment's change
+    Amendment,
 }
 
 impl FileKind {
@@ -35,6 +39,8 @@ impl FileKind {
             FileKind::Overview => b"o.",
             FileKind::Article => b"a.",
             FileKind::Expiry => b"x.",
+            FileKind::Removal => b"r.",
+            FileKind::Amendment => b"m.",
         }
     }
 }
@@ -62,6 +68,8 @@ pub fn kind_of(name: &[u8]) -> Option<(FileKind, &[u8])>
         [b'o', b'.', rest @ ..] => Some((FileKind::Overview, rest)),
         [b'a', b'.', rest @ ..] => Some((FileKind::Article, rest)),
         [b'x', b'.', rest @ ..] => Some((FileKind::Expiry, rest)),
+        [b'r', b'.', rest @ ..] => Some((FileKind::Removal, rest)),
+        [b'm', b'.', rest @ ..] => Some((FileKind::Amendment, rest)),
         _ => None,
     }
 }

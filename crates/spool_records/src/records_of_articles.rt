@@ -69,7 +69,7 @@ fn push_head(octets: &mut Vec<u8>, head: ArticleHead) -> Result<(), AllocError>
 }
 
 /// Appends names, each after its length.
-fn push_names(octets: &mut Vec<u8>, names: &[Text]) -> Result<(), AllocError>
+pub(crate) fn push_names(octets: &mut Vec<u8>, names: &[Text]) -> Result<(), AllocError>
     requires { All (λ g. length g < 256) names.now }
     ensures { OnOk result (octets.new.items ≡ octets.old.items ++ flat_map (λ g. length g ∷ g) names.now) }
 {
@@ -142,7 +142,7 @@ fn article_head(octets: &[u8]) -> Option<(ArticleHead, &[u8])>
 }
 
 /// This many names at the start, each after its length, and the rest.
-fn cut_names(
+pub(crate) fn cut_names(
     alloc: Global,
     count: u8,
     octets: &[u8],
