@@ -4,7 +4,7 @@ use Rattle.std.specs.Prelude.{filter, filter_map, find, slice_get, Option, Some,
 use Rattle.model.specs.Stream.{Octets}
 use Rattle.model.specs.Spool.{Spool, NewsArticle, article_filed, articles, by_id, by_number, entries, entries_from, filed_in, gone_at}
 use Rattle.model.specs.Spool.{empty_filing, is_gone, news_article, numbered, unless_gone}
-use Rattle.model.specs.declared.change.Change.TheVariants.{Group, Article, Expire}
+use Rattle.model.specs.declared.change.Change.TheVariants.{Group, Article, Expire, Remove, Amend}
 use Rattle.model.specs.Reads.{id_reads}
 use Rattle.model.proofs.Found.{has_number}
 use Rattle.session_lookups.specs.Held.{article_of, article_with, gone_with, text_of}
@@ -24,6 +24,8 @@ found_from : (p : NewsArticle → Bool) (n : ℕ) (S : Spool) (a : NewsArticle) 
 found_from p n [] a is = absurd (cc)
 found_from p n (Group g ∷ cs) a is = one_on n cs _ a (found_from p (suc n) cs a is)
 found_from p n (Expire e ∷ cs) a is = one_on n cs _ a (found_from p (suc n) cs a is)
+found_from p n (Remove r ∷ cs) a is = one_on n cs _ a (found_from p (suc n) cs a is)
+found_from p n (Amend g ∷ cs) a is = one_on n cs _ a (found_from p (suc n) cs a is)
 found_from p n (Article f ∷ cs) a is = by_pass (p filed) is (found_from p (suc n) cs a) where
   filed : NewsArticle
   filed = news_article n f
@@ -40,6 +42,8 @@ filtered_from : (p : NewsArticle → Bool) (n : ℕ) (S : Spool) (i : ℕ) (a : 
 filtered_from p n [] i a is = absurd (cc)
 filtered_from p n (Group g ∷ cs) i a is = one_on n cs _ a (filtered_from p (suc n) cs i a is)
 filtered_from p n (Expire e ∷ cs) i a is = one_on n cs _ a (filtered_from p (suc n) cs i a is)
+filtered_from p n (Remove r ∷ cs) i a is = one_on n cs _ a (filtered_from p (suc n) cs i a is)
+filtered_from p n (Amend g ∷ cs) i a is = one_on n cs _ a (filtered_from p (suc n) cs i a is)
 filtered_from p n (Article f ∷ cs) i a is = by_pass (p filed) i is (λ j. filtered_from p (suc n) cs j a) where
   filed : NewsArticle
   filed = news_article n f
@@ -70,7 +74,7 @@ numbered_some filed n a is = by_zero (Rattle.std.specs.Prelude.nat_eq n 0) is wh
 
 pub number_stands : (S : Spool) (g : Octets) (n : ℕ) (a : NewsArticle) → by_number S g n ≡ Some a → article_with S a.serial ≡ Some a
 unfolding filed_in articles entries
-number_stands S g n a is = stands S a (filtered_from _ 1 S (n - 1) a (numbered_some (filed_in S g) n a (has_number S g n a is)))
+number_stands S g n a is = stands S a (filtered_from _ 1 S (n - 1) a (numbered_some (filed_in S g) n a (has_number S g n a is).0))
 
 -- what is found is the article of its serial
 pub record IsFound (S : Spool) (o : Option NewsArticle) (serial : ℕ) : Type 0 where
@@ -99,14 +103,14 @@ not_found (Some a) is = absurd (cc)
 
 -- ---- gone or here
 
-pub gone_located : (S : Spool) (o : Option NewsArticle) (serial expired : ℕ) → o ≡ Some (article_of S serial)
-    → article_with S serial ≡ Some (article_of S serial) → Some expired ≡ gone_with S serial
-    → (option_and_then (unless_gone S) o ≡ None) × (expired ≡ id_reads S o)
-gone_located S o serial expired is there gone =
+pub gone_located : (S : Spool) (o : Option NewsArticle) (serial removed : ℕ) → o ≡ Some (article_of S serial)
+    → article_with S serial ≡ Some (article_of S serial) → Some removed ≡ gone_with S serial
+    → (option_and_then (unless_gone S) o ≡ None) × (removed ≡ id_reads S o)
+gone_located S o serial removed is there gone =
     rw is (by_gone (is_gone S (article_of S serial)) (gone
     ∙ ap (option_and_then (λ a. cond (is_gone S a) (Some (gone_at S a)) None)) there)) where
-      by_gone : (b : Bool) → Some expired ≡ cond b (Some (gone_at S (article_of S serial))) None
-          → (cond b None (Some (article_of S serial)) ≡ None) × (expired ≡ cond b (gone_at S (article_of S serial)) serial)
+      by_gone : (b : Bool) → Some removed ≡ cond b (Some (gone_at S (article_of S serial))) None
+          → (cond b None (Some (article_of S serial)) ≡ None) × (removed ≡ cond b (gone_at S (article_of S serial)) serial)
       by_gone true same = (refl, cc)
       by_gone false same = absurd (cc)
 

@@ -3,12 +3,13 @@
 #![tactic(auto)]
 
 ghost use Rattle.std.specs.Prelude.{◌≡◌, ◌+◌, ◌<◌, ◌≤◌, ◌^◌, ◌++◌, IsTrue, IsSome, OnOk, Some, length, option_map};
-ghost use Rattle.std.specs.Prelude.{slice_get};
+ghost use Rattle.std.specs.Prelude.{find, nat_lt, reverse, slice_get};
 ghost use Rattle.model.specs.Stream.{Octets, dot_line, line};
 ghost use Rattle.model.specs.Names.{is_host, is_wildmat};
 ghost use Rattle.model.specs.Article.{id, overview_line};
 ghost use Rattle.model.specs.Lawful.{IsLawful};
-ghost use Rattle.model.specs.Spool.{Spool, articles, by_id, by_number, expired_at, group_named, groups, high, low};
+ghost use Rattle.model.specs.Reads.{absent_reads};
+ghost use Rattle.model.specs.Spool.{Spool, articles, by_id, by_number, group_named, groups, high, low, shown_in};
 ghost use Rattle.session_lookups.specs.Held.{all_known, article_with, gone_with, known, overviews_between, sent_part, shown, text_of};
 ghost use Rattle.session_lookups.specs.News.{new_lines};
 
@@ -18,23 +19,24 @@ mod moments;
 
 pub use change_spool::{ChangeSpool, FilingError};
 pub use command_look_ups::{
-    Counts, Found, Located, absent_reads, counts_of, find_group, find_id, find_number, locate_id,
-    locate_number,
+    Counts, Found, Located, counts_of, find_group, find_id, find_number, locate_id, locate_number,
 };
 use kernel_outbox::{Lines, Source};
 use model::{Part, Status};
 pub use moments::is_since;
 use std::alloc::AllocError;
 
-/// A group that exists.
+/// A group that was made, as it is now. One that was retired has that status, and is not here.
 #[derive(Clone, Copy)]
 pub struct GroupView<'s> {
     pub serial: u64,
     pub name: &'s [u8],
     pub status: Status,
     pub description: &'s [u8],
-    /// when it was made, in seconds since 1970
+    /// when it was made or last amended, in seconds since 1970
     pub moment: u64,
+    /// the number of its articles
+    pub count: u64,
     /// the lowest and the highest number at present
     pub low: u64,
     pub high: u64,
@@ -60,11 +62,11 @@ pub trait LookUps: Source {
     fn len(&self) -> u64
         ensures { result ≡ length (changes self.now) };
 
-    /// The group with this name.
+    /// The group that was made with this name.
     fn group(&self, name: &[u8]) -> Option<GroupView<'_>>
         ensures { option_map shown result ≡ option_map (known (changes self.now)) (group_named (changes self.now) name.now) };
 
-    /// The number of groups.
+    /// The number of groups that were made.
     fn group_count(&self) -> usize
         ensures { result ≡ length (groups (changes self.now)) };
 
@@ -81,14 +83,22 @@ pub trait LookUps: Source {
     fn by_id(&self, wanted: &[u8]) -> Option<u64>
         ensures { result ≡ option_map (λ a. a.serial) (by_id (changes self.now) wanted.now) };
 
-    /// The serial of the expiry that removed the article from its last group. `None` if it is in a group, or if no
+    /// The number of the next article in the group after this number.
+    fn next_number(&self, group: &[u8], number: u64) -> Option<u64>
+        ensures { result ≡ option_map (λ p. p.0) (find (λ p. nat_lt number p.0) (shown_in (changes self.now) group.now)) };
+
+    /// The number of the last article in the group before this number.
+    fn previous_number(&self, group: &[u8], number: u64) -> Option<u64>
+        ensures { result ≡ option_map (λ p. p.0) (find (λ p. nat_lt p.0 number) (reverse (shown_in (changes self.now) group.now))) };
+
+    /// The serial of the change that removed the article from its last group. `None` if it is in a group, or if no
     /// article has this serial.
     fn gone_at(&self, serial: u64) -> Option<u64>
         ensures { result ≡ gone_with (changes self.now) serial };
 
-    /// The serial of the expiry that removed this number from the group, or 0 if none did.
-    fn expired_at(&self, group: &[u8], number: u64) -> u64
-        ensures { result ≡ expired_at (changes self.now) group.now number };
+    /// The serial of the change that removed from the group what was filed under this number, or 0 if none did.
+    fn out_at(&self, group: &[u8], number: u64) -> u64
+        ensures { result ≡ absent_reads (changes self.now) group.now number };
 
     /// The moment of the article with this serial, if there is one.
     fn moment(&self, serial: u64) -> Option<u64>

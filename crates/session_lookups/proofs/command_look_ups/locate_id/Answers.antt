@@ -11,11 +11,11 @@ returns-in_default-clause-is g c = ap (option_and_then (unless_gone (g.L.LookUps
 pub returns-in-Some-gone_at-clause-is : goal.returns-in-Some-gone_at-clause-is
 unfolding here_by_id
 returns-in-Some-gone_at-clause-is g c =
-    (gone_located _ _ c.in-Some.serial c.in-Some-gone_at.expired c.in-Some.ensures.is c.in-Some.ensures.there c.in-Some-gone_at.ensures).0
+    (gone_located _ _ c.in-Some.serial c.in-Some-gone_at.removed c.in-Some.ensures.is c.in-Some.ensures.there c.in-Some-gone_at.ensures).0
 
 pub returns-in-Some-gone_at-clause-reads : goal.returns-in-Some-gone_at-clause-reads
 returns-in-Some-gone_at-clause-reads g c =
-    (gone_located _ _ c.in-Some.serial c.in-Some-gone_at.expired c.in-Some.ensures.is c.in-Some.ensures.there c.in-Some-gone_at.ensures).1
+    (gone_located _ _ c.in-Some.serial c.in-Some-gone_at.removed c.in-Some.ensures.is c.in-Some.ensures.there c.in-Some-gone_at.ensures).1
 
 pub returns-in-None-clause-is : goal.returns-in-None-clause-is
 unfolding here_by_id
